@@ -56,7 +56,7 @@ if [ $# -eq 0 ]; then
 fi
 
 # part_of TARGET: the package that a file belongs to, by its name. What both packages need is the client's, since the server's
-# wants it.
+# wants it, and so is the page of ups.conf, which says how all files are read.
 part_of() {
     case $1 in
         share/mulgefa/rooms/* | share/mulgefa/schedules/*)
@@ -65,7 +65,7 @@ part_of() {
             ;;
     esac
     case ${1##*/} in
-        upsd | upsd.* | *-upsd.service | dummy-ups | dummy-ups.* | *-dummy-ups@.service | ups.conf* | su700.dev | *nut-drivers*) echo server ;;
+        upsd | upsd.* | *-upsd.service | dummy-ups | dummy-ups.* | *-dummy-ups@.service | ups.conf | su700.dev | *nut-drivers* | until-ready) echo server ;;
         *) echo client ;;
     esac
 }
@@ -127,6 +127,7 @@ done
 put 755 tools/nutroom bin/nutroom
 put 644 man/nutroom.8 share/man/man8/nutroom.8
 put 644 packaging/completions.bash share/bash-completion/completions/nutroom
+put 755 packaging/until-ready lib/mulgefa/until-ready
 put 755 packaging/mulgefa-check sbin/mulgefa-check
 put 644 man/mulgefa-check.8 share/man/man8/mulgefa-check.8
 for page in man/*.5; do

@@ -92,7 +92,8 @@ filled() {
     sed -e "s|@PACKAGE@|$package|g" -e "s|@VERSION@|$version|g" -e "s|@ARCHITECTURE@|$architecture|g" \
         -e "s|@MAINTAINER@|$maintainer|g" -e "s|@LIBRARIES@|${libraries:+, $libraries}|g" -e "s|@SIZE@|${size-}|g" \
         -e "s|@UNIT@|$UNIT|g" -e "s|@UNITS@|$UNITS|g" -e "s|@PROGRAM@|$PROGRAM|g" -e "s|@FILES@|$FILES|g" \
-        -e "s|@MODES@|$MODES|g" -e "s|@NUTS@|$nuts|g" -e "s|@DATE@|$(date -u -R -d "@$SOURCE_DATE_EPOCH")|g" "packaging/deb/$1" > "$2"
+        -e "s|@MODES@|$MODES|g" -e "s|@WITHOUT@|$WITHOUT|g" -e "s|@NUTS@|$nuts|g" \
+        -e "s|@DATE@|$(date -u -R -d "@$SOURCE_DATE_EPOCH")|g" "packaging/deb/$1" > "$2"
 }
 
 # make_deb PART PROGRAM..
@@ -128,6 +129,7 @@ make_deb() {
         filled "$script" "$tree/DEBIAN/$script"
         chmod 755 "$tree/DEBIAN/$script"
     done
+    echo "interest-noawait $package" > "$tree/DEBIAN/triggers"
     (cd "$tree" && find . -path ./DEBIAN -prune -o -type f -printf '%P\n' | sort | xargs -d '\n' md5sum) > "$work/md5sums"
     install -m 644 "$work/md5sums" "$tree/DEBIAN/md5sums"
     chmod -R u=rwX,go=rX "$tree"
@@ -143,10 +145,10 @@ make_tar() {
     for program in $server $client; do
         install -m 755 "$work/programs/$program" "$tree/bin/$program"
     done
-    for file in install.sh configure.sh completions.bash mulgefa-check mulgefa.sysusers mulgefa-upsd.service mulgefa-upsmon.service mulgefa-dummy-ups@.service; do
+    for file in install.sh configure.sh completions.bash mulgefa-check until-ready mulgefa.sysusers mulgefa-upsd.service mulgefa-upsmon.service mulgefa-dummy-ups@.service; do
         install -m 644 "packaging/$file" "$tree/packaging/$file"
     done
-    chmod 755 "$tree/packaging/install.sh" "$tree/packaging/mulgefa-check"
+    chmod 755 "$tree/packaging/install.sh" "$tree/packaging/mulgefa-check" "$tree/packaging/until-ready"
     cp -R man examples README.md "$tree/"
     install -D -m 755 tools/nutroom "$tree/tools/nutroom"
     install -d "$tree/docs"

@@ -27,7 +27,7 @@ TOLD = [
     "upsd.users:%d: UnknownWord: actions = set",
     "upsd.users:%d: UnknownWord: upsmon master",
     "upsmon.conf:%d: UnknownDirective: POLLFREQALERT 5",
-    "upsmon.conf:%d: UnknownWord: MONITOR su700@localhost 1 monuser .. master",
+    "upsmon.conf:%d: UnknownWord: MONITOR su700@localhost 1 .. master",
     "upsmon.conf:%d: UnknownDirective: RUN_AS_USER root",
 ]
 
@@ -77,11 +77,16 @@ class Tests:
         try:
             self.nut_serves(machine)
             before = {name: machine.read(f"/etc/nut/{name}") for name in os.listdir(machine.path("/etc/nut"))}
+            enabled = self.enabled_units_of_nut(machine)
             nut = machine.do("id nut")
             self.exchange(machine)
             self.is_served_here(machine)
+            machine.restart()
+            self.is_served_here(machine)
+            self.nothing_was_lost_at_the_boot(machine)
             self.reloads(machine)
-            self.starts_again_after_hangup(machine)
+            self.refuses_to_reload_faults(machine)
+            self.goes_on_after_hangup(machine)
             self.client_sees_an_upgrade(machine)
             self.halts(machine)
             self.bring_back(machine)
@@ -90,10 +95,45 @@ class Tests:
                 if name != "su700.dev":
                     expect(found == text, True, f"what {name} was is kept")
             expect(machine.do("id nut"), nut, "the user nut")
+            expect(self.enabled_units_of_nut(machine), enabled, "what is enabled of NUT after the way back")
+            machine.restart()
+            self.nut_serves(machine)
             machine.do("dpkg --purge mulgefa-server mulgefa-client")
+            expect(self.enabled_units_of_nut(machine), enabled, "what is enabled of NUT after a purge")
+            machine.restart()
             self.nut_serves(machine)
             left = machine.do("find / -xdev -name '*mulgefa*' -not -path '/root/*' -not -path '/proc/*' -not -path '/sys/*'").split()
             expect([it for it in left if not it.startswith(("/var/log/", "/var/cache/", "/run/systemd/", "/var/lib/dpkg/info/"))], [], "what a purge leaves")
+        finally:
+            machine.stop()
+
+    def test_faults_that_nobody_has_changed(self):
+        """NUT's files still have to be changed when the packages replace it: apt's last lines and the units say so, and the services
+        run once that is done. An upgrade ends no service for a fault that came later."""
+        machine = Booted(self.nut_installed("unchanged"))
+        try:
+            self.nut_serves(machine)
+            said = machine.do("apt-get install ./mulgefa-server_*.deb ./mulgefa-client_*.deb").splitlines()
+            told = [i for i, line in enumerate(said) if "can't run until this is changed" in line]
+            expect(len(told), 2, f"services that can't run: {said}")
+            for line in ("/etc/nut/upsmon.conf", "until it does, nothing stops this machine in a power failure", "until it does, nobody gets the status of its UPSes"):
+                ensure(line in "\n".join(said[told[0] - 20 :]), f"{line} isn't among the last lines: {said}")
+            ensure(not [line for line in said[told[0] :] if line.startswith(("Setting up", "Unpacking"))], f"what comes later: {said}")
+            for unit, line in (("mulgefa-upsd", "upsd: ups.conf:"), ("mulgefa-upsmon", "upsmon: upsmon.conf:")):
+                ensure("status=1/FAILURE" in machine.run(f"systemctl status {unit}")[1], f"{unit} fails visibly")
+                ensure(line in machine.do(f"journalctl --unit {unit} --lines 20"), f"the journal of {unit} says why")
+            machine.do("systemctl enable --now mulgefa-dummy-ups@su700")
+            machine.do("mulgefa-check -i")
+            machine.wait_for("upsc su700 ups.status 2> /dev/null", "OL")
+            machine.wait_for("upsc -c su700 2> /dev/null", "127.0.0.1")
+            for name in ("ups.conf", "upsmon.conf"):
+                machine.write(f"/etc/nut/{name}", "faulty\n" + machine.read(f"/etc/nut/{name}"))
+            units = "systemctl show -p MainPID mulgefa-upsd mulgefa-upsmon"
+            before = machine.do(units)
+            said = machine.do("cd /root/later && apt-get install ./mulgefa-server_*.deb ./mulgefa-client_*.deb")
+            expect(machine.do(units), before, "the processes")
+            for line in ("/etc/nut/ups.conf:1: OutsideSection: faulty ..", "mulgefa-upsmon.service still runs its earlier program: 'systemctl restart mulgefa-upsmon.service' changes that"):
+                ensure(line in said.splitlines(), f"{line} isn't told: {said}")
         finally:
             machine.stop()
 
@@ -145,6 +185,10 @@ class Tests:
             expect(machine.do(f"systemctl is-active {unit} || true"), "active\n", unit)
         ensure("2.8.0" in self.version(machine), "NUT's own server answers")
 
+    def enabled_units_of_nut(self, machine):
+        """Returns what is enabled of NUT's units, so that it starts at the next boot."""
+        return {unit: machine.run(f"systemctl is-enabled {unit}")[1] for unit in ("nut-server", "nut-monitor", "nut-driver@su700", "nut-driver-enumerator", "nut.target")}
+
     def version(self, machine):
         """Returns the version that the server at the port reports."""
         return machine.do("python3 -c 'import socket; s = socket.create_connection((\"127.0.0.1\", 3493)); s.sendall(b\"VER\\n\"); print(s.recv(200).decode())'")
@@ -155,7 +199,7 @@ class Tests:
         expect(status, 1, f"mulgefa-check: {said}")
         for wanted in TOLD:
             name, text = wanted.split(":%d: ")
-            directive = text.split(": ")[1].replace(" .. ", " m1 ")
+            directive = text.split(": ")[1].replace(" .. ", " monuser m1 ")
             number = [i + 1 for i, it in enumerate(machine.read(f"/etc/nut/{name}").splitlines()) if it.strip() == directive]
             expect(len(number), 1, f"lines that are {directive}")
             ensure(f"/etc/nut/{wanted % number[0]}\n" in said, f"{wanted % number[0]} isn't told: {said}")
@@ -185,25 +229,45 @@ class Tests:
         said = machine.do("""python3 -c 'import PyNUT; print(PyNUT.PyNUTClient().GetUPSVars("su700")[b"ups.model"])'""")
         expect(said, "b'Peer'\n", "NUT's module for Python")
 
+    def nothing_was_lost_at_the_boot(self, machine):
+        """Each program has found the one that it asks at once."""
+        said = machine.do("journalctl --boot --output cat --unit mulgefa-upsd --unit mulgefa-upsmon")
+        for words in ("no driver yet", "no server yet", "lost", "refused"):
+            ensure(words not in said, f"{words!r} at a boot: {said}")
+
     def reloads(self, machine):
-        """upsd reads its files again, though its user can't write to the folder, and upsmon looks for the same file."""
+        """upsd reads its files again, though its user can't write to their folder, and by the monitor's reload too."""
         before = machine.do("systemctl show -p MainPID mulgefa-upsd")
         text = machine.read("/etc/nut/ups.conf")
         for added, names in (("[spare]\n", "su700\nspare"), ("", "su700")) * 3:
             machine.write("/etc/nut/ups.conf", text + added)
-            machine.do("systemctl reload mulgefa-upsd")
+            machine.do("systemctl reload " + ("mulgefa-upsd" if added else "mulgefa-upsmon"))
             machine.wait_for("upsc -l 2> /dev/null", names)
+            machine.wait_for("ls /run/nut/reload /etc/nut/reload 2> /dev/null", "")
         expect(machine.do("systemctl show -p MainPID mulgefa-upsd"), before, "the process of upsd")
 
-    def starts_again_after_hangup(self, machine):
-        """To systemd SIGHUP is an ordinary end; scripts send it to have NUT's programs read their files."""
-        units = ("mulgefa-upsd", "mulgefa-upsmon", "mulgefa-dummy-ups@su700")
-        before = {unit: int(machine.do(f"systemctl show -p NRestarts --value {unit}")) for unit in units}
-        machine.do(f"systemctl kill -s HUP {' '.join(units)}")
-        for unit, count in before.items():
-            machine.wait_for(f"systemctl show -p NRestarts --value {unit}", str(count + 1))
-        machine.wait_for("upsc su700 ups.status 2> /dev/null", "OL")
-        machine.wait_for("upsc -c su700 2> /dev/null", "127.0.0.1")
+    def refuses_to_reload_faults(self, machine):
+        for unit, name, line in (("mulgefa-upsd", "upsd.users", "upsd: upsd.users:{}: UnknownDirective"), ("mulgefa-upsmon", "upsmon.conf", "upsmon: upsmon.conf:{}: UnknownDirective")):
+            machine.wait_for("ls /run/nut/reload /etc/nut/reload 2> /dev/null", "")
+            text = machine.read(f"/etc/nut/{name}")
+            machine.write(f"/etc/nut/{name}", text + "faulty\n")
+            status, said = machine.run(f"systemctl reload {unit}")
+            ensure(status != 0, f"a reload of {name} with a fault: {said}")
+            told = line.format(len(text.splitlines()) + 1)
+            ensure(told in machine.do(f"systemctl status {unit}"), f"the status of {unit} doesn't show {told}")
+            expect(machine.run("ls /run/nut/reload /etc/nut/reload 2> /dev/null")[1], "", "a reload is asked for")
+            machine.write(f"/etc/nut/{name}", text)
+            machine.do(f"systemctl reload {unit}")
+        machine.wait_for("upsc -c su700", "127.0.0.1")
+
+    def goes_on_after_hangup(self, machine):
+        """Scripts send SIGHUP to have NUT's programs read their files. It reaches all processes of a unit."""
+        # upsc runs now and then
+        processes = "systemctl status mulgefa-upsd mulgefa-upsmon mulgefa-dummy-ups@su700 | grep -E '─[0-9]+ ' | grep -v upsc"
+        before = machine.do(processes)
+        machine.do("systemctl kill -s HUP mulgefa-upsd mulgefa-upsmon mulgefa-dummy-ups@su700 && sleep 1")
+        expect(machine.do(processes), before, "the processes")
+        machine.wait_for("upsc -c su700", "127.0.0.1")
 
     def client_sees_an_upgrade(self, machine):
         before = machine.do("systemctl show -p MainPID mulgefa-upsd mulgefa-upsmon mulgefa-dummy-ups@su700")
@@ -220,11 +284,22 @@ class Tests:
         machine.wait_for("ls /root/halted 2> /dev/null", "/root/halted", 60)
         expect(machine.do("cat /run/killpower"), "upsmon-shutdown-file\n", "POWERDOWNFLAG")
         machine.do("upsmon -K")
+        self.upgrade_keeps_a_forced_shutdown(machine)
         machine.write("/etc/nut/su700.dev", DEVICE.format("OL"))
         # FSD is kept by the server, and ends with it
         machine.do("systemctl stop mulgefa-upsmon && systemctl restart mulgefa-dummy-ups@su700 mulgefa-upsd")
         machine.do("rm /root/halted && systemctl start mulgefa-upsmon")
         machine.wait_for("upsc su700 ups.status 2> /dev/null", "OL")
+
+    def upgrade_keeps_a_forced_shutdown(self, machine):
+        """The server that knows of it runs on, and no monitor is started, which would halt the machine."""
+        units = "systemctl show -p MainPID mulgefa-upsd mulgefa-upsmon mulgefa-dummy-ups@su700"
+        before = machine.do(units)
+        said = machine.do("apt-get install --reinstall /root/later/mulgefa-server_*.deb /root/later/mulgefa-client_*.deb")
+        expect(machine.do(units), before, "the processes")
+        expect(machine.do("upsc su700 ups.status"), "FSD OB LB\n", "the status")
+        told = "mulgefa-upsd.service still runs its earlier program: 'systemctl restart mulgefa-upsd.service' changes that"
+        ensure(told in said.splitlines(), f"what apt tells: {said}")
 
     def bring_back(self, machine):
         for command in shown_commands(1):

@@ -7,12 +7,14 @@ A file is used in place of a program that isn't given. The last line is 'N passe
 
 import os
 import re
+import shlex
 import shutil
 import signal
 import stat
 import subprocess
 import sys
 import tempfile
+import time
 
 from tests.support.harness import apart, ensure, expect, Failed, Missing, needed, ROOT, run_tests
 
@@ -54,6 +56,49 @@ esac
 esac
 """,
 }
+
+# Calls of the script that units wait by, in a room whose driver starts late.
+UNTIL_READY = """
+ip link set lo up || exit 77
+until_ready=$prefix/lib/mulgefa/until-ready
+socket=$PWD/dummy-ups-su700
+trap 'kill $(jobs -p)' EXIT
+late_driver() {
+    sleep 1
+    exec "$prefix/lib/mulgefa/dummy-ups" su700.dev "$socket"
+}
+end() {
+    kill $1
+    wait $1
+}
+
+late_driver &
+driver=$!
+"$until_ready" $driver driver "$socket"
+echo "the socket of a late driver: $(test -S "$socket" && echo there)"
+end $driver
+rm "$socket"
+
+"$prefix/sbin/upsd" --conf . -s . -q &
+server=$!
+late_driver &
+"$until_ready" $server server
+echo "the status of a late driver: $("$prefix/bin/upsc" su700 ups.status)"
+end $server
+
+echo 'LISTEN 127.0.0.1 24931' > upsd.conf
+"$prefix/sbin/upsd" --conf . -s . -q &
+"$until_ready" $! server
+echo "a server elsewhere: $?"
+
+true &
+ended=$!
+wait $ended
+"$until_ready" $ended driver none
+echo "a driver that ended: $?"
+"$until_ready" $ended server
+echo "a server that ended: $?"
+"""
 
 # What is offered after a line.
 COMPLETIONS = {
@@ -114,7 +159,8 @@ def folder_of(program):
 
 def wanted_files():
     """Returns the files that are installed, with their modes."""
-    files = {"lib/sysusers.d/mulgefa.conf": 0o644, "sbin/mulgefa-check": 0o755, "bin/nutroom": 0o755, "share/bash-completion/completions/nutroom": 0o644}
+    files = {"lib/sysusers.d/mulgefa.conf": 0o644, "share/bash-completion/completions/nutroom": 0o644}
+    files.update({script: 0o755 for script in ("sbin/mulgefa-check", "bin/nutroom", "lib/mulgefa/until-ready")})
     files.update({f"share/mulgefa/{page}": 0o644 for page in ("from-nut.md", "room.md", "room.svg")})
     files.update({f"share/mulgefa/rooms/five/{file}": 0o644 for file in ROOM_FILES})
     for program in programs():
@@ -440,6 +486,35 @@ class Tests:
         note = "note: a MONITOR line has SU700, and ups.conf has su700: the case of letters counts; see from-nut(7)\n"
         expect(self.check(folder), (0, note), "what it notes")
 
+    def test_check_tells_a_command_that_others_may_write(self):
+        """NOTIFYCMD runs as root, so whoever can write to it, or replace it, is root."""
+        if os.geteuid() != 0:
+            raise Missing("only root has files that nobody else may write to")
+        scripts = os.path.join(self.folder, "scripts")
+        os.makedirs(os.path.join(scripts, "kept"))
+        os.makedirs(os.path.join(scripts, "shared"))
+        for name in ("kept/notify", "kept/writable", "kept/theirs", "shared/notify"):
+            with open(os.path.join(scripts, name), "w") as file:
+                file.write("#!/bin/sh\n")
+        os.symlink("../shared/notify", os.path.join(scripts, "kept/link"))
+        os.chmod(os.path.join(scripts, "shared"), 0o777)
+        os.chmod(os.path.join(scripts, "kept/writable"), 0o722)
+        os.chown(os.path.join(scripts, "kept/theirs"), 12345, 0)
+        kept = f"{scripts}/kept"
+        for number, (command, told) in enumerate((
+            ('"logger -t upsmon"', ()),
+            (f"{kept}/notify", ()),
+            (f'"{kept}/notify -x" # {kept}/writable', ()),
+            (f"{kept}/writable", (f"{kept}/writable", f"{kept}/writable")),
+            (f'"/bin/sh {kept}/theirs"', (f"{kept}/theirs", f"{kept}/theirs")),
+            (f"{kept}/link", (f"{kept}/link", f"{scripts}/shared")),
+            (f"{scripts}/shared/notify", (f"{scripts}/shared/notify", f"{scripts}/shared")),
+            (f"{scripts}/shared/none", (f"{scripts}/shared/none", f"{scripts}/shared")),
+        )):
+            folder = self.nuts_files(f"command{number}", upsmon_conf=f"MINSUPPLIES 0\nNOTIFYCMD {command}\n")
+            note = "note: NOTIFYCMD runs {} as root here, and others than root may write to {}; see from-nut(7)\n".format(*told) if told else ""
+            expect(self.check("--upsmon", folder), (0, note), f"what it notes of {command}")
+
     def test_check_shows_no_passwords(self):
         """Neither those of lines that are taken nor those of others."""
         users = "[mon]\n Password = secret1\n pasword = secret2\n password secret3\n upsmon master\n"
@@ -492,6 +567,42 @@ class Tests:
         folder = self.nuts_files("colons", upsd_conf="LISTEN 2001:470::1 99999\n")
         told = f"{folder}/upsd.conf:1: BadNumber: LISTEN 2001:470::1 99999\n    upsd.conf(5) says what may stand there\n"
         expect(self.check(folder), (1, told), "an address that has colons itself")
+
+    def test_check_proposes_addresses(self):
+        """All addresses, and IPv6 in brackets, as upsd takes them; upsmon takes no address of IPv6."""
+        lines = 'LISTEN *\nLISTEN "*" 24938 # all\nLISTEN *:24939\nLISTEN [::1]\nLISTEN [2001:470::1]:24940\nLISTEN "[2001:470::1]" 24941\n'
+        written = 'LISTEN ::\nLISTEN "::" 24938 # all\nLISTEN :: 24939\nLISTEN ::1\nLISTEN 2001:470::1 24940\nLISTEN "2001:470::1" 24941\n'
+        folder = self.nuts_files("addresses", upsd_conf=lines)
+        to = os.path.join(self.folder, "addresses-changed")
+        status, said = self.check("--upsd", "-w", to, folder)
+        with open(os.path.join(to, "upsd.conf")) as file:
+            expect((status, file.read()), (0, written), f"what it wrote: {said}")
+        ensure("BadName: LISTEN *\n    change it to: LISTEN ::\n" in said, f"what it tells: {said}")
+        folder = self.nuts_files("bracketed", upsmon_conf="MINSUPPLIES 0\nMONITOR su700@[::1]:3493 1 mon secret primary\n")
+        told = f"{folder}/upsmon.conf:2: BadName: MONITOR su700@[::1]:3493 1 .. primary\n"
+        told += "    a host is a name or an IPv4 address: give this one a name in /etc/hosts, and write that here\n"
+        expect(self.check("--upsmon", folder), (1, told), "what it tells of an address in a MONITOR line")
+
+    def test_check_changes_comments_alone(self):
+        """Bytes past ASCII that nobody reads go; others are left to people."""
+        folder = self.nuts_files("comments", upsd_conf=' #\tB\u00fcro\nMAXAGE 15 # \u00b0C\n', ups_conf='[u]\n desc = "a # b" # \u00fc\n')
+        to = os.path.join(self.folder, "comments-changed")
+        expect(self.check("--upsd", "-w", to, folder)[0], 0, "mulgefa-check -w")
+        for name, text in (("upsd.conf", " #\tB??ro\nMAXAGE 15 # ??C\n"), ("ups.conf", '[u]\n desc = "a # b" # ??\n')):
+            with open(os.path.join(to, name)) as file:
+                expect(file.read(), text, f"what it wrote as {name}")
+        folder = self.nuts_files("words", ups_conf='[u]\n desc = "B\u00fcro # 1"\n')
+        told = f'{folder}/ups.conf:2: Unreadable: desc = "B\u00fcro # 1"\n    ups.conf(5) says what may stand there\n'
+        expect(self.check("--upsd", folder), (1, told), "a byte that is read")
+
+    def test_check_takes_out_a_type_of_notice(self):
+        lines = 'MINSUPPLIES 0\nNOTIFYFLAG NOPARENT SYSLOG+WALL\nNOTIFYMSG "NOPARENT" "upsmon parent process died"\nNOTIFYFLAG ONBATT EXEC\n'
+        folder = self.nuts_files("types", upsmon_conf=lines)
+        to = os.path.join(self.folder, "types-changed")
+        status, said = self.check("--upsmon", "-w", to, folder)
+        with open(os.path.join(to, "upsmon.conf")) as file:
+            expect((status, file.read()), (0, "MINSUPPLIES 0\n\n\nNOTIFYFLAG ONBATT EXEC\n"), f"what it wrote: {said}")
+        ensure("NOTIFYFLAG NOPARENT SYSLOG+WALL\n    take it out: not taken: " in said, f"what it tells: {said}")
 
     def test_check_tells_every_line(self):
         folder = self.nuts_files(
@@ -663,7 +774,7 @@ class Tests:
             with open(os.path.join(prefix, "lib/systemd/system", UNITS[program])) as file:
                 text = file.read()
             expect("@PREFIX@" in text or "@CONFDIR@" in text, False, f"{program}: places left open")
-            started = re.findall(r"^ExecStart=(\S+)", text, re.MULTILINE)
+            started = re.findall(r"^ExecStart=/usr/bin/env --ignore-signal=HUP (\S+)", text, re.MULTILINE)
             expect(started, [os.path.join(prefix, folder_of(program), program)], f"{program} is started")
             expect(os.access(started[0], os.X_OK), True, f"{started[0]} can be run")
             expect(re.findall("^Environment=NUT_CONFPATH=(.*)$", text, re.MULTILINE), ["/etc/nut"], f"{program}: the folder of the configuration")
@@ -678,12 +789,98 @@ class Tests:
             expect(("=/srv/ups\n" in text, "/etc/nut" in text), (True, False), f"{program}: another folder")
 
     def test_units_start_again_and_wait_for_no_network(self):
-        """To systemd SIGHUP is no failure. A network may come up long after a power failure."""
+        """A network may come up long after a power failure."""
         for unit in UNITS.values():
             with open(os.path.join(ROOT, "packaging", unit)) as file:
                 text = file.read()
-            expect(("Restart=on-failure\nRestartSec=5\n" in text, "RestartForceExitStatus=SIGHUP\n" in text), (True, True), f"{unit}: when it starts again")
+            ensure("Restart=on-failure\nRestartSec=5\n" in text, f"{unit}: when it starts again")
             ensure("network-online" not in text, f"{unit} waits for a network")
+
+    def test_units_wait_until_they_answer(self):
+        """What starts after a driver or a server finds its socket or its values, and waits for none that has ended or listens
+        elsewhere."""
+        needed("ip", "iproute2")
+        if not {"upsd", "dummy-ups", "upsc"} <= set(self.built):
+            raise Missing("no built programs were handed in")
+        prefix = self.installed("ready")
+        room = os.path.join(self.folder, "waiting")
+        shutil.copytree(os.path.join(ROOT, "examples"), room)
+        done = subprocess.run(
+            [*apart("--net"), "bash", "-c", UNTIL_READY], cwd=room, stdin=subprocess.DEVNULL, capture_output=True, timeout=120,
+            env={**os.environ, "prefix": prefix},
+        )
+        if done.returncode == 77:
+            raise Missing("no network of its own can be had")
+        wanted = "the socket of a late driver: there\nthe status of a late driver: OL\na server elsewhere: 0\na driver that ended: 0\na server that ended: 0\n"
+        expect((done.returncode, done.stdout.decode()), (0, wanted), done.stderr.decode())
+
+    def run_by_unit(self, prefix, program, setting, room):
+        """Starts what a setting of a unit runs, with a room in place of the folders that it names. Returns the processes."""
+        with open(os.path.join(prefix, "lib/systemd/system", UNITS[program])) as file:
+            commands = re.findall(f"^{setting}=[-+]?(.*)$", file.read(), re.MULTILINE)
+        env = {**os.environ, "NUT_CONFPATH": room}
+        for command in commands:
+            words = [it.replace("${NUT_CONFPATH}", room).replace("/run/nut", room) for it in shlex.split(command.replace("%i.${KIND}", "su700.dev").replace("%i", "su700"))]
+            yield subprocess.Popen(words, env=env, stdin=subprocess.DEVNULL, stdout=subprocess.PIPE, stderr=subprocess.STDOUT, start_new_session=True)
+
+    def test_units_ignore_hangup(self):
+        """SIGHUP to all processes of a unit ends none of them, and keeps no machine from being stopped."""
+        if not {"upsd", "dummy-ups", "upsmon"} <= set(self.built):
+            raise Missing("no built programs were handed in")
+        prefix = self.installed("hangup")
+        room = os.path.join(self.folder, "hung up")
+        shutil.copytree(os.path.join(ROOT, "examples"), room)
+        with open(os.path.join(room, "upsd.conf"), "w") as file:
+            file.write("LISTEN 127.0.0.1 24932\n")
+        with open(os.path.join(room, "upsmon.conf"), "w") as file:
+            file.write('MONITOR su700@127.0.0.1:24932 1 monuser m1 primary\nSHUTDOWNCMD "echo halted"\nFINALDELAY 0\nHOSTSYNC 0\nPOLLFREQ 1\n')
+        with open(os.path.join(room, "su700.dev"), "w") as file:
+            file.write("ups.status: OL\n")
+        running = {}
+        try:
+            for program in UNITS:
+                (running[program],) = self.run_by_unit(prefix, program, "ExecStart", room)
+                time.sleep(1)
+            for process in running.values():
+                os.killpg(process.pid, signal.SIGHUP)
+            time.sleep(1)
+            expect([program for program, process in running.items() if process.poll() is not None], [], "what SIGHUP ended")
+            running["dummy-ups"].kill()
+            running["dummy-ups"].wait()
+            with open(os.path.join(room, "su700.dev"), "w") as file:
+                file.write("ups.status: OB LB\n")
+            (running["dummy-ups"],) = self.run_by_unit(prefix, "dummy-ups", "ExecStart", room)
+            said = running["upsmon"].communicate(timeout=60)[0].decode()
+            expect((running["upsmon"].returncode, said.splitlines()[-1]), (0, "halted"), f"the halt: {said}")
+        finally:
+            for process in running.values():
+                process.kill()
+                process.communicate()
+
+    def test_units_refuse_to_reload_faults(self):
+        """A reload by a unit fails at a fault, names the line, and asks for nothing."""
+        if not {"upsd", "upsmon"} <= set(self.built):
+            raise Missing("no built programs were handed in")
+        prefix = self.installed("reload")
+        room = os.path.join(self.folder, "reloaded")
+        shutil.copytree(os.path.join(ROOT, "examples"), room)
+        for program, name in (("upsd", "upsd.conf"), ("upsmon", "upsmon.conf")):
+            for fault, status in (("", 0), ("FAULTY\n", 1)):
+                with open(os.path.join(ROOT, "examples", name)) as file:
+                    text = file.read()
+                with open(os.path.join(room, name), "w") as file:
+                    file.write(fault + text)
+                ended = []
+                for process in self.run_by_unit(prefix, program, "ExecReload", room):
+                    said = process.communicate(timeout=60)[0].decode()
+                    ended.append((process.returncode, f"{program}: {name}:1: UnknownDirective\n" in said))
+                    if process.returncode:
+                        break
+                expect(ended[-1], (status, bool(fault)), f"a reload by the unit of {program}: {said}")
+                expect(os.path.exists(os.path.join(room, "reload")), not fault, "a reload is asked for")
+                if not fault:
+                    os.remove(os.path.join(room, "reload"))
+            shutil.copy(os.path.join(ROOT, "examples", name), room)
 
     def test_monitor_has_the_mounts_of_its_machine(self):
         """What SHUTDOWNCMD unmounts has to be unmounted for the whole machine."""

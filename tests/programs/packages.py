@@ -18,11 +18,11 @@ import tempfile
 
 from tests.programs import install
 from tests.support.debian_root import fresh_root, run
-from tests.support.harness import ensure, expect, needed, ROOT, run_tests
+from tests.support.harness import ensure, expect, Missing, needed, ROOT, run_tests
 
 PACKAGES = ("mulgefa-client", "mulgefa-server")
 # the files of each section of the manual, and the examples, that belong to the server
-SERVERS = ("upsd", "dummy-ups", "ups.conf", "upsd.conf", "upsd.users", "su700.dev")
+SERVERS = ("upsd", "dummy-ups", "ups.conf", "upsd.conf", "upsd.users", "su700.dev", "until-ready")
 NAMES_OF_UNITS = {"nut-server.service": "mulgefa-upsd.service", "nut-monitor.service": "mulgefa-upsmon.service", "nut-client.service": "mulgefa-upsmon.service"}
 
 # what a fresh Debian changes by itself while packages are installed and removed
@@ -32,7 +32,8 @@ UNSTEADY = re.compile(r"var/(lib/(dpkg|apt|systemd/deb-systemd-helper)|cache|log
 def package_of(path):
     """Returns the package that an installed file belongs to."""
     name = os.path.basename(path)
-    if path.startswith(("share/mulgefa/rooms/", "share/mulgefa/schedules/")):
+    # the page says how all files are read
+    if path.startswith(("share/mulgefa/rooms/", "share/mulgefa/schedules/")) or name == "ups.conf.5":
         return "mulgefa-client"
     for of in SERVERS:
         if name in (of, f"{of}.5", f"{of}.8") or name in (f"mulgefa-{of}.service", f"mulgefa-{of}@.service"):
@@ -175,7 +176,7 @@ class Tests:
                 ensure(nuts in fields[field].split(", "), f"{name}: {field}: {fields[field]}")
             # otherwise dpkg would remove NUT's package after unpacking this one, and the same files with it: its /sbin/upsd is
             # our /usr/sbin/upsd
-            ensure("Replaces" not in fields, f"{name} replaces files")
+            ensure("nut" not in fields.get("Replaces", ""), f"{name} replaces files of NUT")
             # a program is built with the system's C library
             if any(package_of(f"bin/{program}") == name for program in self.packages.built):
                 ensure("libc6" in fields["Depends"], f"{name}: Depends: {fields['Depends']}")
@@ -209,7 +210,7 @@ class Tests:
                     text = file.read()
                 excluded = re.findall(r"^Conflicts=(.*)$", text, re.MULTILINE)
                 expect([it for it in excluded if it in NAMES_OF_UNITS], [], f"{unit} excludes itself")
-                ensure("@" not in re.sub(r"@%i|ups@|@system-service|@privileged|@resources|@module", "", text), f"{unit}: a place left open")
+                ensure("@" not in re.sub(r"@%i|ups@|@system-service|@privileged|@resources|@module|@debug|@cpu-emulation|@obsolete", "", text), f"{unit}: a place left open")
 
     def test_lintian(self):
         lintian = needed("lintian", "lintian")
@@ -340,6 +341,41 @@ class Tests:
         said = root.do("dpkg -i /root/mulgefa-*.deb")
         told = ["mulgefa-upsd.service isn't enabled: 'systemctl enable --now mulgefa-upsd.service' does it"]
         expect([line for line in said.splitlines() if "isn't enabled" in line], told, "what is told of the one that was disabled")
+
+    def test_faults_are_told_last(self):
+        """What has to be changed in files of NUT's comes last, whether or not nut.conf says that NUT is to run. What has to run is
+        enabled all the same."""
+        if not {"upsd", "upsmon"} <= set(self.packages.built):
+            raise Missing("no built programs were handed in")
+        root = self.fresh("faults")
+        told = {
+            "mulgefa-client": [
+                "/etc/nut/upsmon.conf:2: UnknownDirective: RUN_AS_USER nut",
+                "    take it out: not taken: there is one process, which the unit runs as root",
+                "mulgefa-upsmon.service can't run until this is changed; if it is enabled, it starts by itself then",
+            ],
+            "mulgefa-server": [
+                "/etc/nut/ups.conf:1: OutsideSection: maxretry = 3",
+                "    take it out: not taken: units start a driver again without end",
+                "note: the driver usbhid-ups is NUT's, and isn't part of these packages; see from-nut(7)",
+                "mulgefa-upsd.service can't run until this is changed; if it is enabled, it starts by itself then",
+            ],
+        }
+        for mode in ("none", "standalone"):
+            os.makedirs(root.path("/etc/nut"))
+            files = {"ups.conf": "maxretry = 3\n[apc]\n driver = usbhid-ups\n port = auto\n", "upsd.conf": "", "upsd.users": "", "upsmon.conf": "MINSUPPLIES 0\nRUN_AS_USER nut\n"}
+            for name, text in {**files, "nut.conf": f"MODE={mode}\n"}.items():
+                root.write(f"/etc/nut/{name}", text)
+            said = root.do("dpkg -i /root/mulgefa-*.deb").splitlines()
+            for package, lines in told.items():
+                (at,) = [i for i, line in enumerate(said) if line.startswith(f"Processing triggers for {package} ")]
+                expect(said[at + 1 : at + 1 + len(lines)], lines, f"what {package} tells with MODE={mode}")
+            rest = [line for line in said[at:] if not line.startswith("Processing triggers for ")]
+            ensure(len(rest) <= len(told["mulgefa-server"]) + len(told["mulgefa-client"]), f"what else is told: {said}")
+            enabled = os.path.islink(root.path("/etc/systemd/system/multi-user.target.wants/mulgefa-upsmon.service"))
+            expect(enabled, mode != "none", f"whether the monitor is enabled with MODE={mode}")
+            root.do("dpkg --purge mulgefa-server mulgefa-client")
+            shutil.rmtree(root.path("/etc/nut"))
 
     def test_installation_that_fails(self):
         """If the first configuration fails in the middle, what is made later by hand isn't the package's to remove, and

@@ -91,9 +91,12 @@ class Booted(Root):
 
     def __init__(self, folder):
         super().__init__(folder)
+        self.start()
+
+    def start(self):
         nspawn = needed("systemd-nspawn", "systemd-container")
-        words = [nspawn, "--quiet", "--boot", "--register=no", "--keep-unit", "--private-network", "--directory", folder]
-        self.log = open(folder + ".console", "w")
+        words = [nspawn, "--quiet", "--boot", "--register=no", "--keep-unit", "--private-network", "--directory", self.folder]
+        self.log = open(self.folder + ".console", "a")
         self.init = None
         self.process = subprocess.Popen(words, stdin=subprocess.DEVNULL, stdout=self.log, stderr=self.log, start_new_session=True)
         try:
@@ -102,6 +105,11 @@ class Booted(Root):
         except BaseException:
             self.stop()
             raise
+
+    def restart(self):
+        """Halts the system and starts it anew, as at a restart of the machine. Only what is enabled runs then, and /run is empty."""
+        self.stop()
+        self.start()
 
     def find_init(self):
         """Returns the process that is its first."""
