@@ -106,10 +106,8 @@ impl<'a> fmt::Display for Report<'a> {
 impl<'a> Leveled for Report<'a> {
     fn level(&self) -> Level {
         match self {
-            Report::Listening(_)
-            | Report::Connected(_)
-            | Report::Fresh(_)
-            | Report::Shed(..) => Level::Info,
+            Report::Listening(_) | Report::Connected(_) | Report::Fresh(_) | Report::Shed(..) =>
+                Level::Info,
             Report::Ended(_, end) => end.level(),
             Report::NotListening(..)
             | Report::Missed(..)
