@@ -65,7 +65,8 @@ part_of() {
             ;;
     esac
     case ${1##*/} in
-        upsd | upsd.* | *-upsd.service | dummy-ups | dummy-ups.* | *-dummy-ups@.service | ups.conf | su700.dev | *nut-drivers* | until-ready) echo server ;;
+        upsd | upsd.* | *-upsd.service | ups.conf) echo server ;;
+        dummy-ups | dummy-ups.* | *-dummy-ups@.service | su700.dev | *nut-drivers* | until-ready) echo server ;;
         *) echo client ;;
     esac
 }

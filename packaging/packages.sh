@@ -145,7 +145,8 @@ make_tar() {
     for program in $server $client; do
         install -m 755 "$work/programs/$program" "$tree/bin/$program"
     done
-    for file in install.sh configure.sh completions.bash mulgefa-check until-ready mulgefa.sysusers mulgefa-upsd.service mulgefa-upsmon.service mulgefa-dummy-ups@.service; do
+    for file in install.sh configure.sh completions.bash mulgefa-check until-ready mulgefa.sysusers \
+        mulgefa-upsd.service mulgefa-upsmon.service mulgefa-dummy-ups@.service; do
         install -m 644 "packaging/$file" "$tree/packaging/$file"
     done
     chmod 755 "$tree/packaging/install.sh" "$tree/packaging/mulgefa-check" "$tree/packaging/until-ready"

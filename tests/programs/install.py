@@ -512,7 +512,8 @@ class Tests:
             (f"{scripts}/shared/none", (f"{scripts}/shared/none", f"{scripts}/shared")),
         )):
             folder = self.nuts_files(f"command{number}", upsmon_conf=f"MINSUPPLIES 0\nNOTIFYCMD {command}\n")
-            note = "note: NOTIFYCMD runs {} as root here, and others than root may write to {}; see from-nut(7)\n".format(*told) if told else ""
+            note = "note: NOTIFYCMD runs {} as root here, and others than root may write to {}; see from-nut(7)\n"
+            note = note.format(*told) if told else ""
             expect(self.check("--upsmon", folder), (0, note), f"what it notes of {command}")
 
     def test_check_shows_no_passwords(self):
@@ -596,7 +597,7 @@ class Tests:
         expect(self.check("--upsd", folder), (1, told), "a byte that is read")
 
     def test_check_takes_out_a_type_of_notice(self):
-        lines = 'MINSUPPLIES 0\nNOTIFYFLAG NOPARENT SYSLOG+WALL\nNOTIFYMSG "NOPARENT" "upsmon parent process died"\nNOTIFYFLAG ONBATT EXEC\n'
+        lines = 'MINSUPPLIES 0\nNOTIFYFLAG NOPARENT SYSLOG+WALL\n NOTIFYMSG "NOPARENT" "upsmon parent died"\nNOTIFYFLAG ONBATT EXEC\n'
         folder = self.nuts_files("types", upsmon_conf=lines)
         to = os.path.join(self.folder, "types-changed")
         status, said = self.check("--upsmon", "-w", to, folder)
@@ -811,17 +812,21 @@ class Tests:
         )
         if done.returncode == 77:
             raise Missing("no network of its own can be had")
-        wanted = "the socket of a late driver: there\nthe status of a late driver: OL\na server elsewhere: 0\na driver that ended: 0\na server that ended: 0\n"
+        wanted = "the socket of a late driver: there\nthe status of a late driver: OL\n"
+        wanted += "a server elsewhere: 0\na driver that ended: 0\na server that ended: 0\n"
         expect((done.returncode, done.stdout.decode()), (0, wanted), done.stderr.decode())
 
     def run_by_unit(self, prefix, program, setting, room):
         """Starts what a setting of a unit runs, with a room in place of the folders that it names. Returns the processes."""
         with open(os.path.join(prefix, "lib/systemd/system", UNITS[program])) as file:
             commands = re.findall(f"^{setting}=[-+]?(.*)$", file.read(), re.MULTILINE)
-        env = {**os.environ, "NUT_CONFPATH": room}
+        meant = {"${NUT_CONFPATH}": room, "/run/nut": room, "${KIND}": "dev", "%i": "su700"}
         for command in commands:
-            words = [it.replace("${NUT_CONFPATH}", room).replace("/run/nut", room) for it in shlex.split(command.replace("%i.${KIND}", "su700.dev").replace("%i", "su700"))]
-            yield subprocess.Popen(words, env=env, stdin=subprocess.DEVNULL, stdout=subprocess.PIPE, stderr=subprocess.STDOUT, start_new_session=True)
+            words = [re.sub("|".join(map(re.escape, meant)), lambda it: meant[it[0]], word) for word in shlex.split(command)]
+            yield subprocess.Popen(
+                words, env={**os.environ, "NUT_CONFPATH": room}, stdin=subprocess.DEVNULL, stdout=subprocess.PIPE, stderr=subprocess.STDOUT,
+                start_new_session=True,
+            )
 
     def test_units_ignore_hangup(self):
         """SIGHUP to all processes of a unit ends none of them, and keeps no machine from being stopped."""
@@ -833,7 +838,8 @@ class Tests:
         with open(os.path.join(room, "upsd.conf"), "w") as file:
             file.write("LISTEN 127.0.0.1 24932\n")
         with open(os.path.join(room, "upsmon.conf"), "w") as file:
-            file.write('MONITOR su700@127.0.0.1:24932 1 monuser m1 primary\nSHUTDOWNCMD "echo halted"\nFINALDELAY 0\nHOSTSYNC 0\nPOLLFREQ 1\n')
+            file.write('MONITOR su700@127.0.0.1:24932 1 monuser m1 primary\nSHUTDOWNCMD "echo halted"\n')
+            file.write("FINALDELAY 0\nHOSTSYNC 0\nPOLLFREQ 1\n")
         with open(os.path.join(room, "su700.dev"), "w") as file:
             file.write("ups.status: OL\n")
         running = {}
