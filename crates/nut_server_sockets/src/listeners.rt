@@ -35,6 +35,13 @@ impl Drop for Missing {
 }
 
 impl Missing {
+    /// Notes why it was impossible to listen there once more. Returns whether the reason is another one.
+    fn note(&mut self, error: io::Error) -> bool {
+        let is_new = self.error.kind() != error.kind();
+        self.error = error;
+        is_new
+    }
+
     /// Returns the host, as upsd.conf has it, the port, and why it was impossible to listen there at the last attempt.
     pub fn into_parts(self) -> (String, u16, io::Error) {
         let Missing {
@@ -212,10 +219,10 @@ impl Listeners {
 
     /// Notes why it was impossible to listen at a host, and reports it unless it is as before.
     fn note(&mut self, i: usize, error: io::Error, reports: &mut Reports<'_>) {
-        if let Some(Place::Missing(missing)) = self.places.get_mut(i)
-            && missing.error.kind() != error.kind()
-        {
-            missing.error = error;
+        let Some(Place::Missing(missing)) = self.places.get_mut(i) else {
+            return;
+        };
+        if missing.note(error) {
             tell_missing(missing, reports);
         }
     }
