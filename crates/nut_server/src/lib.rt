@@ -11,6 +11,7 @@ mod connection;
 mod connections;
 mod credential;
 mod decision;
+mod deeds;
 mod device;
 mod effect;
 mod limits;
@@ -26,6 +27,7 @@ mod tracked;
 
 pub use arrival::Arrival;
 pub use config::{Config, Ups, User};
+pub use deeds::{Act, Deed};
 pub use device::silence_before_ping;
 pub use nut_server_spec::{Place, Refused};
 pub use server::{Ended, Server, ServerFault};

@@ -20,6 +20,7 @@ use crate::address::address_of;
 use crate::arrival::Arrival;
 use crate::config::Config;
 use crate::connections::Connections;
+use crate::deeds::{Deed, Deeds};
 use crate::device::Device;
 use crate::numbering::{Numbers, first_numbers};
 use arrayvec::ArrayVec;
@@ -67,6 +68,8 @@ pub struct Server {
     scratch: Vec<u8>,
     /// The request to a driver that a client's request leads to, while it is being handled.
     line: ArrayVec<u8, ASKS_MAX>,
+    /// What clients did that an operator wants to know of. No answer depends on it.
+    deeds: Deeds,
     alloc: Global,
 }
 
@@ -83,6 +86,7 @@ impl Drop for Server {
             connections: _connections,
             scratch: _scratch,
             line: _line,
+            deeds: _deeds,
             alloc: _,
         } = self;
     }
@@ -149,6 +153,7 @@ impl Server {
                 connections,
                 scratch: Vec::new(alloc),
                 line: ArrayVec::new(),
+                deeds: Deeds::none(),
                 alloc,
             }),
             Err(AllocError) => {
@@ -366,6 +371,17 @@ impl Server {
             Some(device) => device.is_forced(),
             None => false,
         }
+    }
+
+    /// How many deeds of clients there were: requests that were handed on to a driver, LOGIN, LOGOUT and FSD that were
+    /// granted, and answers ACCESS-DENIED.
+    pub fn deeds(&self) -> u64 {
+        self.deeds.count()
+    }
+
+    /// Returns the last deed of a client, if there was one.
+    pub fn last_deed(&self) -> Option<&Deed> {
+        self.deeds.last()
     }
 
     /// How many bytes wait for the driver of a UPS, at most [`ASKS_MAX`]: 0 where there is no such UPS.

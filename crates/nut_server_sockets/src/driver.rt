@@ -28,7 +28,7 @@ pub struct Driver {
     is_awaited: bool,
     /// Whether the data of the UPS were stale when that was last noted since the driver was connected.
     is_stale: bool,
-    /// Whether a shutdown of the UPS was forced when that was last noted.
+    /// Whether it was noted that a shutdown of the UPS is forced.
     is_forced: bool,
 }
 
@@ -109,9 +109,9 @@ impl Driver {
         has_changed
     }
 
-    /// Notes whether a shutdown of the UPS was forced. Returns whether it was since that was last noted.
-    pub fn note_forced(&mut self, is_forced: bool) -> bool {
-        !mem::replace(&mut self.is_forced, is_forced) && is_forced
+    /// Notes that a shutdown of the UPS is forced. Returns whether that is new.
+    pub fn note_forced(&mut self) -> bool {
+        !mem::replace(&mut self.is_forced, true)
     }
 
     /// Makes clients wait until the driver says something, if it is connected.

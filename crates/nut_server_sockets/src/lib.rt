@@ -1,14 +1,18 @@
 //! The world of a server over sockets: clients over TCP, and drivers on Unix sockets.
 #![tactic(auto)]
 
+mod audit;
 mod batches;
 mod client;
 mod clients;
+mod deed_report;
+mod denials;
 mod door;
 mod driver;
 mod drivers;
 mod hindrances;
 mod keepalive;
+mod login;
 mod mio_world;
 mod reloader;
 mod report;

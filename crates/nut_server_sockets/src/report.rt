@@ -38,8 +38,6 @@ pub enum Report<'a> {
     Stale(&'a str),
     /// The data of a UPS is no longer stale.
     Fresh(&'a str),
-    /// A client forced a shutdown of a UPS (FSD).
-    Forced(&'a str),
     /// A client isn't let in, because MAXCONN, which is this, is reached.
     Full(usize),
     /// No client is let in until the next start, because this many were.
@@ -60,7 +58,6 @@ impl<'a> fmt::Display for Report<'a> {
             Report::Ended(name, end) => write!(f, "UPS {name}: driver {}", end.text()),
             Report::Stale(name) => write!(f, "UPS {name}: data is stale"),
             Report::Fresh(name) => write!(f, "UPS {name}: data is no longer stale"),
-            Report::Forced(name) => write!(f, "UPS {name}: shutdown is forced (FSD)"),
             Report::Full(most) => write!(f, "cannot let a client in: MAXCONN {most} is reached"),
             Report::Spent(most) => {
                 write!(
