@@ -1,6 +1,6 @@
 #!/usr/bin/env python3
-"""What upsd tells its operator of clients: who set a variable, gave a command, forced a shutdown, logged in and out, and who was
-refused.
+"""What upsd tells its operator of clients and drivers: who set a variable, gave a command, forced a shutdown, logged in and out,
+who was refused, and which lines of a driver can't be read.
 
     python3 -m tests.programs.upsd_audit UPSD DUMMY_UPS
 
@@ -25,6 +25,7 @@ RUN_OFF = f"{UPS}{ADMIN} asked the driver to run load.off"
 FORCED = f"{UPS}shutdown is forced (FSD) by {MON}"
 LOGGED_IN, LOGGED_OUT = f"{UPS}{MON} logged in", f"{UPS}{MON} logged out"
 LEFT = f"{UPS}connection of {MON} ended without LOGOUT"
+UNREAD = f"{UPS}cannot read what its driver says of "
 
 # passwords and values that show nowhere else
 USERS = (
@@ -412,6 +413,52 @@ class Tests:
                 client.log_in(b"mon", b"wrong-pass")
                 self.refuse(client, 1)
             room.said.next("upsd: client 127.0.2.1 refused as user mon (ACCESS-DENIED), requests: 1")
+
+    def test_lines_of_a_driver_that_cannot_be_read(self):
+        """A value with a quote that isn't escaped: the earlier one stays until the driver connects again, and that is told once."""
+        for words in ((), ("-q",)):
+            with self.room(conf=b"MAXAGE 86400\n") as room, room.driver() as listener:
+                room.serve(*words)
+                with accepted(listener) as driver:
+                    driver.sendall(b'SETINFO ups.status "OL"\nSETINFO ups.id "old"\nDATAOK\nDUMPDONE\n')
+                    room.until(STATUS, ONLINE)
+                    for _ in range(2):
+                        driver.sendall(b'SETINFO ups.id "hidden-value"b"\nSETINFO ups.model "" ""\n')
+                        time.sleep(1.2)
+                    driver.sendall(b'SETINFO ups.status "OB"\n')
+                    room.until(STATUS, b'VAR su700 ups.status "OB"\n')
+                    expect(room.ask(b"GET VAR su700 ups.id\n"), b'VAR su700 ups.id "old"\n', "the earlier value")
+                with accepted(listener) as driver:
+                    driver.sendall(b'SETINFO ups.status "OL"\nSETINFO ups.id "a\\"b"\nDATAOK\nDUMPDONE\n')
+                    room.until(b"GET VAR su700 ups.id\n", b'VAR su700 ups.id "a\\"b"\n')
+                    driver.sendall(b'SETINFO ups.id "hidden-value"b"\n')
+                    time.sleep(1.5)
+                found = [line for line in room.said.lines if "cannot read" in line]
+                expect(found, [UNREAD + "ups.id", UNREAD + "ups.model"], f"with {words}")
+                ensure(not any("hidden-value" in line for line in room.said.lines), f"a value shows: {room.said.lines}")
+
+    def test_many_lines_of_a_driver_that_cannot_be_read(self):
+        nameless, more = f"{UPS}cannot read a line of its driver", f"{UPS}cannot read what its driver says of more variables"
+        with self.room(conf=b"MAXAGE 86400\n") as room, room.driver() as listener:
+            room.serve()
+            with accepted(listener) as driver:
+                driver.sendall(b'SETINFO ups.status "OL"\nDATAOK\nDUMPDONE\n')
+                room.until(STATUS, ONLINE)
+                # what isn't known or blank, or needs no reading, is no matter
+                driver.sendall(b"\n  \nNEWS of a later driver\nPONG\nDATAOK\n")
+                time.sleep(1.2)
+                # a control byte, a byte that isn't ASCII, a line that is too long, a name that is none
+                driver.sendall(b'SETINFO ups.temperature "21 \xc2\xb0C"\n\x1b[2J\n' + b"x" * 3000 + b"\n")
+                driver.sendall(b'SETINFO \x1b[2J "x"\nSETINFO "ups.mfr" "a"b"\n')
+                until(lambda: room.said.count(nameless) == 1, "a line without a name")
+                for i in range(20):
+                    driver.sendall(b'SETINFO outlet.%d.desc "a"b"\n' % i)
+                until(lambda: room.said.count(more) == 1, "more of them")
+                driver.sendall(b'SETINFO outlet.99.desc "a"b"\n' * 1000)
+                time.sleep(1.5)
+            found = [line for line in room.said.lines if "cannot read" in line]
+            expect(found[:3], [UNREAD + "ups.temperature", nameless, UNREAD + "outlet.0.desc"], "the first")
+            expect((len(found), found[-1]), (9, more), f"a number of variables, and once that there are more: {found}")
 
 
 def main():

@@ -24,6 +24,7 @@ mod server;
 mod setting;
 mod text;
 mod tracked;
+mod unread;
 
 pub use arrival::Arrival;
 pub use config::{Config, Ups, User};
@@ -31,3 +32,4 @@ pub use deeds::{Act, Deed};
 pub use device::silence_before_ping;
 pub use nut_server_spec::{Place, Refused};
 pub use server::{Ended, Server, ServerFault};
+pub use unread::{UNREAD_MAX, Unread};

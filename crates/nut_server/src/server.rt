@@ -23,6 +23,7 @@ use crate::connections::Connections;
 use crate::deeds::{Deed, Deeds};
 use crate::device::Device;
 use crate::numbering::{Numbers, first_numbers};
+use crate::unread::Unread;
 use arrayvec::ArrayVec;
 use nut_conf::{CONNECTIONS_MAX, UPSES_MAX};
 use nut_queue::ASKS_MAX;
@@ -370,6 +371,15 @@ impl Server {
         match self.devices.get(u) {
             Some(device) => device.is_forced(),
             None => false,
+        }
+    }
+
+    /// Returns which variables the driver of a UPS has said something about that couldn't be read, if there is such a place:
+    /// since the server was made, or since a reload gave the place another UPS or driver.
+    pub fn unread(&self, u: usize) -> Option<&Unread> {
+        match self.devices.get(u) {
+            Some(device) => Some(device.unread()),
+            None => None,
         }
     }
 

@@ -38,6 +38,11 @@ pub enum Report<'a> {
     Stale(&'a str),
     /// The data of a UPS is no longer stale.
     Fresh(&'a str),
+    /// The driver says something of a variable of a UPS that can't be read: the UPS, and the variable; empty if that isn't
+    /// known.
+    Unread(&'a str, &'a str),
+    /// The driver of a UPS says such things of more variables.
+    UnreadMore(&'a str),
     /// A client isn't let in, because MAXCONN, which is this, is reached.
     Full(usize),
     /// No client is let in until the next start, because this many were.
@@ -58,6 +63,11 @@ impl<'a> fmt::Display for Report<'a> {
             Report::Ended(name, end) => write!(f, "UPS {name}: driver {}", end.text()),
             Report::Stale(name) => write!(f, "UPS {name}: data is stale"),
             Report::Fresh(name) => write!(f, "UPS {name}: data is no longer stale"),
+            Report::Unread(name, variable) => put_unread(f, name, variable),
+            Report::UnreadMore(name) => write!(
+                f,
+                "UPS {name}: cannot read what its driver says of more variables"
+            ),
             Report::Full(most) => write!(f, "cannot let a client in: MAXCONN {most} is reached"),
             Report::Spent(most) => {
                 write!(
@@ -71,5 +81,17 @@ impl<'a> fmt::Display for Report<'a> {
             }
             Report::Unanswered(address) => write!(f, "client {address} closed: out of memory"),
         }
+    }
+}
+
+/// Writes that the driver of a UPS says something of a variable that can't be read.
+fn put_unread<W: fmt::Write>(f: &mut fmt::Formatter<W>, name: &str, variable: &str) -> fmt::Result {
+    if variable.is_empty() {
+        write!(f, "UPS {name}: cannot read a line of its driver")
+    } else {
+        write!(
+            f,
+            "UPS {name}: cannot read what its driver says of {variable}"
+        )
     }
 }

@@ -476,13 +476,16 @@ impl Sockets {
         }
     }
 
-    /// Reports the UPSes whose data have become stale in the last second or are no longer stale. What passes within a second
-    /// isn't told: the data of each driver are stale from its connection to the end of its first dump, and a driver that
-    /// changed its mind with every line would fill the log.
+    /// Reports the UPSes whose data have become stale in the last second or are no longer stale, and what their drivers
+    /// said that can't be read. What passes within a second isn't told: the data of each driver are stale from its
+    /// connection to the end of its first dump, and a driver that changed its mind with every line would fill the log.
     fn tell_changes(&mut self, server: &Server, reports: &mut Reports<'_>) {
         for u in 0..self.drivers.len() {
             if let Some(driver) = self.drivers.get_mut(u) {
                 tell_staleness(driver, server.is_stale(u), reports);
+                if let Some(unread) = server.unread(u) {
+                    driver.tell_unread(unread, reports);
+                }
             }
         }
     }

@@ -44,7 +44,7 @@ use std::time::Clock;
 ///
 /// The addresses listened on, the UPSes served, drivers that connect and disconnect, who logs in and out, and what a
 /// reload changes are written to `err`, a line each, but not with `-q`. Who set a variable, gave a command or forced a
-/// shutdown, who was refused, why nothing was reloaded, why a client can't be let
+/// shutdown, who was refused, which lines of a driver can't be read, why nothing was reloaded, why a client can't be let
 /// in, that one is closed for lack of memory, and that everybody can read the passwords of upsd.users, is written even
 /// then. If it is impossible to listen at an address, `upsd: cannot listen on ADDRESS:PORT: WHY` is written, and the status is 1.
 ///
