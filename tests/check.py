@@ -34,6 +34,7 @@ TESTS = (
     ("programs.tools", ("upsc", "upsrw", "upscmd")),
     ("programs.upsd_sockets", ("upsd", "dummy_ups", "upsrw", "upscmd")),
     ("programs.upsd_reload", ("upsd", "dummy_ups")),
+    ("programs.upsd_audit", ("upsd", "dummy_ups")),
     ("programs.hostile_clients", ("upsd", "dummy_ups")),
     ("programs.upsmon", ("upsd", "dummy_ups", "upsc", "upsmon")),
     ("programs.upsmon_fsd", ("upsd", "dummy_ups", "upsc", "upsmon")),

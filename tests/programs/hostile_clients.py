@@ -279,7 +279,10 @@ class Tests:
                 took = (time.monotonic() - begun) * 50
                 ensure(took > 599, f"a login was ended after {took:.0f} s of silence")
                 expect(speaker.ask(b"GET NUMLOGINS su700\n"), b"NUMLOGINS su700 1\n", "one still counts")
-            ensure(SILENT.format(600) in said(upsd), "what is told of it")
+            told = said(upsd)
+            ensure(SILENT.format(600) in told, f"what is told of it: {told}")
+            ended = "upsd: UPS su700: connection of mon@127.0.0.1 ended without LOGOUT"
+            expect(told[told.index(SILENT.format(600)) + 1], ended, "what is told of its login")
 
     @staticmethod
     def logged_in(room):

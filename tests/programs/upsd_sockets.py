@@ -684,7 +684,7 @@ class Tests:
             expect(told, [stale, fresh] * (len(told) // 2), "each change is told once")
 
     def test_a_forced_shutdown_is_told(self):
-        forced = "upsd: UPS su700: shutdown is forced (FSD)"
+        forced = "upsd: UPS su700: shutdown is forced (FSD) by mon@127.0.0.1"
         with self.room() as room:
             lines = Lines(room.upsd("-q"))
             driver = room.dummy()

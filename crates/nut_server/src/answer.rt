@@ -3,7 +3,7 @@
 use crate::config::Config;
 use crate::connections::Connections;
 use crate::device::Device;
-use nut_proto::{ListQuery, Reply};
+use nut_proto::{ListQuery, Refusal, Reply};
 use nut_state::Variable;
 
 /// The rows of a list. UPSes and variables are named as the client wrote them.
@@ -36,4 +36,11 @@ pub enum Answer<'a> {
     Value(&'a [u8], &'a Device, &'a Variable),
     /// A list: its query, and its rows.
     Listing(ListQuery<'a>, Rows<'a>),
+}
+
+impl Answer<'_> {
+    /// Whether it is ACCESS-DENIED.
+    pub fn is_denial(&self) -> bool {
+        matches!(self, Answer::Line(Reply::Refused(Refusal::AccessDenied)))
+    }
 }

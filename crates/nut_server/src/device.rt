@@ -17,6 +17,7 @@ ghost use Rattle.nut_server.specs.inside.Lines.{line_told};
 
 use crate::reloading::Fate;
 use crate::tracked::TrackedRequests;
+use crate::unread::Unread;
 use nut_proto::{Refusal, TrackingStatus};
 use nut_queue::{ASKS_MAX, AskRing};
 use nut_state::{Heard, StateFault, UpsState};
@@ -51,6 +52,9 @@ pub struct Device {
     asks: AskRing,
     tracked: TrackedRequests,
     cutter: LineCutter,
+    /// What the driver said that couldn't be read. No answer depends on it.
+    unread: Unread,
+    alloc: Global,
 }
 
 impl Model for Device {
@@ -91,6 +95,8 @@ impl Device {
             asks,
             tracked: TrackedRequests::new(),
             cutter: LineCutter::new(),
+            unread: Unread::none(),
+            alloc,
         })
     }
 
@@ -113,6 +119,11 @@ impl Device {
         ensures { result ≡ self.now.device.forced }
     {
         self.forced
+    }
+
+    /// Returns which variables the driver has said something about that couldn't be read.
+    pub fn unread(&self) -> &Unread {
+        &self.unread
     }
 
     /// Returns how many bytes wait for the driver.
@@ -250,6 +261,9 @@ impl Device {
     pub fn meet(&mut self, fate: Fate)
         ensures { self.new ≡ fated (fate_is fate) self.old }
     {
+        if !fate.is_kept() {
+            self.unread = Unread::none();
+        }
         match fate {
             Fate::Kept => {}
             Fate::Disconnected => self.down(),
@@ -350,7 +364,7 @@ impl HearLine for Device {
                 self.heard_at = time;
                 self.tracked.end(number, status);
             }
-            Heard::Ignored => {}
+            Heard::Ignored => self.unread.note(self.alloc, line),
         }
         Ok(())
     }

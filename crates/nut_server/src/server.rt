@@ -21,8 +21,10 @@ use crate::address::address_of;
 use crate::arrival::Arrival;
 use crate::config::Config;
 use crate::connections::Connections;
+use crate::deeds::{Deed, Deeds};
 use crate::device::Device;
 use crate::numbering::{Numbers, first_numbers};
+use crate::unread::Unread;
 use arrayvec::ArrayVec;
 use nut_conf::{CONNECTIONS_MAX, UPSES_MAX};
 use nut_queue::ASKS_MAX;
@@ -68,6 +70,8 @@ pub struct Server {
     scratch: Vec<u8>,
     /// The request to a driver that a client's request leads to, while it is being handled.
     line: ArrayVec<u8, ASKS_MAX>,
+    /// What clients did that an operator wants to know of. No answer depends on it.
+    deeds: Deeds,
     alloc: Global,
 }
 
@@ -84,6 +88,7 @@ impl Drop for Server {
             connections: _connections,
             scratch: _scratch,
             line: _line,
+            deeds: _deeds,
             alloc: _,
         } = self;
     }
@@ -150,6 +155,7 @@ impl Server {
                 connections,
                 scratch: Vec::new(alloc),
                 line: ArrayVec::new(),
+                deeds: Deeds::none(),
                 alloc,
             }),
             Err(AllocError) => {
@@ -367,6 +373,26 @@ impl Server {
             Some(device) => device.is_forced(),
             None => false,
         }
+    }
+
+    /// Returns which variables the driver of a UPS has said something about that couldn't be read, if there is such a place:
+    /// since the server was made, or since a reload gave the place another UPS or driver.
+    pub fn unread(&self, u: usize) -> Option<&Unread> {
+        match self.devices.get(u) {
+            Some(device) => Some(device.unread()),
+            None => None,
+        }
+    }
+
+    /// How many deeds of clients there were: requests that were handed on to a driver, LOGIN, LOGOUT and FSD that were
+    /// granted, and answers ACCESS-DENIED.
+    pub fn deeds(&self) -> u64 {
+        self.deeds.count()
+    }
+
+    /// Returns the last deed of a client, if there was one.
+    pub fn last_deed(&self) -> Option<&Deed> {
+        self.deeds.last()
     }
 
     /// How many bytes wait for the driver of a UPS, at most [`ASKS_MAX`]: 0 where there is no such UPS.

@@ -7,26 +7,36 @@ ghost use Rattle.std.specs.Prelude.{◌<◌, ◌≤◌, length};
 enum Place {
     /// At the start of a line.
     Start,
-    /// In a line that is answered by at most one line.
+    /// In a line that only asks for one line, or gives a user name.
     Plain,
-    /// In a line that may be answered by a list.
-    List,
+    /// In a line that may be answered by a list, or be something that is reported.
+    Last,
 }
 
 impl Place {
-    /// Returns where the byte after this one is. A line asks for LIST only if it begins with an L, or with a byte that
-    /// isn't a letter.
+    /// Returns where the byte after this one is. A line is plain if it begins as GET, HELP, NETVER, USERNAME and VER do, in
+    /// upper or lower case. Any other may be LIST or be reported, also one that begins with a blank or a quote.
     fn behind(self, byte: u8) -> Place {
         match (self, byte) {
             (_, b'\n') => Place::Start,
-            (Place::Start, b'A'..=b'K' | b'M'..=b'Z' | b'a'..=b'k' | b'm'..=b'z') => Place::Plain,
-            (Place::Start, _) => Place::List,
+            (Place::Start, first) if is_plain(first) => Place::Plain,
+            (Place::Start, _) => Place::Last,
             (place, _) => place,
         }
     }
 }
 
-/// Cuts what a client sends after each line that may be answered by a list.
+/// Whether a line that begins with this byte is plain.
+fn is_plain(first: u8) -> bool {
+    matches!(
+        first,
+        b'G' | b'g' | b'H' | b'h' | b'N' | b'n' | b'U' | b'u' | b'V' | b'v'
+    )
+}
+
+/// Cuts what a client sends after each line that may be answered by a list, or that may be something that is reported:
+/// FSD, INSTCMD, LOGIN, LOGOUT, SET, and what is answered ACCESS-DENIED. So the server is given at most one such line at
+/// once, as the last.
 ///
 /// A list has at most 578,146 bytes, and every other answer is one line. So the server has to keep, for a client that
 /// takes nothing, at most one list and the answers to the short lines of one piece. Those answers together have less
@@ -52,7 +62,7 @@ impl Batches {
         for (i, byte) in piece.iter().enumerate() {
             let place = self.place;
             self.place = place.behind(*byte);
-            if place == Place::List && *byte == b'\n' {
+            if place == Place::Last && *byte == b'\n' {
                 return i + 1;
             }
         }

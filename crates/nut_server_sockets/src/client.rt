@@ -4,6 +4,7 @@ ghost use Rattle.std.specs.Prelude.{length};
 ghost use Rattle.nut_io.specs.Writes.{IsWithin};
 
 use crate::batches::Batches;
+use crate::login::Login;
 use mio::event::Event;
 use mio::net::TcpStream;
 use nut_io::{Piece, Written};
@@ -23,6 +24,8 @@ pub struct Client {
     /// The number of its connection.
     number: u64,
     address: IpAddr,
+    /// Its login, if it has one.
+    login: Option<Login>,
     link: Link<TcpStream>,
     batches: Batches,
     /// What was read from it and the server hasn't been given.
@@ -41,6 +44,7 @@ impl Client {
         Client {
             number,
             address,
+            login: None,
             link: Link::new(stream),
             batches: Batches::new(),
             held: Piece::new(),
@@ -60,9 +64,19 @@ impl Client {
         self.address
     }
 
-    /// Returns that address, if the server was given bytes of it and hasn't offered it any since. If the server then has
-    /// the connection closed, a reload ended it or memory ran out at these bytes: for any other reason it offers something
-    /// first, a farewell or what can't be written.
+    /// Notes that it is logged in.
+    pub fn note_login(&mut self, login: Login) {
+        self.login = Some(login);
+    }
+
+    /// Returns its login, if it had one, which has ended.
+    pub fn end_login(&mut self) -> Option<Login> {
+        self.login.take()
+    }
+
+    /// Returns the address that it connected from, if the server was given bytes of it and hasn't offered it any since. If
+    /// the server then has the connection closed, a reload ended it or memory ran out at these bytes: for any other reason
+    /// it offers something first, a farewell or what can't be written.
     pub fn unanswered(&self) -> Option<IpAddr> {
         if self.is_unanswered {
             Some(self.address)

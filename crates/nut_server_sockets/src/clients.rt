@@ -6,6 +6,7 @@ ghost use Rattle.nut_io.specs.Writes.{IsWithin};
 use crate::client::Client;
 use crate::door::Guest;
 use crate::keepalive::keep_alive;
+use crate::login::Login;
 use crate::source::Source;
 use mio::event::Event;
 use mio::{Interest, Registry};
@@ -151,6 +152,28 @@ impl Clients {
         let key = self.keys.remove(&number)?;
         let client = self.sockets.try_remove(key)?;
         Some(client.address())
+    }
+
+    /// Returns the client of a connection.
+    fn client_mut(&mut self, number: u64) -> Option<&mut Client> {
+        let key = self.keys.get(&number).copied()?;
+        self.sockets.get_mut(key)
+    }
+
+    /// Notes that the client of a connection is logged in. Returns the login if the connection isn't open any more.
+    pub fn note_login(&mut self, number: u64, login: Login) -> Option<Login> {
+        match self.client_mut(number) {
+            Some(client) => {
+                client.note_login(login);
+                None
+            }
+            None => Some(login),
+        }
+    }
+
+    /// Returns the login of the client of a connection, if it had one, which has ended.
+    pub fn end_login(&mut self, number: u64) -> Option<Login> {
+        self.client_mut(number)?.end_login()
     }
 
     /// Closes the socket of a connection. Returns the address of its client if that is unanswered.

@@ -3,11 +3,13 @@
 ghost use Rattle.std.specs.Prelude.{length};
 ghost use Rattle.nut_io.specs.Writes.{IsWithin};
 
+use crate::report::Report;
 use mio::event::Event;
 use mio::net::UnixStream;
 use mio::{Interest, Registry, Token};
 use nut_io::{Piece, Written};
-use nut_poll::{Heard, Link, text_of};
+use nut_poll::{Heard, Link, Reports, text_of};
+use nut_server::Unread;
 use std::alloc::{AllocError, Global};
 use std::io::ErrorKind;
 use std::net::Net;
@@ -28,8 +30,12 @@ pub struct Driver {
     is_awaited: bool,
     /// Whether the data of the UPS were stale when that was last noted since the driver was connected.
     is_stale: bool,
-    /// Whether a shutdown of the UPS was forced when that was last noted.
+    /// Whether it was noted that a shutdown of the UPS is forced.
     is_forced: bool,
+    /// How many variables were reported about which its lines can't be read.
+    unread_told: usize,
+    /// Whether it was reported that there are more.
+    has_told_more: bool,
 }
 
 impl Driver {
@@ -55,6 +61,8 @@ impl Driver {
             is_awaited: false,
             is_stale: false,
             is_forced: false,
+            unread_told: 0,
+            has_told_more: false,
         })
     }
 
@@ -109,9 +117,21 @@ impl Driver {
         has_changed
     }
 
-    /// Notes whether a shutdown of the UPS was forced. Returns whether it was since that was last noted.
-    pub fn note_forced(&mut self, is_forced: bool) -> bool {
-        !mem::replace(&mut self.is_forced, is_forced) && is_forced
+    /// Notes that a shutdown of the UPS is forced. Returns whether that is new.
+    pub fn note_forced(&mut self) -> bool {
+        !mem::replace(&mut self.is_forced, true)
+    }
+
+    /// Reports the variables about which its lines can't be read, each once.
+    pub fn tell_unread(&mut self, unread: &Unread, reports: &mut Reports<'_>) {
+        for place in self.unread_told..unread.len() {
+            let variable = text_of(unread.name(place));
+            reports.warn(Report::Unread(self.name(), variable));
+        }
+        self.unread_told = unread.len();
+        if unread.has_more() && !mem::replace(&mut self.has_told_more, true) {
+            reports.warn(Report::UnreadMore(self.name()));
+        }
     }
 
     /// Makes clients wait until the driver says something, if it is connected.

@@ -1,9 +1,12 @@
 //! The world of a server over sockets: clients over TCP, and drivers on Unix sockets.
 #![tactic(auto)]
 
+mod audit;
 mod batches;
 mod client;
 mod clients;
+mod deed_report;
+mod denials;
 mod door;
 mod driver;
 mod drivers;
@@ -11,6 +14,7 @@ mod dual_stack;
 mod hindrances;
 mod keepalive;
 mod listeners;
+mod login;
 mod mio_world;
 mod reloader;
 mod report;

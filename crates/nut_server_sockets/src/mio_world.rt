@@ -58,7 +58,8 @@ impl<'r, 'e, R, L: Drop> Drop for MioWorld<'r, 'e, R, L> {
 
 impl<'r, 'e, R: Net + Clock, L: Reloader + Drop> MioWorld<'r, 'e, R, L> {
     /// Returns the world of these listeners and these drivers, which asks this reloader for new configurations. Reports
-    /// say when drivers come and go, what keeps clients out, and which connections are closed for lack of memory.
+    /// say when drivers come and go, what clients change, who logs in and out and who is refused, what keeps clients out,
+    /// and which connections are closed for lack of memory.
     ///
     /// # Errors
     ///

@@ -51,8 +51,11 @@ pub enum Report<'a> {
     Stale(&'a str),
     /// The data of a UPS is no longer stale.
     Fresh(&'a str),
-    /// A client forced a shutdown of a UPS (FSD).
-    Forced(&'a str),
+    /// The driver says something of a variable of a UPS that can't be read: the UPS, and the variable; empty if that isn't
+    /// known.
+    Unread(&'a str, &'a str),
+    /// The driver of a UPS says such things of more variables.
+    UnreadMore(&'a str),
     /// A client isn't let in, because MAXCONN, which is this, is reached.
     Full(usize),
     /// No client is let in until the next start, because this many were.
@@ -80,7 +83,11 @@ impl<'a> fmt::Display for Report<'a> {
             Report::Ended(name, end) => write!(f, "UPS {name}: driver {}", end.text()),
             Report::Stale(name) => write!(f, "UPS {name}: data is stale"),
             Report::Fresh(name) => write!(f, "UPS {name}: data is no longer stale"),
-            Report::Forced(name) => write!(f, "UPS {name}: shutdown is forced (FSD)"),
+            Report::Unread(name, variable) => put_unread(f, name, variable),
+            Report::UnreadMore(name) => write!(
+                f,
+                "UPS {name}: cannot read what its driver says of more variables"
+            ),
             Report::Full(most) => write!(f, "cannot let a client in: MAXCONN {most} is reached"),
             Report::Spent(most) => {
                 write!(
@@ -117,7 +124,21 @@ impl<'a> Leveled for Report<'a> {
             | Report::Spent(_)
             | Report::ShutOut(_)
             | Report::MadeWay(..)
+            | Report::Unread(..)
+            | Report::UnreadMore(_)
             | Report::Unanswered(_) => Level::Warning,
         }
+    }
+}
+
+/// Writes that the driver of a UPS says something of a variable that can't be read.
+fn put_unread<W: fmt::Write>(f: &mut fmt::Formatter<W>, name: &str, variable: &str) -> fmt::Result {
+    if variable.is_empty() {
+        write!(f, "UPS {name}: cannot read a line of its driver")
+    } else {
+        write!(
+            f,
+            "UPS {name}: cannot read what its driver says of {variable}"
+        )
     }
 }

@@ -6,6 +6,7 @@ ghost use Rattle.nut_server_loop.specs.Record.{MayCome};
 ghost use Rattle.nut_server_loop.specs.declared.types.Next.TheVariants as next;
 ghost use Rattle.nut_server_spec.specs.Content.{Content};
 
+use crate::audit::{Audit, left};
 use crate::clients::Clients;
 use crate::door::{Admission, Door, Guest, concerns_one};
 use crate::driver::Driver;
@@ -49,6 +50,7 @@ pub struct Sockets {
     door: Door,
     clients: Clients,
     hindrances: Hindrances,
+    audit: Audit,
     drivers: Drivers,
     /// Whether the reloader has still to be asked in this second.
     asks: bool,
@@ -77,6 +79,7 @@ impl Sockets {
         drivers: Drivers,
     ) -> io::Result<Sockets> {
         let stall = Stall::new(alloc)?;
+        let audit = Audit::new(alloc)?;
         let rounds = Rounds::new(rt, alloc, LISTENERS_MAX)?;
         let door = Door::new(rounds.registry(), listeners)?;
         Ok(Sockets {
@@ -84,6 +87,7 @@ impl Sockets {
             door,
             clients: Clients::new(alloc),
             hindrances: Hindrances::none(),
+            audit,
             drivers,
             asks: false,
             has_given: false,
@@ -95,8 +99,8 @@ impl Sockets {
         })
     }
 
-    /// Returns what comes next, after at most one wait. After each second silent clients come first, then a new
-    /// configuration, and then the drivers.
+    /// Reports what a client did by the last arrival, and returns what comes next, after at most one wait. After each
+    /// second silent clients come first, then a new configuration, and then the drivers.
     ///
     /// # Errors
     ///
@@ -110,6 +114,12 @@ impl Sockets {
         ensures may { IfOk result (λ n. MayCome n server.now) }
         ensures goes_on { IfOk result (λ n. n ≢ next.End) }
     {
+        self.audit.tell(
+            server,
+            &mut self.clients,
+            &mut self.drivers,
+            &mut services.reports,
+        );
         self.end_reload(server, &mut services.reloader, &mut services.reports);
         if let Some(number) = self.seat(server, &mut services.reports) {
             return Ok(Next::Close(number));
@@ -162,6 +172,9 @@ impl Sockets {
 
     /// Closes a connection, as the server wants it, and reports a lack of memory that is the reason.
     pub fn close(&mut self, number: u64, reports: &mut Reports<'_>) {
+        if let Some(login) = self.clients.end_login(number) {
+            self.audit.close(number, login, reports);
+        }
         let unanswered = self.clients.close(number);
         if !self.has_given
             && let Some(address) = unanswered
@@ -237,9 +250,17 @@ impl Sockets {
             self.sheds = false;
             return None;
         };
-        let _ = self.clients.close(silent.number);
         reports.tell(Report::Shed(silent.address, silent.seconds));
+        self.drop_client(silent.number, reports);
         Some(silent.number)
+    }
+
+    /// Closes the socket of a client that hasn't logged out, and reports that if it was logged in.
+    fn drop_client(&mut self, number: u64, reports: &mut Reports<'_>) {
+        if let Some(login) = self.clients.end_login(number) {
+            reports.tell(left(&login));
+        }
+        let _ = self.clients.close(number);
     }
 
     /// Returns a new configuration, if one is asked for in this second.
@@ -313,7 +334,7 @@ impl Sockets {
         match source {
             Source::Listener(i) => self.look_at_listener(server, i, reports),
             Source::Driver(u) => self.look_at_driver(u, piece, net, reports),
-            Source::Client(key) => self.look_at_client(server, key, piece),
+            Source::Client(key) => self.look_at_client(server, key, piece, reports),
         }
     }
 
@@ -413,7 +434,13 @@ impl Sockets {
     }
 
     /// Reads from a client that may be read, unless clients have to wait for the drivers.
-    fn look_at_client(&mut self, server: &Server, key: usize, piece: &mut Piece) -> Option<Next>
+    fn look_at_client(
+        &mut self,
+        server: &Server,
+        key: usize,
+        piece: &mut Piece,
+        reports: &mut Reports<'_>,
+    ) -> Option<Next>
         ensures may { IfSome result (λ n. MayCome n server.now) }
         ensures goes_on { IfSome result (λ n. n ≢ next.End) }
     {
@@ -435,7 +462,7 @@ impl Sockets {
                 Some(Next::Bytes(number))
             }
             Heard::End => {
-                let _ = self.clients.close(number);
+                self.drop_client(number, reports);
                 Some(Next::Close(number))
             }
         }
@@ -462,6 +489,7 @@ impl Sockets {
         self.moment = moment;
         self.clients.second();
         self.hindrances.second();
+        self.audit.second(reports);
         self.drivers.catch_up(server);
         self.tell_changes(server, reports);
         self.sheds = true;
@@ -477,13 +505,16 @@ impl Sockets {
         }
     }
 
-    /// Reports the UPSes of which a shutdown was forced in the last second, and those whose data have become stale since
-    /// then or are no longer stale. What passes within a second isn't told: the data of each driver are stale from its
+    /// Reports the UPSes whose data have become stale in the last second or are no longer stale, and what their drivers
+    /// said that can't be read. What passes within a second isn't told: the data of each driver are stale from its
     /// connection to the end of its first dump, and a driver that changed its mind with every line would fill the log.
     fn tell_changes(&mut self, server: &Server, reports: &mut Reports<'_>) {
         for u in 0..self.drivers.len() {
             if let Some(driver) = self.drivers.get_mut(u) {
-                tell_change(driver, server.is_stale(u), server.is_forced(u), reports);
+                tell_staleness(driver, server.is_stale(u), reports);
+                if let Some(unread) = server.unread(u) {
+                    driver.tell_unread(unread, reports);
+                }
             }
         }
     }
@@ -508,13 +539,10 @@ fn end_of(driver: &Driver, is_reload: bool) -> End {
     }
 }
 
-/// Reports what has become of the data of a UPS, and that a shutdown of it was forced.
-fn tell_change(driver: &mut Driver, is_stale: bool, is_forced: bool, reports: &mut Reports<'_>) {
+/// Reports what has become of the data of a UPS, if that is new.
+fn tell_staleness(driver: &mut Driver, is_stale: bool, reports: &mut Reports<'_>) {
     if driver.note_staleness(is_stale) {
         reports.tell(staleness(driver.name(), is_stale));
-    }
-    if driver.note_forced(is_forced) {
-        reports.warn(Report::Forced(driver.name()));
     }
 }
 

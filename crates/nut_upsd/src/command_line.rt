@@ -107,7 +107,11 @@ fn sockets<'a>(alloc: Global) -> Result<Arg<'a>, AllocError> {
 }
 
 fn quiet_upsd<'a>(alloc: Global) -> Result<Arg<'a>, AllocError> {
-    quiet_option(alloc, "Tell nothing of listeners, UPSes and drivers").conflicts_with("stdio")
+    quiet_option(
+        alloc,
+        "Tell nothing of listeners, UPSes, drivers and logins",
+    )
+    .conflicts_with("stdio")
 }
 
 fn check_upsd<'a>(alloc: Global) -> Result<Arg<'a>, AllocError> {

@@ -45,8 +45,9 @@ const ROOT: u32 = 0;
 /// NUT_CONFPATH or in `/etc/nut`, as a start does, and writes of them what a start writes. The status is 0 if they have
 /// no fault.
 ///
-/// The addresses listened on, the UPSes served, that it runs as root, drivers that connect and disconnect, and what a
-/// reload changes are written to `err`, a line each, but not with `-q`. Why nothing was reloaded, why a client can't be
+/// The addresses listened on, the UPSes served, that it runs as root, drivers that connect and disconnect, who logs in and
+/// out, and what a reload changes are written to `err`, a line each, but not with `-q`. Who set a variable, gave a command or
+/// forced a shutdown, who was refused, which lines of a driver can't be read, why nothing was reloaded, why a client can't be
 /// let in, that one is closed for lack of memory, and that everybody can read the passwords of upsd.users, is written even
 /// then.
 ///

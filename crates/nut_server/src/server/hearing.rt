@@ -53,11 +53,18 @@ impl Server {
             request,
             &mut self.line,
         );
+        let is_denied = answer.is_denial();
         put_answer(&mut self.scratch, &answer)?;
         self.connections
             .answer(at, self.scratch.as_slice(), &effect)?;
         effect.act(&mut self.devices, self.line.as_slice());
         self.given = effect.given_after(self.given);
+        self.deeds.note(
+            self.connections.at(at),
+            &effect,
+            self.line.as_slice(),
+            is_denied,
+        );
         Ok(())
     }
 

@@ -1,0 +1,100 @@
+//! What is reported of what clients do.
+
+use nut_log::{Level, Leveled};
+use std::fmt;
+
+/// A client: the user name that it gave, and its address.
+#[derive(Clone, Copy)]
+pub struct Who<'a> {
+    /// The user name.
+    pub user: &'a str,
+    /// The address.
+    pub address: &'a str,
+}
+
+impl<'a> fmt::Display for Who<'a> {
+    fn fmt<W: fmt::Write>(&self, f: &mut fmt::Formatter<W>) -> fmt::Result {
+        write!(f, "{}@{}", self.user, self.address)
+    }
+}
+
+/// Requests from one address that were refused as ACCESS-DENIED.
+#[derive(Clone, Copy)]
+pub struct Denial<'a> {
+    /// The address.
+    pub address: &'a str,
+    /// The user of the last of them; empty if upsd.users has no such user.
+    pub user: &'a str,
+    /// How many they are.
+    pub count: u64,
+}
+
+impl<'a> fmt::Display for Denial<'a> {
+    fn fmt<W: fmt::Write>(&self, f: &mut fmt::Formatter<W>) -> fmt::Result {
+        write!(f, "client {} refused as ", self.address)?;
+        if self.user.is_empty() {
+            write!(f, "an unknown user")?;
+        } else {
+            write!(f, "user {}", self.user)?;
+        }
+        write!(f, " (ACCESS-DENIED), requests: {}", self.count)
+    }
+}
+
+/// What a client did. A UPS comes by its name.
+#[derive(Drop)]
+pub enum DeedReport<'a> {
+    /// It had the driver of this UPS asked to set this variable.
+    Set(&'a str, Who<'a>, &'a str),
+    /// It had the driver of this UPS asked to run this command.
+    Command(&'a str, Who<'a>, &'a str),
+    /// It forced a shutdown of this UPS (FSD).
+    Forced(&'a str, Who<'a>),
+    /// It logged in to this UPS.
+    LoggedIn(&'a str, Who<'a>),
+    /// It was logged in to this UPS, and logged out.
+    LoggedOut(&'a str, Who<'a>),
+    /// It was logged in to this UPS, and its connection ended before it logged out.
+    Left(&'a str, Who<'a>),
+    /// Requests of clients at one address were refused.
+    Denied(Denial<'a>),
+    /// This many requests of clients at other addresses were refused.
+    DeniedElsewhere(u64),
+}
+
+impl<'a> fmt::Display for DeedReport<'a> {
+    fn fmt<W: fmt::Write>(&self, f: &mut fmt::Formatter<W>) -> fmt::Result {
+        match self {
+            DeedReport::Set(ups, who, variable) => {
+                write!(f, "UPS {ups}: {who} asked the driver to set {variable}")
+            }
+            DeedReport::Command(ups, who, command) => {
+                write!(f, "UPS {ups}: {who} asked the driver to run {command}")
+            }
+            DeedReport::Forced(ups, who) => {
+                write!(f, "UPS {ups}: shutdown is forced (FSD) by {who}")
+            }
+            DeedReport::LoggedIn(ups, who) => write!(f, "UPS {ups}: {who} logged in"),
+            DeedReport::LoggedOut(ups, who) => write!(f, "UPS {ups}: {who} logged out"),
+            DeedReport::Left(ups, who) => {
+                write!(f, "UPS {ups}: connection of {who} ended without LOGOUT")
+            }
+            DeedReport::Denied(denial) => write!(f, "{denial}"),
+            DeedReport::DeniedElsewhere(count) => write!(
+                f,
+                "clients at other addresses refused (ACCESS-DENIED), requests: {count}"
+            ),
+        }
+    }
+}
+
+impl<'a> Leveled for DeedReport<'a> {
+    fn level(&self) -> Level {
+        match self {
+            DeedReport::LoggedIn(..) | DeedReport::LoggedOut(..) => Level::Info,
+            DeedReport::Set(..) | DeedReport::Command(..) | DeedReport::Left(..) => Level::Notice,
+            DeedReport::Forced(..) | DeedReport::Denied(_) | DeedReport::DeniedElsewhere(_) =>
+                Level::Warning,
+        }
+    }
+}

@@ -1,0 +1,123 @@
+//! Requests that were refused as ACCESS-DENIED: at most one report in a second for each address.
+
+use crate::deed_report::{DeedReport, Denial};
+use crate::login::copied;
+use arrayvec::ArrayVec;
+use nut_poll::{Reports, text_of};
+use nut_server::Deed;
+use nut_server_spec::ADDRESS_MAX;
+use nut_words::CREDENTIAL_MAX;
+use std::alloc::{AllocError, Global};
+
+/// How many addresses are told apart in a second.
+const ADDRESSES_MAX: usize = 32;
+
+/// The requests of clients at one address that were refused.
+#[derive(Drop)]
+struct Denied {
+    /// The address; empty if this place is free.
+    address: ArrayVec<u8, ADDRESS_MAX>,
+    /// The user of the last of them; empty if upsd.users has no user of that name, which may be a password by mistake.
+    user: ArrayVec<u8, CREDENTIAL_MAX>,
+    /// How many weren't reported.
+    count: u64,
+}
+
+impl Denied {
+    /// Returns a place that is free.
+    fn none() -> Denied {
+        Denied {
+            address: ArrayVec::new(),
+            user: ArrayVec::new(),
+            count: 0,
+        }
+    }
+
+    /// Counts a request.
+    fn count(&mut self, user: &[u8]) {
+        self.user = copied(user);
+        self.count = self.count.saturating_add(1);
+    }
+
+    /// Reports those that weren't, if there are any. Returns whether there were.
+    fn tell(&mut self, reports: &mut Reports<'_>) -> bool {
+        if self.count == 0 {
+            return false;
+        }
+        reports.warn(DeedReport::Denied(Denial {
+            address: text_of(self.address.as_slice()),
+            user: text_of(self.user.as_slice()),
+            count: self.count,
+        }));
+        self.count = 0;
+        true
+    }
+}
+
+/// The requests that were refused as ACCESS-DENIED in this second, by address.
+///
+/// The first one from an address is reported at once. Those that follow within the same second are counted, and reported
+/// when it is over. An address without one for a second is forgotten. Beyond a number of addresses all others count as
+/// one, so strangers can't use up memory or fill a log.
+#[derive(Drop)]
+pub struct Denials {
+    by_address: Vec<Denied>,
+    /// How many were refused at addresses that aren't told apart.
+    elsewhere: u64,
+}
+
+impl Denials {
+    /// Returns the state before any request, with room for all addresses that are told apart.
+    ///
+    /// # Errors
+    ///
+    /// [`AllocError`] if memory cannot be allocated.
+    pub fn new(alloc: Global) -> Result<Denials, AllocError> {
+        let mut by_address = Vec::with_capacity(alloc, ADDRESSES_MAX)?;
+        for _ in 0..ADDRESSES_MAX {
+            by_address.push(Denied::none())?;
+        }
+        Ok(Denials {
+            by_address,
+            elsewhere: 0,
+        })
+    }
+
+    /// Notes a request that was refused. `user` is empty if upsd.users has no such user.
+    pub fn note(&mut self, deed: &Deed, user: &[u8], reports: &mut Reports<'_>) {
+        let address = deed.address.as_slice();
+        for denied in self.by_address.iter_mut() {
+            if denied.address.as_slice() == address {
+                denied.count(user);
+                return;
+            }
+        }
+        self.add(address, user, reports);
+    }
+
+    /// Notes the first request from an address, and reports it if there is a free place for the address.
+    fn add(&mut self, address: &[u8], user: &[u8], reports: &mut Reports<'_>) {
+        for denied in self.by_address.iter_mut() {
+            if denied.address.is_empty() {
+                denied.address = copied(address);
+                denied.count(user);
+                let _ = denied.tell(reports);
+                return;
+            }
+        }
+        self.elsewhere = self.elsewhere.saturating_add(1);
+    }
+
+    /// Ends a second: reports what was refused in it and wasn't reported.
+    pub fn second(&mut self, reports: &mut Reports<'_>) {
+        for denied in self.by_address.iter_mut() {
+            if !denied.tell(reports) {
+                denied.address.clear();
+            }
+        }
+        if self.elsewhere > 0 {
+            reports.warn(DeedReport::DeniedElsewhere(self.elsewhere));
+            self.elsewhere = 0;
+        }
+    }
+}

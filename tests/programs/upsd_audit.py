@@ -1,0 +1,472 @@
+#!/usr/bin/env python3
+"""What upsd tells its operator of clients and drivers: who set a variable, gave a command, forced a shutdown, logged in and out,
+who was refused, and which lines of a driver can't be read.
+
+    python3 -m tests.programs.upsd_audit UPSD DUMMY_UPS
+
+The last line is 'N passed, M failed'."""
+
+import os
+import re
+import signal
+import socket
+import struct
+import sys
+import tempfile
+import time
+
+from tests.support.harness import ensure, expect, run_tests
+from tests.support.room import Client, Lines, ONLINE, Room, STATUS, accepted, stopped, until
+
+UPS = "upsd: UPS su700: "
+ADMIN, MON = "admin@127.0.0.1", "mon@127.0.0.1"
+SET_ID = f"{UPS}{ADMIN} asked the driver to set ups.id"
+RUN_OFF = f"{UPS}{ADMIN} asked the driver to run load.off"
+FORCED = f"{UPS}shutdown is forced (FSD) by {MON}"
+LOGGED_IN, LOGGED_OUT = f"{UPS}{MON} logged in", f"{UPS}{MON} logged out"
+LEFT = f"{UPS}connection of {MON} ended without LOGOUT"
+UNREAD = f"{UPS}cannot read what its driver says of "
+
+# passwords and values that show nowhere else
+USERS = (
+    b"[admin]\npassword = first-pass\nactions = SET\ninstcmds = ALL\n"
+    b"[mon]\npassword = second-pass\nupsmon primary\n"
+)
+SECRETS = ("first-pass", "second-pass", "wrong-pass", "mistyped", "hidden-value", "hidden-parameter")
+
+# the lines that tell of clients, and those that are told of refusals
+OF_CLIENTS = re.compile(r".*( asked the driver to |\(FSD\)| logged (in|out)$|without LOGOUT$|\(ACCESS-DENIED\))")
+REFUSED = re.compile(r"upsd: clients? (\S+) .*refused.* \(ACCESS-DENIED\), requests: (\d+)$")
+
+
+class Source(Client):
+    """A client that connects from an address of its own."""
+
+    def __init__(self, room, address):
+        self.socket = socket.create_connection((room.host, room.port), 10, (address, 0))
+        self.file = self.socket.makefile("rb")
+
+
+class Audited(Room):
+    """A room whose passwords show nowhere else, and the lines that its upsd writes."""
+
+    def serve(self, *words, **options):
+        with open(self.path("upsd.users"), "wb") as file:
+            file.write(USERS)
+        self.said = Lines(self.upsd(*words, **options))
+
+    def admin(self):
+        client = self.client()
+        client.log_in(b"admin", b"first-pass")
+        return client
+
+    def mon(self):
+        client = self.client()
+        client.log_in(b"mon", b"second-pass")
+        return client
+
+    def told(self):
+        """Returns the lines that tell of clients."""
+        return [line for line in self.said.lines if OF_CLIENTS.match(line)]
+
+    def expect_told(self, wanted, what):
+        """Waits until as many lines tell of clients, and compares them. No secret may show."""
+        until(lambda: len(self.told()) >= len(wanted), f"{what}: {wanted} in {self.said.lines}")
+        expect(self.told(), wanted, what)
+        for secret in SECRETS:
+            ensure(not any(secret in line for line in self.said.lines), f"{what}: {secret} shows in {self.said.lines}")
+
+
+def refusals(lines):
+    """Returns the address and the count of each line that tells of refusals, in turn."""
+    found = [REFUSED.match(line) for line in lines]
+    return [(it[1], int(it[2])) for it in found if it]
+
+
+class Tests:
+    def __init__(self, upsd, dummy, folder):
+        self.programs = (upsd, dummy)
+        self.folder = folder
+
+    def room(self, **texts):
+        return Audited(self.programs, self.folder, **texts)
+
+    # From here on, each method whose name begins with 'test_' is a test.
+
+    def test_what_changes_something(self):
+        """Each request that a driver is handed, whether or not the reports are to be quiet."""
+        for words in ((), ("-q",)):
+            with self.room() as room:
+                driver = room.dummy()
+                room.serve(*words)
+                room.until(STATUS, ONLINE)
+                with room.admin() as client:
+                    expect(client.ask(b"SET VAR su700 ups.id hidden-value\n"), b"OK\n", "SET")
+                    expect(client.ask(b"INSTCMD su700 load.off\n"), b"OK\n", "INSTCMD")
+                    expect(client.ask(b"INSTCMD su700 load.off hidden-parameter\n"), b"OK\n", "INSTCMD with a parameter")
+                    client.track()
+                    expect(client.ask(b"SET VAR su700 ups.id hidden-value\n"), b"OK TRACKING 1\n", "SET that is tracked")
+                    # a driver that is slow to take it has been handed it all the same
+                    with stopped(driver):
+                        expect(client.ask(b"INSTCMD su700 load.off\n"), b"OK TRACKING 2\n", "INSTCMD to a driver that stands still")
+                        room.expect_told([SET_ID, RUN_OFF, RUN_OFF, SET_ID, RUN_OFF], f"with {words}")
+
+    def test_it_is_told_at_once(self):
+        with self.room() as room:
+            room.dummy()
+            room.serve()
+            room.until(STATUS, ONLINE)
+            with room.admin() as client:
+                begun = time.monotonic()
+                for i in range(1, 21):
+                    expect(client.ask(b"SET VAR su700 ups.id %d\n" % i), b"OK\n", "SET")
+                    until(lambda: room.said.count(SET_ID) == i, f"line {i}", pause=0.001)
+                took = time.monotonic() - begun
+                ensure(took < 10, f"20 requests were told one after the other in {took:.1f} s, as if each waited for the next second")
+
+    def test_what_is_refused_is_not_told_as_done(self):
+        with self.room() as room:
+            driver = room.dummy()
+            room.serve()
+            room.until(STATUS, ONLINE)
+            with room.admin() as client:
+                for request, answer in (
+                    (b"SET VAR su700 ups.status x\n", b"ERR READONLY\n"),
+                    (b"SET VAR su700 no.such x\n", b"ERR VAR-NOT-SUPPORTED\n"),
+                    (b"SET VAR none ups.id x\n", b"ERR UNKNOWN-UPS\n"),
+                    (b"SET VAR su700 ups.id\n", b"ERR INVALID-ARGUMENT\n"),
+                    (b"INSTCMD su700 no.such\n", b"ERR CMD-NOT-SUPPORTED\n"),
+                    (b"SET TRACKING ON\n", b"OK\n"),
+                    (b"PRIMARY none\n", b"ERR UNKNOWN-UPS\n"),
+                    (b"LOGOUT now\n", b"ERR INVALID-ARGUMENT\n"),
+                ):
+                    expect(client.ask(request), answer, f"{request}")
+                driver.kill()
+                until(lambda: client.ask(STATUS) == b"ERR DRIVER-NOT-CONNECTED\n", "no driver")
+                expect(client.ask(b"SET VAR su700 ups.id x\n"), b"ERR DRIVER-NOT-CONNECTED\n", "SET without a driver")
+            with room.client() as client:
+                expect(client.ask(b"FSD su700\n"), b"ERR USERNAME-REQUIRED\n", "FSD without a name")
+            with room.mon() as client:
+                expect(client.ask(b"LOGIN none\n"), b"ERR UNKNOWN-UPS\n", "LOGIN")
+            time.sleep(1.5)
+            room.expect_told([], "refused requests")
+
+    def test_a_full_queue(self):
+        with self.room(conf=b"MAXAGE 86400\n") as room, room.driver() as listener:
+            room.serve()
+            with accepted(listener) as driver:
+                driver.sendall(b'SETINFO ups.id "x"\nSETFLAGS ups.id RW STRING\nSETAUX ups.id 512\nDATAOK\nDUMPDONE\n')
+                room.until(b"GET VAR su700 ups.id\n", b'VAR su700 ups.id "x"\n')
+                with room.admin() as client:
+                    request, answers = b"SET VAR su700 ups.id " + b"y" * 512 + b"\n", []
+                    while answers[-3:] != [b"ERR SET-FAILED\n"] * 3:
+                        answers.append(client.ask(request))
+                    room.expect_told([SET_ID] * answers.count(b"OK\n"), "a line for each that was taken, and none for the others")
+
+    def test_logins(self):
+        with self.room() as room:
+            room.dummy()
+            room.serve()
+            room.until(STATUS, ONLINE)
+            with room.mon() as client:
+                expect(client.ask(b"LOGIN su700\n"), b"OK\n", "LOGIN")
+                expect(client.ask(b"LOGIN su700\n"), b"ERR ALREADY-LOGGED-IN\n", "LOGIN again")
+                expect(client.ask(b"LOGOUT\n"), b"OK Goodbye\n", "LOGOUT")
+                room.expect_told([LOGGED_IN, LOGGED_OUT], "LOGIN and LOGOUT")
+            with room.mon() as client:
+                expect(client.ask(b"LOGIN su700\n"), b"OK\n", "LOGIN")
+            room.expect_told([LOGGED_IN, LOGGED_OUT, LOGGED_IN, LEFT], "a connection that ends")
+            with room.mon() as client:
+                expect(client.ask(b"LOGOUT\n"), b"OK Goodbye\n", "LOGOUT without LOGIN")
+            with room.mon() as client:
+                expect(client.ask(b"VER\n")[:3], b"Net", "VER")
+            time.sleep(0.5)
+            room.expect_told([LOGGED_IN, LOGGED_OUT, LOGGED_IN, LEFT], "clients that weren't logged in")
+
+    def test_connections_that_are_reset(self):
+        """Whatever becomes of the answers, each LOGIN and its end is told, and LOGOUT as what it is."""
+        with self.room() as room:
+            room.dummy()
+            room.serve()
+            room.until(STATUS, ONLINE)
+            wanted = []
+            for last, end in ((b"", LEFT), (b"LOGOUT\n", LOGGED_OUT)):
+                for _ in range(20):
+                    client = room.mon()
+                    # it is reset once it is closed
+                    client.socket.setsockopt(socket.SOL_SOCKET, socket.SO_LINGER, struct.pack("ii", 1, 0))
+                    expect(client.ask(b"LOGIN su700\n"), b"OK\n", "LOGIN")
+                    client.send(b"VER\n" * 5 + last)
+                    if last:
+                        # what was sent arrives before the reset
+                        room.said.next(LOGGED_IN)
+                        room.said.next(LOGGED_OUT)
+                    client.close()
+                    wanted += [LOGGED_IN, end]
+                    room.expect_told(wanted, f"reset after {last!r}")
+
+    def test_clients_that_do_not_stay(self):
+        """Clients that are gone before they are answered: each request that the driver gets is told, and no other."""
+        with self.room(conf=b"MAXAGE 86400\n") as room, room.driver() as listener:
+            room.serve()
+            with accepted(listener) as driver, driver.makefile("rb") as asked:
+                driver.sendall(b'SETINFO ups.status "OL"\nSETINFO ups.id "x"\nDATAOK\n')
+                driver.sendall(b"SETFLAGS ups.id RW STRING\nSETAUX ups.id 9\nDUMPDONE\n")
+                room.until(STATUS, ONLINE)
+                for i in range(40):
+                    with room.client() as client:
+                        client.send(b"USERNAME admin\nPASSWORD first-pass\nSET VAR su700 ups.id %d\n" % i + b"VER\n" * (i % 3))
+                with room.admin() as client:
+                    expect(client.ask(b"SET VAR su700 ups.id last\n"), b"OK\n", "the last")
+                got = []
+                while b'SET ups.id "last"\n' not in got:
+                    got.append(asked.readline())
+                time.sleep(0.5)
+                wanted = [SET_ID] * sum(line.startswith(b"SET ") for line in got)
+                room.expect_told(wanted, "what the driver got")
+                ensure(len(wanted) > 1, "no client was heard in time")
+
+    def test_clients_that_end_behind_their_requests(self):
+        with self.room() as room:
+            room.dummy()
+            room.serve()
+            room.until(STATUS, ONLINE)
+            for _ in range(10):
+                with room.client() as client:
+                    client.send(b"USERNAME mon\nPASSWORD second-pass\nLOGIN su700\nLOGOUT\n")
+                    client.socket.shutdown(socket.SHUT_WR)
+                    expect(client.file.read(), b"OK\n" * 3 + b"OK Goodbye\n", "the answers")
+            room.expect_told([LOGGED_IN, LOGGED_OUT] * 10, "LOGIN and LOGOUT in turn")
+
+    def test_several_lines_at_once(self):
+        done = (
+            b"GET VAR su700 ups.id\n",
+            b"SET VAR su700 ups.id hidden-value\n",
+            b" \tset var su700 ups.id hidden-value\n",
+            b'"SET" VAR su700 ups.id x\n',
+            b"INSTCMD su700 load.off\n",
+            b"instcmd su700 load.off\n",
+            b"VER\n",
+            b"SET VAR su700 ups.status x\n",
+            b"SET VAR su700 ups.id x\n",
+            b"LOGOUT\n",
+        )
+        watched = (b"GET VAR su700 ups.id\n", b"LOGIN su700\n", b"VER\n", b"FSD su700\n", b"\tFSD su700\n", b"LOGOUT\n", b"FSD su700\n")
+        with self.room() as room:
+            room.dummy()
+            room.serve()
+            room.until(STATUS, ONLINE)
+            with room.client() as client:
+                client.send(b"USERNAME admin\nPASSWORD first-pass\n" + b"".join(done))
+                answers = client.file.read().splitlines()
+                expect((len(answers), answers.count(b"OK"), answers[-1]), (12, 8, b"OK Goodbye"), "the answers")
+            wanted = [SET_ID] * 3 + [RUN_OFF] * 2 + [SET_ID]
+            room.expect_told(wanted, "requests at once")
+            with room.client() as client:
+                client.send(b"USERNAME mon\nPASSWORD second-pass\n" + b"".join(watched))
+                expect(client.file.read().splitlines()[-1], b"OK Goodbye", "the answers of a monitor")
+            room.expect_told([*wanted, LOGGED_IN, FORCED, LOGGED_OUT], "what a monitor does at once")
+
+    def test_a_line_that_comes_byte_by_byte(self):
+        with self.room() as room:
+            room.dummy()
+            room.serve()
+            room.until(STATUS, ONLINE)
+            with room.admin() as client:
+                client.socket.setsockopt(socket.IPPROTO_TCP, socket.TCP_NODELAY, 1)
+                for line in (b"SET VAR su700 ups.id hidden-value\n", b"INSTCMD su700 load.off\n"):
+                    for byte in line:
+                        client.send(bytes([byte]))
+                        time.sleep(0.002)
+                    expect(client.line(), b"OK\n", f"{line}")
+                # cut into two pieces at each place
+                line = b"INSTCMD su700 load.off\nSET VAR su700 ups.id x\n"
+                for at in range(1, len(line)):
+                    client.send(line[:at])
+                    time.sleep(0.002)
+                    client.send(line[at:])
+                    expect([client.line(), client.line()], [b"OK\n"] * 2, f"{line}, cut at {at}")
+            room.expect_told([SET_ID, RUN_OFF] + [RUN_OFF, SET_ID] * (len(line) - 1), "lines that were cut")
+
+    def test_many_requests_at_once(self):
+        """Requests between a great many others, in pieces that end anywhere."""
+        with self.room(conf=b"MAXAGE 86400\n") as room:
+            room.dummy()
+            room.serve()
+            room.until(STATUS, ONLINE)
+            with room.admin() as client:
+                part = b"VER\n" * 7 + b"INSTCMD su700 load.off\n" + b"GET VAR su700 ups.id\n" * 3 + b"SET VAR su700 ups.id x\n"
+                for _ in range(20):
+                    client.send(part * 5)
+                    answers = [client.line() for _ in range(5 * 12)]
+                    expect(answers.count(b"OK\n"), 10, f"{answers}")
+            room.expect_told([RUN_OFF, SET_ID] * 100, "each in turn")
+
+    def test_who_forced_a_shutdown(self):
+        """Only the first FSD changes something, and has a line; with -q, too."""
+        for words in ((), ("-q",)):
+            with self.room() as room:
+                room.dummy()
+                room.serve(*words)
+                room.until(STATUS, ONLINE)
+                with room.mon() as client:
+                    for _ in range(3):
+                        expect(client.ask(b"FSD su700\n"), b"OK FSD-SET\n", "FSD")
+                time.sleep(1.5)
+                room.expect_told([FORCED], f"FSD with {words}")
+
+    def test_logins_are_not_told_to_the_quiet(self):
+        with self.room() as room:
+            room.dummy()
+            room.serve("-q")
+            room.until(STATUS, ONLINE)
+            with room.mon() as client:
+                expect(client.ask(b"LOGIN su700\n"), b"OK\n", "LOGIN")
+            with room.mon() as client:
+                expect(client.ask(b"LOGIN su700\n"), b"OK\n", "LOGIN")
+                expect(client.ask(b"LOGOUT\n"), b"OK Goodbye\n", "LOGOUT")
+            time.sleep(0.5)
+            expect(room.said.lines, [], "what is told")
+
+    def test_a_reload_that_ends_logins(self):
+        with self.room(ups=b"[su700]\n[other]\n") as room:
+            room.dummy()
+            room.serve()
+            room.until(STATUS, ONLINE)
+            clients = [room.mon() for _ in range(3)]
+            for client in clients:
+                expect(client.ask(b"LOGIN su700\n"), b"OK\n", "LOGIN")
+            with open(room.path("ups.conf"), "wb") as file:
+                file.write(b"[other]\n")
+            open(room.path("reload"), "w").close()
+            for client in clients:
+                ensure(client.is_closed(), "a client of a UPS that is gone")
+                client.close()
+            room.expect_told([LOGGED_IN] * 3 + [LEFT] * 3, "logins that a reload ends")
+
+    def refuse(self, client, times):
+        """Has requests of a client refused."""
+        client.send(b"LOGIN su700\n" * times)
+        expect([client.line() for _ in range(times)], [b"ERR ACCESS-DENIED\n"] * times, "LOGIN")
+
+    def test_refused_passwords(self):
+        """At most a line a second and address, the first at once, and all are counted."""
+        for words in ((), ("-q",)):
+            with self.room() as room:
+                room.dummy()
+                room.serve(*words)
+                room.until(STATUS, ONLINE)
+                begun = time.monotonic()
+                with room.client() as client:
+                    client.log_in(b"mon", b"wrong-pass")
+                    self.refuse(client, 50)
+                    first = "upsd: client 127.0.0.1 refused as user mon (ACCESS-DENIED), requests: 1"
+                    expect(room.said.next("upsd: client "), first, "the first")
+                    expect(client.ask(b"PRIMARY su700\n"), b"ERR ACCESS-DENIED\n", "PRIMARY")
+                    expect(client.ask(b"FSD su700\n"), b"ERR ACCESS-DENIED\n", "FSD")
+                    expect(client.ask(b"SET VAR su700 ups.id hidden-value\n"), b"ERR ACCESS-DENIED\n", "SET")
+                    expect(client.ask(b"INSTCMD su700 load.off\n"), b"ERR ACCESS-DENIED\n", "INSTCMD")
+                until(lambda: sum(count for _, count in refusals(room.said.lines)) >= 54, "all of them")
+                took = time.monotonic() - begun
+                # in a later second the next one is told at once again
+                time.sleep(2.5)
+                with room.client() as client:
+                    client.log_in(b"mistyped", b"wrong-pass")
+                    self.refuse(client, 1)
+                unknown = "upsd: client 127.0.0.1 refused as an unknown user (ACCESS-DENIED), requests: 1"
+                room.said.next(unknown)
+                found = refusals(room.said.lines)
+                expect(sum(count for _, count in found), 55, f"the sum of {found}")
+                ensure(len(found) <= took + 3, f"{len(found)} lines in {took:.1f} s: {found}")
+                ensure(not any("mistyped" in line or "-pass" in line for line in room.said.lines), f"a secret shows: {room.said.lines}")
+
+    def test_a_user_without_the_right(self):
+        with self.room() as room:
+            room.dummy()
+            room.serve()
+            room.until(STATUS, ONLINE)
+            with room.mon() as client:
+                expect(client.ask(b"INSTCMD su700 load.off\n"), b"ERR ACCESS-DENIED\n", "INSTCMD of a monitor")
+            room.expect_told(["upsd: client 127.0.0.1 refused as user mon (ACCESS-DENIED), requests: 1"], "a user without the right")
+
+    def test_refusals_of_many_addresses(self):
+        """Each address has its own count, up to a number of addresses."""
+        with self.room() as room:
+            room.dummy()
+            room.serve()
+            room.until(STATUS, ONLINE)
+            clients = [Source(room, f"127.0.1.{i}") for i in range(1, 41)]
+            for client in clients:
+                client.log_in(b"mon", b"wrong-pass")
+            for client in clients:
+                client.send(b"LOGIN su700\n")
+            for client in clients:
+                expect(client.line(), b"ERR ACCESS-DENIED\n", "LOGIN")
+                client.close()
+            until(lambda: sum(count for _, count in refusals(room.said.lines)) == 40, "all are counted")
+            found = refusals(room.said.lines)
+            others = sum(count for address, count in found if address == "at")
+            ensure(others <= 8, f"{others} of 40 aren't told by their address: {found}")
+            # nothing of them is left after some seconds
+            time.sleep(2.5)
+            with Source(room, "127.0.2.1") as client:
+                client.log_in(b"mon", b"wrong-pass")
+                self.refuse(client, 1)
+            room.said.next("upsd: client 127.0.2.1 refused as user mon (ACCESS-DENIED), requests: 1")
+
+    def test_lines_of_a_driver_that_cannot_be_read(self):
+        """A value with a quote that isn't escaped: the earlier one stays until the driver connects again, and that is told once."""
+        for words in ((), ("-q",)):
+            with self.room(conf=b"MAXAGE 86400\n") as room, room.driver() as listener:
+                room.serve(*words)
+                with accepted(listener) as driver:
+                    driver.sendall(b'SETINFO ups.status "OL"\nSETINFO ups.id "old"\nDATAOK\nDUMPDONE\n')
+                    room.until(STATUS, ONLINE)
+                    for _ in range(2):
+                        driver.sendall(b'SETINFO ups.id "hidden-value"b"\nSETINFO ups.model "" ""\n')
+                        time.sleep(1.2)
+                    driver.sendall(b'SETINFO ups.status "OB"\n')
+                    room.until(STATUS, b'VAR su700 ups.status "OB"\n')
+                    expect(room.ask(b"GET VAR su700 ups.id\n"), b'VAR su700 ups.id "old"\n', "the earlier value")
+                with accepted(listener) as driver:
+                    driver.sendall(b'SETINFO ups.status "OL"\nSETINFO ups.id "a\\"b"\nDATAOK\nDUMPDONE\n')
+                    room.until(b"GET VAR su700 ups.id\n", b'VAR su700 ups.id "a\\"b"\n')
+                    driver.sendall(b'SETINFO ups.id "hidden-value"b"\n')
+                    time.sleep(1.5)
+                found = [line for line in room.said.lines if "cannot read" in line]
+                expect(found, [UNREAD + "ups.id", UNREAD + "ups.model"], f"with {words}")
+                ensure(not any("hidden-value" in line for line in room.said.lines), f"a value shows: {room.said.lines}")
+
+    def test_many_lines_of_a_driver_that_cannot_be_read(self):
+        nameless, more = f"{UPS}cannot read a line of its driver", f"{UPS}cannot read what its driver says of more variables"
+        with self.room(conf=b"MAXAGE 86400\n") as room, room.driver() as listener:
+            room.serve()
+            with accepted(listener) as driver:
+                driver.sendall(b'SETINFO ups.status "OL"\nDATAOK\nDUMPDONE\n')
+                room.until(STATUS, ONLINE)
+                # what isn't known or blank, or needs no reading, is no matter
+                driver.sendall(b"\n  \nNEWS of a later driver\nPONG\nDATAOK\n")
+                time.sleep(1.2)
+                # a control byte, a byte that isn't ASCII, a line that is too long, a name that is none
+                driver.sendall(b'SETINFO ups.temperature "21 \xc2\xb0C"\n\x1b[2J\n' + b"x" * 3000 + b"\n")
+                driver.sendall(b'SETINFO \x1b[2J "x"\nSETINFO "ups.mfr" "a"b"\n')
+                until(lambda: room.said.count(nameless) == 1, "a line without a name")
+                for i in range(20):
+                    driver.sendall(b'SETINFO outlet.%d.desc "a"b"\n' % i)
+                until(lambda: room.said.count(more) == 1, "more of them")
+                driver.sendall(b'SETINFO outlet.99.desc "a"b"\n' * 1000)
+                time.sleep(1.5)
+            found = [line for line in room.said.lines if "cannot read" in line]
+            expect(found[:3], [UNREAD + "ups.temperature", nameless, UNREAD + "outlet.0.desc"], "the first")
+            expect((len(found), found[-1]), (9, more), f"a number of variables, and once that there are more: {found}")
+
+
+def main():
+    programs, names = map(os.path.abspath, sys.argv[1:3]), sys.argv[3:]
+    signal.signal(signal.SIGPIPE, signal.SIG_IGN)
+    with tempfile.TemporaryDirectory() as folder:
+        return run_tests(Tests(*programs, folder), names, at_once=4)
+
+
+if __name__ == "__main__":
+    sys.exit(main())
