@@ -119,7 +119,6 @@ impl<'a> Leveled for Report<'a> {
             Report::NotListening(..)
             | Report::Missed(..)
             | Report::Stale(_)
-            | Report::Forced(_)
             | Report::Full(_)
             | Report::Spent(_)
             | Report::ShutOut(_)
