@@ -401,6 +401,20 @@ class Tests:
         with open(path, "rb") as output:
             expect(output.read(), VARIABLES[:10], "what it took")
 
+    def test_streams_that_are_closed(self):
+        """The connection takes the place of none of them, so that the server is sent nothing but queries."""
+        self.server.whole()
+        for tool, arguments, queries, output in GOOD:
+            what = f"{tool} {' '.join(arguments)}"
+            failed = (1, b"", OUTPUT_FAILED) if output else (0, b"", b"")
+            for closed, end in (((0,), (0, output, b"")), ((1,), failed), ((2,), (0, output, b"")), ((0, 1), failed), ((0, 1, 2), (failed[0], b"", b""))):
+                found = self.run(tool, arguments, preexec_fn=lambda closed=closed: [os.close(it) for it in closed])
+                expect(found, end, f"{what} without the streams {closed}")
+                expect(self.heard(), queries, f"the queries of {what} without the streams {closed}")
+        for closed in ((2,), (0, 2), (0, 1, 2)):
+            found = self.run("upsc", ["stale@AT"], preexec_fn=lambda closed=closed: [os.close(it) for it in closed])
+            expect((found, self.heard()), ((1, b"", b""), [b"LIST VAR stale"]), f"a refusal without the streams {closed}")
+
     def test_words_that_are_no_text(self):
         for tool in ("upsc", "upsrw", "upscmd"):
             expect(self.run(tool, [b"su700\xff"]), (2, b"", b"Error: bad arguments\n"), f"{tool} with a word that is no text")

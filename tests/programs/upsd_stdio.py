@@ -157,6 +157,19 @@ class Tests(Shimmed):
         env = refusal(self.shim, "short-write", 1)
         expect(self.run(ROOM, asked, env), (0, due, b""), "written byte by byte")
 
+    def test_streams_that_are_closed(self):
+        """Nothing that is opened takes the place of one: a closed stream fails as a broken one does."""
+        for args in (ROOM, EXAMPLES):
+            for closed, end in (
+                ((0,), (1, b"", b"upsd: input failed\n")),
+                ((1,), (1, b"", b"upsd: output failed\n")),
+                ((2,), (0, VERSION, b"")),
+                ((1, 2), (1, b"", b"")),
+                ((0, 1, 2), (1, b"", b"")),
+            ):
+                found = self.run(args, b"VER\n", preexec_fn=lambda closed=closed: [os.close(it) for it in closed])
+                expect(found, end, f"{args} without the streams {closed}")
+
     def test_unfinished_line(self):
         expect(self.run(ROOM, b"VER"), (0, b"", b""), "a line without its line feed")
         expect(self.run(ROOM, b"VER\nVER"), (0, VERSION, b""), "the line before is answered")
