@@ -17,7 +17,7 @@ import sys
 import tempfile
 import time
 
-from tests.support.harness import ROOT, Failed, cannot_read, ensure, expect, refusals, refusing, run_tests
+from tests.support.harness import ROOT, VERSION_SHOWN, Failed, cannot_read, ensure, expect, refusals, refusing, run_tests
 from tests.support.model import Config, User, quoted
 from tests.support.player import conf_steps
 from tests.rehearsals.server import greatest_memory
@@ -427,7 +427,7 @@ class Tests:
             done = subprocess.run([self.program, *words], capture_output=True, timeout=60)
             expect((done.returncode, done.stdout), (status, b""), words)
             ensure(b"Usage: nutsim" in done.stderr, f"{words}: {done.stderr!r}")
-        for word, text in (("--help", b"Usage: nutsim <DIR> <SCHEDULE> <MONCONF>..."), ("--version", b"nutsim profile 1.3")):
+        for word, text in (("--help", b"Usage: nutsim <DIR> <SCHEDULE> <MONCONF>..."), ("--version", f"nutsim {VERSION_SHOWN}\n".encode())):
             done = subprocess.run([self.program, word], capture_output=True, timeout=60)
             expect((done.returncode, done.stderr), (0, b""), word)
             ensure(text in done.stdout, f"{word}: {done.stdout!r}")

@@ -16,7 +16,7 @@ import threading
 import time
 from concurrent import futures
 
-from tests.support.harness import Failed, build_shim, ensure, expect, refusals, run_tests
+from tests.support.harness import NUTS_OPTIONS, VERSION_SHOWN, Failed, build_shim, ensure, expect, refusals, run_tests
 from tests.support.model import LINE_MAX
 
 # every byte that a value may have
@@ -424,7 +424,7 @@ class Tests:
             status, output, text = self.run(tool, [option, "su700@AT"])
             expect((status, output, text != b""), (2, b"", True), f"{tool} {option}")
         for tool in ("upsc", "upsrw", "upscmd"):
-            expect(self.run(tool, ["--version"]), (0, f"{tool} profile 1.3\n".encode(), b""), f"{tool} --version")
+            expect(self.run(tool, ["--version"]), (0, f"{tool} {VERSION_SHOWN}\n".encode(), b""), f"{tool} --version")
             status, output, text = self.run(tool, ["--help"])
             expect((status, tool.encode() in output, text), (0, True, b""), f"{tool} --help")
 

@@ -14,7 +14,7 @@ import subprocess
 import sys
 import tempfile
 
-from tests.support.harness import cannot_read, children_time, expect, Failed, Missing, refusal, refusals, ROOT, run_tests, Shimmed, unread
+from tests.support.harness import cannot_read, children_time, expect, Failed, Missing, NUTS_OPTIONS, refusal, refusals, ROOT, run_tests, Shimmed, unread, VERSION_SHOWN
 from tests.support.room import VERSION, until
 
 ROOM = ["--stdio", "--ups", "su700=Server room"]
@@ -241,7 +241,7 @@ class Tests(Shimmed):
         expect(b"cannot be used with" in err, True, f"what --stdio -q gives: {err}")
         invalid = b"error: invalid UTF-8 was detected in one or more arguments\n"
         expect(self.run([b"--stdio", b"--ups", b"a=\xff"]), (2, b"", invalid), "words that are no text")
-        for args, word in ((["--help"], b"--ups"), (["--version"], b"upsd")):
+        for args, word in ((["--help"], b"--ups"), (["--version"], f"upsd {VERSION_SHOWN}\n".encode())):
             status, out, err = self.run(args)
             expect((status, word in out, err), (0, True, b""), f"{args}")
 

@@ -5,6 +5,7 @@ ghost use Rattle.nut_client.specs.CommandLine.{argument as argument_rule, comman
 ghost use Rattle.nut_client.specs.inside.Parameters.{rule_at, with_parameter};
 
 use clap::{Arg, ArgAction, Command};
+use nut_program::VERSION;
 use std::alloc::{AllocError, Global};
 
 /// Something that a tool's command line may hold. clap's matches have it by its id.
@@ -101,7 +102,7 @@ fn begun<'a>(alloc: Global, name: &'a str, about: &'a str) -> Command<'a>
     ensures { app_of result ≡ command_rule name.entry.now [] }
 {
     Command::new(alloc, name)
-        .version("profile 1.3")
+        .version(VERSION)
         .about(about)
 }
 

@@ -10,6 +10,7 @@ mod reload_file;
 mod reload_report;
 mod streams;
 mod unknown;
+mod version;
 mod warning;
 
 pub use arguments::refuse_start;
@@ -22,4 +23,5 @@ pub use folder::conf_folder;
 pub use reload_file::{Look, ReloadFile, Turn};
 pub use reload_report::ReloadReport;
 pub use streams::{Streams, hold_closed_streams};
+pub use version::VERSION;
 pub use warning::{Readable, readable_file, warn};

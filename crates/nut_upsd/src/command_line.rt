@@ -1,7 +1,7 @@
 //! The command line of upsd.
 
 use clap::{Arg, ArgAction, ArgMatches, Command};
-use nut_program::{check_option, quiet_option};
+use nut_program::{VERSION, check_option, quiet_option};
 use std::alloc::{AllocError, Global};
 use std::convert::AsStr;
 
@@ -64,7 +64,7 @@ fn command_with<'a>(
 
 fn bare_command<'a>(alloc: Global) -> Command<'a> {
     Command::new(alloc, "upsd")
-        .version("profile 1.3")
+        .version(VERSION)
         .about("A server of the UPS Management Protocol (RFC 9271)")
 }
 

@@ -2,7 +2,7 @@
 
 use crate::upsmon_fault::UpsmonFault;
 use clap::{Arg, ArgAction, ArgMatches, Command};
-use nut_program::{Failure, check_option, conf_folder, quiet_option};
+use nut_program::{Failure, VERSION, check_option, conf_folder, quiet_option};
 use std::alloc::{Alloc, AllocError, Global};
 use std::convert::AsStr;
 use std::env::Env;
@@ -61,7 +61,7 @@ fn task_of(matches: &ArgMatches<'_>) -> Task {
 fn upsmon_command<'a>(alloc: Global) -> Result<Command<'a>, AllocError> {
     let kill_power = kill_power(alloc)?;
     let command = Command::new(alloc, "upsmon")
-        .version("profile 1.3")
+        .version(VERSION)
         .about("A monitor of UPSes that halts its machine when too few of them are left")
         .arg(conf_of_upsmon(alloc));
     let command = with(
