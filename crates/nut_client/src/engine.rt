@@ -96,7 +96,7 @@ fn rest_from(bytes: &[u8], at: usize) -> &[u8]
 }
 
 /// Writes these bytes. Returns whether all were written; if not, a beginning of them was, and the output has failed.
-fn put_all<O: Output>(rt: &impl Wait, output: &mut O, bytes: &[u8]) -> bool
+pub(crate) fn put_all<O: Output>(rt: &impl Wait, output: &mut O, bytes: &[u8]) -> bool
     ensures { Puts result bytes.now (written O.contents O.has_failed output.old output.new) }
 {
     let mut at = 0usize;

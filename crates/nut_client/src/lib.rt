@@ -28,7 +28,7 @@ mod upsrw;
 mod wanted;
 
 pub use destination::Destination;
-pub use dialing::dial;
+pub use dialing::dial_host;
 pub use engine::{ask_server, refuse_words};
 pub use examples::worked_examples;
 pub use failure::Failure;
