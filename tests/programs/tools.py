@@ -431,6 +431,52 @@ class Tests:
         for tool in ("upsc", "upsrw", "upscmd"):
             expect(self.run(tool, [b"su700\xff"]), (2, b"", b"Error: bad arguments\n"), f"{tool} with a word that is no text")
 
+    def test_passwords_of_standard_input(self):
+        """`-p -` is a line of standard input, however it is written and whatever the password begins with."""
+        self.server.whole()
+        deed = ["su700@AT", "load.off"]
+        # only standard input can give this one
+        expect(self.run("upscmd", ["-u", "admin", "-p", "-", *deed], input=b"-\n")[0], 1, "the password -")
+        expect(self.heard(), [b"USERNAME admin", b"PASSWORD -"], "the password -")
+        for password in ("pw", "--", "-x", "=", "=-x", " a b ", '"q\\', "-p", "x" * 128):
+            written = self.run("upscmd", ["-u", "admin", f"-p={password}", *deed]), self.heard()
+            expect(len(written[1]) - (password == "pw"), 2, f"the queries with {password!r}: {written[1]}")
+            for words in (["-p", "-"], ["-p-"], ["-p=-"]):
+                for line in (f"{password}\n", password, f"{password}\nmore\n"):
+                    read = self.run("upscmd", ["-u", "admin", *words, *deed], input=line.encode()), self.heard()
+                    expect(read, written, f"upscmd {' '.join(words)} with {line!r}")
+        for tool, words, queries in (
+            ("upscmd", ["-wp", "-", "-u", "admin", *deed], [*TRACKED, b"INSTCMD su700 load.off", b"GET TRACKING 1"]),
+            ("upsrw", ["-s", "ups.id=seven", "-u", "admin", "-wp", "-", "su700@AT"], [*TRACKED, b'SET VAR su700 ups.id "seven"', b"GET TRACKING 7"]),
+        ):
+            expect(self.run(tool, words, input=b"pw\n"), (0, b"SUCCESS\n", b""), words)
+            expect(self.heard(), queries, words)
+        # a dash elsewhere is one
+        expect(self.run("upscmd", ["-u", "-", "-p", "pw", "su700@AT", "load.off", "-"], input=b"x\n")[0], 1, "a user of that name")
+        expect(self.heard(), [b"USERNAME -"], "a user of that name")
+
+    def test_passwords_that_are_missing(self):
+        self.server.whole()
+        missing = (1, b"", b"Error: no password on standard input\n")
+        for tool, words in (("upsrw", ["-s", "ups.id=y"]), ("upscmd", [])):
+            arguments = [*words, "-u", "admin", "-p", "-", "su700@AT", *(["load.off"] if tool == "upscmd" else [])]
+            for text in (b"", b"\n", b"\npw\n", b"\xff\n"):
+                expect(self.run(tool, arguments, input=text), missing, f"{tool} with {text!r}")
+            expect(self.run(tool, arguments, preexec_fn=lambda: os.close(0)), missing, f"{tool} without standard input")
+            long = self.run(tool, arguments, input=b"x" * 1_000_000)
+            expect(long, (1, b"", b"Error: bad query\n"), f"{tool} with a password that no query has")
+        # nothing is read for a command line that is refused
+        reader, writer = os.pipe()
+        for words, status in ((["-p", "-"], 2), (["-p", "-", "--none"], 2), (["-p", "-", "--help"], 0)):
+            expect(self.run("upscmd", [*words, "su700@AT"], stdin=reader)[0], status, words)
+        os.close(reader)
+        os.close(writer)
+
+    def refused(self, tool, word):
+        """What a tool writes of a word that it doesn't know."""
+        head = f"error: unexpected argument '{word}' found\n\n"
+        return head.encode() + USAGES[tool] + b"\nFor more information, try '--help'.\n" + NUTS_OPTIONS.format(tool).encode()
+
     def test_options_that_are_not_there(self):
         for tool, option in (("upsc", "-W"), ("upsrw", "-t"), ("upscmd", "-t")):
             status, output, text = self.run(tool, [option, "su700@AT"])

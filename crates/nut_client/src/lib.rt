@@ -16,6 +16,7 @@ mod json;
 mod laws;
 mod output;
 mod parameter;
+mod password;
 mod printing;
 mod program;
 mod stream;

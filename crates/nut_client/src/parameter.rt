@@ -45,7 +45,7 @@ pub(crate) const PASSWORD: Parameter = Parameter::Valued {
     id: "password",
     letter: 'p',
     kind: "PASS",
-    help: "The password of that user; other users of this machine may see it",
+    help: "The password of that user, or - to read it from standard input; other users of this machine may see what stands here",
 };
 
 /// The flag to wait until the request has ended.

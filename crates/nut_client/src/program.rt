@@ -4,11 +4,12 @@ use crate::dialing::dial_host;
 use crate::engine::{put_all, refuse_words, tell};
 use crate::failure::Failure;
 use crate::output::{Output, WriterOutput};
+use crate::password::{PasswordFault, take_password};
 use crate::tool::Tool;
 use nut_program::hold_closed_streams;
 use std::alloc::AllocGlobal;
 use std::env::Env;
-use std::io::Print;
+use std::io::{Input, Print};
 use std::net::Net;
 use std::process::ExitCode;
 use std::rt::Files;
@@ -19,10 +20,10 @@ use std::{env, io, str};
 /// Runs a tool as this program: with the words of its command line, over TCP, with the standard streams, of which this is
 /// the error output. Returns the exit status.
 ///
-/// Standard streams that are closed are held first, so that the connection never takes the place of one. Below the
-/// line of a failure, a line of its own says why no connection was made, and the tool's usage if the words are no
-/// combination that it knows.
-pub fn run_tool<R: Clock + Env + Files + Net + Print + Wait + AllocGlobal, E: Print>(
+/// Standard streams that are closed are held first, so that the connection never takes the place of one. A password `-`
+/// is read from standard input before the server is dialled. Below the line of a failure, a line of its own says why no
+/// connection was made, and the tool's usage if the words are no combination that it knows.
+pub fn run_tool<R: Clock + Env + Files + Input + Net + Print + Wait + AllocGlobal, E: Print>(
     rt: &R,
     stderr: &E,
     tool: Tool,
@@ -42,7 +43,7 @@ pub fn run_tool<R: Clock + Env + Files + Net + Print + Wait + AllocGlobal, E: Pr
 /// Why the words are not available, or that memory cannot be allocated.
 fn run_held<R, E: Output>(rt: &R, tool: Tool, err: &mut E) -> io::Result<u8>
 where
-    R: Clock + Env + Files + Net + Print + Wait + AllocGlobal,
+    R: Clock + Env + Files + Input + Net + Print + Wait + AllocGlobal,
 {
     let held = hold_closed_streams(rt, rt.alloc())?;
     let status = run_command_line(rt, tool, err);
@@ -54,10 +55,10 @@ where
 /// Runs a tool with the words of the command line.
 fn run_command_line<R, E: Output>(rt: &R, tool: Tool, err: &mut E) -> io::Result<u8>
 where
-    R: Clock + Env + Net + Print + Wait + AllocGlobal,
+    R: Clock + Env + Input + Net + Print + Wait + AllocGlobal,
 {
-    let words = command_words(rt)?;
-    Ok(run_words(rt, tool, words.as_slice(), err))
+    let mut words = command_words(rt)?;
+    Ok(run_words(rt, tool, &mut words, err))
 }
 
 /// Returns the words of the command line, the program's name first.
@@ -67,14 +68,35 @@ fn command_words<R: Env + AllocGlobal>(rt: &R) -> io::Result<Vec<String>> {
 }
 
 /// Runs a tool with these words, the program's name first. Returns the exit status.
-fn run_words<R, E: Output>(rt: &R, tool: Tool, words: &[String], err: &mut E) -> u8
+fn run_words<R, E: Output>(rt: &R, tool: Tool, words: &mut Vec<String>, err: &mut E) -> u8
 where
-    R: Clock + Net + Print + Wait + AllocGlobal,
+    R: Clock + Input + Net + Print + Wait + AllocGlobal,
 {
-    match tool.target(rt.alloc(), words) {
-        Ok(Some(destination)) => ask_destination(rt, tool, words, &destination, err),
-        Ok(None) => refuse_combination(rt, tool, words, err),
+    match tool.target(rt.alloc(), words.as_slice()) {
+        Ok(Some(destination)) => ask_for_words(rt, tool, words, destination, err),
+        Ok(None) => refuse_combination(rt, tool, words.as_slice(), err),
         Err(_) => fail(rt, Failure::Memory, err),
+    }
+}
+
+/// Reads the password if the words ask for that, and runs a tool with them. Returns the exit status.
+fn ask_for_words<R, E: Output>(
+    rt: &R,
+    tool: Tool,
+    words: &mut Vec<String>,
+    destination: Destination,
+    err: &mut E,
+) -> u8
+where
+    R: Clock + Input + Net + Print + Wait + AllocGlobal,
+{
+    match take_password(rt.alloc(), words, rt) {
+        Ok(()) => ask_destination(rt, tool, words.as_slice(), &destination, err),
+        Err(PasswordFault::Memory) => fail(rt, Failure::Memory, err),
+        Err(PasswordFault::Missing) => {
+            put_all(rt, err, b"Error: no password on standard input\n");
+            1
+        }
     }
 }
 
