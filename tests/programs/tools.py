@@ -478,9 +478,9 @@ class Tests:
         return head.encode() + USAGES[tool] + b"\nFor more information, try '--help'.\n" + NUTS_OPTIONS.format(tool).encode()
 
     def test_options_that_are_not_there(self):
-        for tool, option in (("upsc", "-W"), ("upsrw", "-t"), ("upscmd", "-t")):
-            status, output, text = self.run(tool, [option, "su700@AT"])
-            expect((status, output, text != b""), (2, b"", True), f"{tool} {option}")
+        for tool, option in (("upsc", "-W"), ("upsrw", "-t"), ("upsrw", "-l"), ("upscmd", "-t")):
+            expect(self.run(tool, [option, "su700@AT"]), (2, b"", self.refused(tool, option)), f"{tool} {option}")
+        expect(self.run("upsc", ["su700@AT", "a", "b"]), (2, b"", self.refused("upsc", "b")), "a word more")
         for tool in ("upsc", "upsrw", "upscmd"):
             expect(self.run(tool, ["--version"]), (0, f"{tool} {VERSION_SHOWN}\n".encode(), b""), f"{tool} --version")
             status, output, text = self.run(tool, ["--help"])

@@ -19,6 +19,11 @@ from tests.support.room import VERSION, until
 
 ROOM = ["--stdio", "--ups", "su700=Server room"]
 EXAMPLES = ["--stdio", "--conf", os.path.join(ROOT, "examples")]
+USAGE = b"""
+Usage: upsd [OPTIONS] --conf <DIR> -s <SOCKDIR>
+       upsd --check [--conf <DIR> [-s <SOCKDIR>]]
+       upsd --stdio [--conf <DIR> | --ups <NAME=DESC>...]
+"""
 
 LIST = b'BEGIN LIST UPS\nUPS su700 "Server room"\nEND LIST UPS\n'
 # the descriptions that NUT has, where Debian's package puts them
@@ -237,6 +242,15 @@ class Tests(Shimmed):
         for args in ([], ["--ups", "a=b"], ["--stdio", "--nothing"], ["--stdio", "more"], ["--stdio", "--ups"], ["-c", "reload"], ["--stdio", "--conf"], [*EXAMPLES, "--ups", "a=b"], [*EXAMPLES, "--conf", "x"]):
             status, out, err = self.run(args, b"VER\n")
             expect((status, out, err != b""), (2, b"", True), f"{args}")
+        for args in (["-c", "reload"], ["--stdio", "-B"], ["-u", "nut"]):
+            _, _, err = self.run(args)
+            expect(err.endswith(NUTS_OPTIONS.format("upsd").encode()), True, f"what is said of {args}: {err}")
+        for args in ([], ["-s", "x"], ["-F", "-F"]):
+            _, _, err = self.run(args)
+            expect((USAGE in err, b"from-nut" in err), (True, False), f"what is said of {args}: {err}")
+        # NUT's options that ask for what is done anyway
+        for args in (["-F"], ["-D"], ["-DDD"], ["-D", "-F", "-DD"]):
+            expect(self.run([*args, *ROOM], b"VER\n"), (0, VERSION, b""), f"with {args}")
         _, _, err = self.run(["--stdio", "-q"], b"VER\n")
         expect(b"cannot be used with" in err, True, f"what --stdio -q gives: {err}")
         invalid = b"error: invalid UTF-8 was detected in one or more arguments\n"

@@ -5,6 +5,7 @@
 //! tool runs and ends in `specs/Tool.antt`. A tool asks over a link of `nut_link`.
 #![tactic(auto)]
 
+mod clap_text;
 mod command_line;
 mod conversation;
 mod destination;

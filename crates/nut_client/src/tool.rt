@@ -135,7 +135,7 @@ impl Tool {
                 let printed = ask_server(rt, alloc, ups, wanted, stream);
                 tell(rt, printed, out, err)
             }
-            Err(refusal) => tell_refusal(rt, alloc, refusal, out, err),
+            Err(refusal) => tell_refusal(rt, alloc, self.name(), refusal, out, err),
         }
     }
 
@@ -153,7 +153,7 @@ impl Tool {
     {
         match self.read_options(alloc, words) {
             Ok(_) => tell(rt, Err(Failure::NoConnection), out, err),
-            Err(refusal) => tell_refusal(rt, alloc, refusal, out, err),
+            Err(refusal) => tell_refusal(rt, alloc, self.name(), refusal, out, err),
         }
     }
 }

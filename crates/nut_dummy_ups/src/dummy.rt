@@ -87,7 +87,7 @@ pub fn run_dummy_ups<S: AsStr, O: Write, E: Write>(
 ) -> u8 {
     match run(rt, alloc, words) {
         Ok(()) => 0,
-        Err(failure) => failure.tell("dummy-ups", out, err),
+        Err(failure) => failure.tell_of_nuts("dummy-ups", out, err),
     }
 }
 

@@ -14,7 +14,9 @@ mod version;
 mod warning;
 
 pub use arguments::refuse_start;
-pub use command_line::{check_option, quiet_option};
+pub use command_line::{
+    UNKNOWN_OPTION, check_option, debug_option, foreground_option, quiet_option,
+};
 pub use conf_file::{
     ConfFile, FileFault, read_conf, read_conf_at, read_conf_if_there, read_file, remark_on_unread,
 };

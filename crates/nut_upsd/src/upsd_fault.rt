@@ -76,6 +76,6 @@ pub fn exit_status<O: Write, E: Write>(
 ) -> u8 {
     match served {
         Ok(()) => 0,
-        Err(failure) => failure.tell("upsd", out, err),
+        Err(failure) => failure.tell_of_nuts("upsd", out, err),
     }
 }

@@ -2,7 +2,9 @@
 
 use crate::upsmon_fault::UpsmonFault;
 use clap::{Arg, ArgAction, ArgMatches, Command};
-use nut_program::{Failure, VERSION, check_option, conf_folder, quiet_option};
+use nut_program::{
+    Failure, VERSION, check_option, conf_folder, debug_option, foreground_option, quiet_option,
+};
 use std::alloc::{Alloc, AllocError, Global};
 use std::convert::AsStr;
 use std::env::Env;
@@ -75,7 +77,9 @@ fn upsmon_command<'a>(alloc: Global) -> Result<Command<'a>, AllocError> {
             "Watch nothing: say the first fault of upsmon.conf, or how soon this machine stops",
         ),
     );
-    with(command, kill_power)
+    let command = with(command, kill_power);
+    let command = with(command, foreground_option(alloc));
+    with(command, debug_option(alloc))
 }
 
 /// Adds an argument to a command line, unless memory for that is already refused.

@@ -51,5 +51,5 @@ impl From<WatchFault> for Failure<UpsmonFault> {
 
 /// Tells a failure. Returns the exit status of a program that ends with it.
 pub fn tell_failure(failure: Failure<UpsmonFault>, mut out: Stdout, told: &mut ErrorLines) -> u8 {
-    failure.tell("upsmon", &mut out, told)
+    failure.tell_of_nuts("upsmon", &mut out, told)
 }
