@@ -5,7 +5,8 @@
 #     packaging/packages.sh tar      an archive that is unpacked anywhere, with the script that installs it
 #
 # The environment gives BIN (bin, the folder of the built programs), TO (dist, where the packages go), and, outside a git
-# repository, SOURCE_DATE_EPOCH, which is else the time of the last commit. The version counts by it.
+# repository, SOURCE_DATE_EPOCH, which is else the time of the last commit. The version is that of the programs, and then
+# that time.
 set -eu
 unset CDPATH
 cd "$(dirname "$0")/.."
@@ -19,7 +20,12 @@ fi
 export SOURCE_DATE_EPOCH LC_ALL=C TZ=UTC
 umask 022
 
-version=0.$(date -u -d "@$SOURCE_DATE_EPOCH" +%Y%m%d.%H%M%S)
+version=$(sed -n 's/^pub const VERSION: &str = "(Mulgefa) \([0-9.]*\) .*/\1/p' crates/nut_program/src/version.rt)
+if [ -z "$version" ]; then
+    echo 'crates/nut_program/src/version.rt has no version' >&2
+    exit 1
+fi
+version=$version+$(date -u -d "@$SOURCE_DATE_EPOCH" +%Y%m%d.%H%M%S)
 maintainer='Mulgefa maintainers <maintainers@users.noreply.mulgefa.example>'
 architecture=$(dpkg --print-architecture 2> /dev/null || uname -m)
 server='upsd dummy-ups'

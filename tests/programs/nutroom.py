@@ -25,7 +25,7 @@ import time
 import xml.etree.ElementTree
 
 from tests.programs.nutsim import server_files
-from tests.support.harness import ROOT, Failed, ensure, expect, run_tests
+from tests.support.harness import ROOT, VERSION_SHOWN, Failed, ensure, expect, run_tests
 from tests.support.model import Config, User, words_of
 from tests.support.room_model import Room, Rules, Watched, shown
 from tests.support.terminal import run_on_terminal
@@ -152,7 +152,7 @@ class Tests:
             status, out, err = self.run(*words)
             expect((status, out), (2, ""), words)
             ensure(err.startswith("usage: nutroom "), f"{words}: {err!r}")
-        expect(self.printed("--version"), "nutroom profile 1.3\n", "the version")
+        expect(self.printed("--version"), f"nutroom {VERSION_SHOWN}\n", "the version")
 
     def test_the_manual_page_has_every_option(self):
         options = set(re.findall(r"(?<![\w-])--?[A-Za-z][a-z]*", re.split("[Oo]ption[a-z ]*:\n", self.printed("--help"))[1]))

@@ -17,7 +17,7 @@ import sys
 import tempfile
 import time
 
-from tests.support.harness import ROOT, Failed, cannot_read, ensure, expect, refusals, refusing, run_tests
+from tests.support.harness import ROOT, VERSION_SHOWN, Failed, cannot_read, ensure, expect, refusals, refusing, run_tests
 from tests.support.model import Config, User, quoted
 from tests.support.player import conf_steps
 from tests.rehearsals.server import greatest_memory
@@ -394,6 +394,21 @@ class Tests:
         os.remove(path)
         expect(self.run(room, missing), unreadable("ups.conf", path, errno.ENOENT), "UPSes")
 
+    def test_streams_that_are_closed(self):
+        room = self.room("closed", ALONE, [PRIMARY])
+        path = self.write("closed.sched", b"".join(map(line_of, ALONE_ROW)))
+        faulty = self.write("faulty.sched", b"NONSENSE\n")
+        for closed, schedule, end in (
+            ((0,), path, (0, ALONE_DUE, b"")),
+            ((1,), path, (1, b"", b"nutsim: I/O failed\n")),
+            ((2,), path, (0, ALONE_DUE, b"")),
+            ((0, 1, 2), path, (1, b"", b"")),
+            ((2,), faulty, (1, b"", b"")),
+        ):
+            words = [self.program, room.folder, schedule, *room.monitors]
+            done = subprocess.run(words, capture_output=True, timeout=60, preexec_fn=lambda closed=closed: [os.close(it) for it in closed])
+            expect((done.returncode, done.stdout, done.stderr), end, f"{schedule} without the streams {closed}")
+
     def test_files_without_a_folder(self):
         room = self.room("bare", ALONE, [PRIMARY])
         room.monitors = ["upsmon-0.conf", "other.conf"]
@@ -414,7 +429,7 @@ class Tests:
             done = subprocess.run([self.program, *words], capture_output=True, timeout=60)
             expect((done.returncode, done.stdout), (status, b""), words)
             ensure(b"Usage: nutsim" in done.stderr, f"{words}: {done.stderr!r}")
-        for word, text in (("--help", b"Usage: nutsim <DIR> <SCHEDULE> <MONCONF>..."), ("--version", b"nutsim profile 1.3")):
+        for word, text in (("--help", b"Usage: nutsim <DIR> <SCHEDULE> <MONCONF>..."), ("--version", f"nutsim {VERSION_SHOWN}\n".encode())):
             done = subprocess.run([self.program, word], capture_output=True, timeout=60)
             expect((done.returncode, done.stderr), (0, b""), word)
             ensure(text in done.stdout, f"{word}: {done.stdout!r}")

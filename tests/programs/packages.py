@@ -18,7 +18,7 @@ import tempfile
 
 from tests.programs import install
 from tests.support.debian_root import fresh_root, run
-from tests.support.harness import ensure, expect, Missing, needed, ROOT, run_tests
+from tests.support.harness import ensure, expect, Missing, needed, ROOT, run_tests, VERSION
 
 PACKAGES = ("mulgefa-client", "mulgefa-server")
 # the files of each section of the manual, and the examples, that belong to the server
@@ -183,6 +183,7 @@ class Tests:
         _, depends = run(["dpkg-deb", "--field", self.all_debs()["mulgefa-server"], "Depends"])
         _, version = run(["dpkg-deb", "--field", self.all_debs()["mulgefa-client"], "Version"])
         ensure(f"mulgefa-client (= {version.strip()})" in depends, f"the server wants this client: {depends}")
+        ensure(re.fullmatch(re.escape(VERSION) + r"\+\d{8}\.\d{6}\n", version), f"the version of the programs, and the time of the commit: {version}")
 
     def test_libraries_that_cannot_be_told(self):
         """If it can't be told what the programs need, no package is made, and what went wrong is shown."""

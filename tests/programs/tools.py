@@ -16,7 +16,7 @@ import threading
 import time
 from concurrent import futures
 
-from tests.support.harness import Failed, build_shim, ensure, expect, refusals, run_tests
+from tests.support.harness import NUTS_OPTIONS, VERSION_SHOWN, Failed, build_shim, ensure, expect, refusals, run_tests
 from tests.support.model import LINE_MAX
 
 # every byte that a value may have
@@ -84,6 +84,12 @@ SETTINGS = (
 )
 COMMANDS = b"load.off - Turn off the load\nload.on - Turn on the load\n"
 OUTPUT_FAILED = b"Error: output failed\n"
+# what stands below the line of a command line that is no combination
+USAGES = {
+    "upsc": b"Usage: upsc [-j] NAME\n       upsc NAME VAR\n       upsc -l | -L [HOST[:PORT]]\n       upsc -c NAME\n",
+    "upsrw": b"Usage: upsrw NAME\n       upsrw [-w] -s VAR=VALUE -u USER -p PASS NAME\n",
+    "upscmd": b"Usage: upscmd -l NAME\n       upscmd [-w] -u USER -p PASS NAME CMD [PARAM]\n",
+}
 ADMIN = ["-u", "admin", "-p", "pw"]
 LOGIN = [b"USERNAME admin", b"PASSWORD pw"]
 TRACKED = [*LOGIN, b"SET TRACKING ON"]
@@ -325,7 +331,7 @@ class Tests:
         return (done.returncode, done.stdout, done.stderr), time.monotonic() - started
 
     def test_servers_that_take_too_long(self):
-        failed, lost = ((1, b"", b"Error: connection %s\n" % word) for word in (b"failed", b"lost"))
+        lost = (1, b"", b"Error: connection lost\n")
         silent, halting, crowded = Teller([]), Teller([b"BEGIN LIST "]), Crowded()
         asks = (("upsc", ["su700@AT"]), ("upsrw", ["su700@AT"]), ("upscmd", ["-l", "su700@AT"]))
         cases = [(*ask, place.at) for place in (silent, halting, crowded) for ask in asks]
@@ -335,7 +341,8 @@ class Tests:
         cases.append(("upsc", ["su700@AT"], slow.at))
         with futures.ThreadPoolExecutor(len(cases)) as pool:
             found = list(pool.map(self.timed, cases))
-        wanted = [lost] * 6 + [failed] * 3 + [(0, VARIABLES, b"")]
+        failed = [(1, b"", f"Error: connection failed\n{tool}: {crowded.at}: connection timed out\n".encode()) for tool, _ in asks]
+        wanted = [lost] * 6 + failed + [(0, VARIABLES, b"")]
         for (tool, _, at), (end, seconds), want in zip(cases, found, wanted):
             what = f"{tool} with the server at {at}"
             expect(end, want, what)
@@ -351,7 +358,8 @@ class Tests:
         self.server.whole()
         for tool, arguments, queries, text, status in BAD:
             what = f"{tool} {' '.join(arguments)}"
-            expect(self.run(tool, arguments), (status, b"", b"Error: " + text + b"\n"), what)
+            usage = USAGES[tool] if status == 2 else b""
+            expect(self.run(tool, arguments), (status, b"", b"Error: " + text + b"\n" + usage), what)
             if queries is not None:
                 expect(self.heard(), queries, f"the queries of {what}")
 
@@ -377,9 +385,13 @@ class Tests:
     def test_nobody_listens(self):
         with socket.create_server(("127.0.0.1", 0)) as unused:
             port = unused.getsockname()[1]
-        for host in ("127.0.0.1", "localhost", "nowhere.invalid"):
-            found = self.run("upsc", [f"su700@{host}:{port}"])
-            expect(found, (1, b"", b"Error: connection failed\n"), host)
+        refused, unknown = "Connection refused (os error 111)\n", "failed to lookup address information: "
+        for host, why in (("127.0.0.1", refused), ("localhost", refused), ("nowhere.invalid", unknown)):
+            for tool, words in (("upsc", []), ("upsrw", []), ("upscmd", ["-l"])):
+                status, output, text = self.run(tool, [*words, f"su700@{host}:{port}"])
+                expect((status, output, text.count(b"\n")), (1, b"", 2), f"{tool} with {host}")
+                wanted = f"Error: connection failed\n{tool}: {host}:{port}: {why}"
+                ensure(text.decode().startswith(wanted), f"{tool} with {host}: {text!r}")
 
     def test_output_that_fails(self):
         self.server.whole()
@@ -401,16 +413,76 @@ class Tests:
         with open(path, "rb") as output:
             expect(output.read(), VARIABLES[:10], "what it took")
 
+    def test_streams_that_are_closed(self):
+        """The connection takes the place of none of them, so that the server is sent nothing but queries."""
+        self.server.whole()
+        for tool, arguments, queries, output in GOOD:
+            what = f"{tool} {' '.join(arguments)}"
+            failed = (1, b"", OUTPUT_FAILED) if output else (0, b"", b"")
+            for closed, end in (((0,), (0, output, b"")), ((1,), failed), ((2,), (0, output, b"")), ((0, 1), failed), ((0, 1, 2), (failed[0], b"", b""))):
+                found = self.run(tool, arguments, preexec_fn=lambda closed=closed: [os.close(it) for it in closed])
+                expect(found, end, f"{what} without the streams {closed}")
+                expect(self.heard(), queries, f"the queries of {what} without the streams {closed}")
+        for closed in ((2,), (0, 2), (0, 1, 2)):
+            found = self.run("upsc", ["stale@AT"], preexec_fn=lambda closed=closed: [os.close(it) for it in closed])
+            expect((found, self.heard()), ((1, b"", b""), [b"LIST VAR stale"]), f"a refusal without the streams {closed}")
+
     def test_words_that_are_no_text(self):
         for tool in ("upsc", "upsrw", "upscmd"):
             expect(self.run(tool, [b"su700\xff"]), (2, b"", b"Error: bad arguments\n"), f"{tool} with a word that is no text")
 
+    def test_passwords_of_standard_input(self):
+        """`-p -` is a line of standard input, however it is written and whatever the password begins with."""
+        self.server.whole()
+        deed = ["su700@AT", "load.off"]
+        # only standard input can give this one
+        expect(self.run("upscmd", ["-u", "admin", "-p", "-", *deed], input=b"-\n")[0], 1, "the password -")
+        expect(self.heard(), [b"USERNAME admin", b"PASSWORD -"], "the password -")
+        for password in ("pw", "--", "-x", "=", "=-x", " a b ", '"q\\', "-p", "x" * 128):
+            written = self.run("upscmd", ["-u", "admin", f"-p={password}", *deed]), self.heard()
+            expect(len(written[1]) - (password == "pw"), 2, f"the queries with {password!r}: {written[1]}")
+            for words in (["-p", "-"], ["-p-"], ["-p=-"]):
+                for line in (f"{password}\n", password, f"{password}\nmore\n"):
+                    read = self.run("upscmd", ["-u", "admin", *words, *deed], input=line.encode()), self.heard()
+                    expect(read, written, f"upscmd {' '.join(words)} with {line!r}")
+        for tool, words, queries in (
+            ("upscmd", ["-wp", "-", "-u", "admin", *deed], [*TRACKED, b"INSTCMD su700 load.off", b"GET TRACKING 1"]),
+            ("upsrw", ["-s", "ups.id=seven", "-u", "admin", "-wp", "-", "su700@AT"], [*TRACKED, b'SET VAR su700 ups.id "seven"', b"GET TRACKING 7"]),
+        ):
+            expect(self.run(tool, words, input=b"pw\n"), (0, b"SUCCESS\n", b""), words)
+            expect(self.heard(), queries, words)
+        # a dash elsewhere is one
+        expect(self.run("upscmd", ["-u", "-", "-p", "pw", "su700@AT", "load.off", "-"], input=b"x\n")[0], 1, "a user of that name")
+        expect(self.heard(), [b"USERNAME -"], "a user of that name")
+
+    def test_passwords_that_are_missing(self):
+        self.server.whole()
+        missing = (1, b"", b"Error: no password on standard input\n")
+        for tool, words in (("upsrw", ["-s", "ups.id=y"]), ("upscmd", [])):
+            arguments = [*words, "-u", "admin", "-p", "-", "su700@AT", *(["load.off"] if tool == "upscmd" else [])]
+            for text in (b"", b"\n", b"\npw\n", b"\xff\n"):
+                expect(self.run(tool, arguments, input=text), missing, f"{tool} with {text!r}")
+            expect(self.run(tool, arguments, preexec_fn=lambda: os.close(0)), missing, f"{tool} without standard input")
+            long = self.run(tool, arguments, input=b"x" * 1_000_000)
+            expect(long, (1, b"", b"Error: bad query\n"), f"{tool} with a password that no query has")
+        # nothing is read for a command line that is refused
+        reader, writer = os.pipe()
+        for words, status in ((["-p", "-"], 2), (["-p", "-", "--none"], 2), (["-p", "-", "--help"], 0)):
+            expect(self.run("upscmd", [*words, "su700@AT"], stdin=reader)[0], status, words)
+        os.close(reader)
+        os.close(writer)
+
+    def refused(self, tool, word):
+        """What a tool writes of a word that it doesn't know."""
+        head = f"error: unexpected argument '{word}' found\n\n"
+        return head.encode() + USAGES[tool] + b"\nFor more information, try '--help'.\n" + NUTS_OPTIONS.format(tool).encode()
+
     def test_options_that_are_not_there(self):
-        for tool, option in (("upsc", "-W"), ("upsrw", "-t"), ("upscmd", "-t")):
-            status, output, text = self.run(tool, [option, "su700@AT"])
-            expect((status, output, text != b""), (2, b"", True), f"{tool} {option}")
+        for tool, option in (("upsc", "-W"), ("upsrw", "-t"), ("upsrw", "-l"), ("upscmd", "-t")):
+            expect(self.run(tool, [option, "su700@AT"]), (2, b"", self.refused(tool, option)), f"{tool} {option}")
+        expect(self.run("upsc", ["su700@AT", "a", "b"]), (2, b"", self.refused("upsc", "b")), "a word more")
         for tool in ("upsc", "upsrw", "upscmd"):
-            expect(self.run(tool, ["--version"]), (0, f"{tool} profile 1.3\n".encode(), b""), f"{tool} --version")
+            expect(self.run(tool, ["--version"]), (0, f"{tool} {VERSION_SHOWN}\n".encode(), b""), f"{tool} --version")
             status, output, text = self.run(tool, ["--help"])
             expect((status, tool.encode() in output, text), (0, True, b""), f"{tool} --help")
 
@@ -425,8 +497,8 @@ class Tests:
                     expect(found, (0, output, b""), f"{what}, allocation {at}, which isn't reached")
                     break
                 # the C library can do without some memory, for example when it flushes a stream without a buffer
-                allowed = [(1, b"", b"Error: out of memory\n"), (1, b"", b"Error: connection failed\n"), (0, output, b"")]
-                if found not in allowed:
+                is_undialled = found[:2] == (1, b"") and found[2].startswith(b"Error: connection failed\n")
+                if found not in [(1, b"", b"Error: out of memory\n"), (0, output, b"")] and not is_undialled:
                     raise Failed(f"{what}, allocation {at}: found {found!r}")
             if at < 3:
                 raise Failed(f"{what}: {at - 1} allocations were seen")

@@ -14,11 +14,16 @@ import subprocess
 import sys
 import tempfile
 
-from tests.support.harness import cannot_read, children_time, expect, Failed, Missing, refusal, refusals, ROOT, run_tests, Shimmed, unread
+from tests.support.harness import cannot_read, children_time, expect, Failed, Missing, NUTS_OPTIONS, refusal, refusals, ROOT, run_tests, Shimmed, unread, VERSION_SHOWN
 from tests.support.room import VERSION, until
 
 ROOM = ["--stdio", "--ups", "su700=Server room"]
 EXAMPLES = ["--stdio", "--conf", os.path.join(ROOT, "examples")]
+USAGE = b"""
+Usage: upsd [OPTIONS] --conf <DIR> -s <SOCKDIR>
+       upsd --check [--conf <DIR> [-s <SOCKDIR>]]
+       upsd --stdio [--conf <DIR> | --ups <NAME=DESC>...]
+"""
 
 LIST = b'BEGIN LIST UPS\nUPS su700 "Server room"\nEND LIST UPS\n'
 # the descriptions that NUT has, where Debian's package puts them
@@ -163,6 +168,19 @@ class Tests(Shimmed):
         env = refusal(self.shim, "short-write", 1)
         expect(self.run(ROOM, asked, env), (0, due, b""), "written byte by byte")
 
+    def test_streams_that_are_closed(self):
+        """Nothing that is opened takes the place of one: a closed stream fails as a broken one does."""
+        for args in (ROOM, EXAMPLES):
+            for closed, end in (
+                ((0,), (1, b"", b"upsd: input failed\n")),
+                ((1,), (1, b"", b"upsd: output failed\n")),
+                ((2,), (0, VERSION, b"")),
+                ((1, 2), (1, b"", b"")),
+                ((0, 1, 2), (1, b"", b"")),
+            ):
+                found = self.run(args, b"VER\n", preexec_fn=lambda closed=closed: [os.close(it) for it in closed])
+                expect(found, end, f"{args} without the streams {closed}")
+
     def test_unfinished_line(self):
         expect(self.run(ROOM, b"VER"), (0, b"", b""), "a line without its line feed")
         expect(self.run(ROOM, b"VER\nVER"), (0, VERSION, b""), "the line before is answered")
@@ -230,11 +248,20 @@ class Tests(Shimmed):
         for args in ([], ["--ups", "a=b"], ["--stdio", "--nothing"], ["--stdio", "more"], ["--stdio", "--ups"], ["-c", "reload"], ["--stdio", "--conf"], [*EXAMPLES, "--ups", "a=b"], [*EXAMPLES, "--conf", "x"]):
             status, out, err = self.run(args, b"VER\n")
             expect((status, out, err != b""), (2, b"", True), f"{args}")
+        for args in (["-c", "reload"], ["--stdio", "-B"], ["-u", "nut"]):
+            _, _, err = self.run(args)
+            expect(err.endswith(NUTS_OPTIONS.format("upsd").encode()), True, f"what is said of {args}: {err}")
+        for args in ([], ["-s", "x"], ["-F", "-F"]):
+            _, _, err = self.run(args)
+            expect((USAGE in err, b"from-nut" in err), (True, False), f"what is said of {args}: {err}")
+        # NUT's options that ask for what is done anyway
+        for args in (["-F"], ["-D"], ["-DDD"], ["-D", "-F", "-DD"]):
+            expect(self.run([*args, *ROOM], b"VER\n"), (0, VERSION, b""), f"with {args}")
         _, _, err = self.run(["--stdio", "-q"], b"VER\n")
         expect(b"cannot be used with" in err, True, f"what --stdio -q gives: {err}")
         invalid = b"error: invalid UTF-8 was detected in one or more arguments\n"
         expect(self.run([b"--stdio", b"--ups", b"a=\xff"]), (2, b"", invalid), "words that are no text")
-        for args, word in ((["--help"], b"--ups"), (["--version"], b"upsd")):
+        for args, word in ((["--help"], b"--ups"), (["--version"], f"upsd {VERSION_SHOWN}\n".encode())):
             status, out, err = self.run(args)
             expect((status, word in out, err), (0, True, b""), f"{args}")
 

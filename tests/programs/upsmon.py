@@ -14,7 +14,7 @@ import sys
 import tempfile
 import time
 
-from tests.support.harness import Failed, Shimmed, build_library, cannot_read, ensure, expect, refusals
+from tests.support.harness import NUTS_OPTIONS, VERSION_SHOWN, Failed, Shimmed, build_library, cannot_read, ensure, expect, refusals
 from tests.support.monitored import (
     BATTERY_LOW,
     ESTABLISHED,
@@ -469,7 +469,14 @@ class Tests(Shimmed):
         for words in (["--conf"], [*conf, "more"], [*conf, "-c", "fsd"], ["--none"], [*conf, "-K", "-q"], [*conf, "-K", "--check"]):
             done = subprocess.run([self.upsmon, *words], capture_output=True, timeout=60)
             expect((done.returncode, done.stdout, done.stderr != b""), (2, b"", True), f"{words}")
-        for word, shown in (("--help", b"upsmon.conf"), ("--version", b"upsmon profile 1.3\n")):
+            is_unknown = b"unexpected argument" in done.stderr
+            expect(done.stderr.endswith(NUTS_OPTIONS.format("upsmon").encode()), is_unknown, f"{words}: {done.stderr!r}")
+        # NUT's options that ask for what is done anyway
+        for words in (["-F"], ["-D"], ["-DDD", "-F"], ["-D", "-q", "-D"]):
+            done = subprocess.run([self.upsmon, "--conf", "/nowhere", *words], capture_output=True, timeout=60)
+            wanted = cannot_read("upsmon", "upsmon.conf", "/nowhere/upsmon.conf", errno.ENOENT).encode()
+            expect((done.returncode, done.stdout, done.stderr), (1, b"", wanted), words)
+        for word, shown in (("--help", b"upsmon.conf"), ("--version", f"upsmon {VERSION_SHOWN}\n".encode())):
             done = subprocess.run([self.upsmon, word], capture_output=True, timeout=60)
             expect((done.returncode, shown in done.stdout, done.stderr), (0, True, b""), word)
 

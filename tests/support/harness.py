@@ -20,6 +20,10 @@ HERE = os.path.dirname(os.path.abspath(__file__))
 # the root of the repository
 ROOT = os.path.dirname(os.path.dirname(HERE))
 
+# the version of this project, and what every program prints after its name for --version
+VERSION = "1.0"
+VERSION_SHOWN = f"(Mulgefa) {VERSION} profile 1.3"
+
 
 def processor_time(pid):
     """Returns how many seconds of processor time a process has used."""
@@ -39,6 +43,10 @@ def unread(pipe):
     count = array.array("i", [0])
     fcntl.ioctl(pipe, termios.FIONREAD, count)
     return count[0]
+
+
+# the last line of what a program of NUT's name writes if it doesn't know a word of its command line
+NUTS_OPTIONS = "{}: NUT's options that aren't taken here: see from-nut(7)\n"
 
 
 class Failed(Exception):

@@ -10,6 +10,7 @@ ghost use Rattle.nut_client.specs.Tool.{Ends, Explains, Reports, Tells, error_te
 ghost use Rattle.nut_link.specs.Link.{fresh};
 ghost use Rattle.nut_client.specs.declared.failure.Failure.TheVariants.{ConnectionLost, Memory};
 
+use crate::clap_text::clap_text;
 use crate::command_line::Refusal;
 use crate::conversation::Conversation;
 use crate::failure::Failure;
@@ -96,7 +97,7 @@ fn rest_from(bytes: &[u8], at: usize) -> &[u8]
 }
 
 /// Writes these bytes. Returns whether all were written; if not, a beginning of them was, and the output has failed.
-fn put_all<O: Output>(rt: &impl Wait, output: &mut O, bytes: &[u8]) -> bool
+pub(crate) fn put_all<O: Output>(rt: &impl Wait, output: &mut O, bytes: &[u8]) -> bool
     ensures { Puts result bytes.now (written O.contents O.has_failed output.old output.new) }
 {
     let mut at = 0usize;
@@ -154,10 +155,11 @@ pub(crate) fn tell<O: Output, E: Output>(
     }
 }
 
-/// Writes why a command line gives no options. Returns the exit status.
+/// Writes why a command line gives no options to the tool of this name. Returns the exit status.
 pub(crate) fn tell_refusal<O: Output, E: Output>(
     rt: &impl Wait,
     alloc: Global,
+    name: &str,
     refusal: Refusal,
     out: &mut O,
     err: &mut E,
@@ -166,7 +168,7 @@ pub(crate) fn tell_refusal<O: Output, E: Output>(
 {
     match refusal {
         Refusal::Failed(failure) => tell(rt, Err(failure), out, err),
-        Refusal::Usage(error) => tell_usage(rt, alloc, &error, out, err),
+        Refusal::Usage(error) => tell_usage(rt, alloc, name, &error, out, err),
     }
 }
 
@@ -189,11 +191,12 @@ fn tell_fault<E: Output>(rt: &impl Wait, text: &Text, err: &mut E) -> u8
     2
 }
 
-/// Writes clap's text: the help and the version to `out`, as a tool's output is written, and a fault to `err`, with
+/// Writes clap's text for the tool of this name: the help and the version to `out`, as a tool's output is written, and a fault to `err`, with
 /// status 2. If memory for the text cannot be allocated, writes that to `err`, with status 1.
 fn tell_usage<O: Output, E: Output>(
     rt: &impl Wait,
     alloc: Global,
+    name: &str,
     error: &clap::Error,
     out: &mut O,
     err: &mut E,
@@ -201,9 +204,8 @@ fn tell_usage<O: Output, E: Output>(
     ensures { Explains (asked_for (kind_of error.now)) result (written O.contents O.has_failed out.old out.new) (written E.contents E.has_failed err.old err.new)
         ⊎ Tells (Err Memory) result (written O.contents O.has_failed out.old out.new) (written E.contents E.has_failed err.old err.new) }
 {
-    let text = match format!(in alloc; "{error}") {
-        Ok(text) => Text::of(text.into_bytes()),
-        Err(_) => return tell(rt, Err(Failure::Memory), out, err),
+    let Ok(text) = clap_text(alloc, name, error) else {
+        return tell(rt, Err(Failure::Memory), out, err);
     };
     if is_asked_for(error) {
         tell(rt, Ok(text), out, err)

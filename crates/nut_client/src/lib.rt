@@ -5,6 +5,7 @@
 //! tool runs and ends in `specs/Tool.antt`. A tool asks over a link of `nut_link`.
 #![tactic(auto)]
 
+mod clap_text;
 mod command_line;
 mod conversation;
 mod destination;
@@ -17,6 +18,7 @@ mod json;
 mod laws;
 mod output;
 mod parameter;
+mod password;
 mod printing;
 mod program;
 mod stream;
@@ -29,7 +31,7 @@ mod upsrw;
 mod wanted;
 
 pub use destination::Destination;
-pub use dialing::{dial, dial_host};
+pub use dialing::dial_host;
 pub use engine::{ask_server, refuse_words};
 pub use examples::worked_examples;
 pub use failure::Failure;

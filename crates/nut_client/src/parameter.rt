@@ -5,6 +5,7 @@ ghost use Rattle.nut_client.specs.CommandLine.{argument as argument_rule, comman
 ghost use Rattle.nut_client.specs.inside.Parameters.{rule_at, with_parameter};
 
 use clap::{Arg, ArgAction, Command};
+use nut_program::VERSION;
 use std::alloc::{AllocError, Global};
 
 /// Something that a tool's command line may hold. clap's matches have it by its id.
@@ -44,7 +45,7 @@ pub(crate) const PASSWORD: Parameter = Parameter::Valued {
     id: "password",
     letter: 'p',
     kind: "PASS",
-    help: "The password of that user; other users of this machine may see it",
+    help: "The password of that user, or - to read it from standard input; other users of this machine may see what stands here",
 };
 
 /// The flag to wait until the request has ended.
@@ -80,29 +81,32 @@ impl Parameter {
     }
 }
 
-/// Makes the command of the tool of this name, with these parameters. `about` is what its help says of the tool.
+/// Makes the command of the tool of this name, with these parameters. `about` is what its help says of the tool, and
+/// `usage` the command lines that the tool knows.
 pub(crate) fn tool_command<'a>(
     alloc: Global,
     name: &'a str,
     about: &'a str,
+    usage: &'a str,
     parameters: &[Parameter],
 ) -> Result<Command<'a>, AllocError>
     ensures { IfOk result (λ c. app_of c ≡ fold with_parameter (command_rule name.entry.now []) parameters.now) }
 {
-    let mut command = begun(alloc, name, about);
+    let mut command = begun(alloc, name, about, usage);
     for parameter in parameters {
         command = command.arg(parameter.arg(alloc))?;
     }
     Ok(command)
 }
 
-/// Makes the command of the tool of this name, without arguments. `about` is what its help says of the tool.
-fn begun<'a>(alloc: Global, name: &'a str, about: &'a str) -> Command<'a>
+/// Makes the command of the tool of this name, without arguments.
+fn begun<'a>(alloc: Global, name: &'a str, about: &'a str, usage: &'a str) -> Command<'a>
     ensures { app_of result ≡ command_rule name.entry.now [] }
 {
     Command::new(alloc, name)
-        .version("profile 1.3")
+        .version(VERSION)
         .about(about)
+        .override_usage(usage)
 }
 
 /// Makes a flag.

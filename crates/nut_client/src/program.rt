@@ -1,31 +1,64 @@
 //! The tools as programs.
-use crate::dialing::dial;
-use crate::engine::{refuse_words, tell};
+use crate::destination::Destination;
+use crate::dialing::dial_host;
+use crate::engine::{put_all, refuse_words, tell};
 use crate::failure::Failure;
 use crate::output::{Output, WriterOutput};
+use crate::password::{PasswordFault, take_password};
 use crate::tool::Tool;
+use nut_program::hold_closed_streams;
 use std::alloc::AllocGlobal;
 use std::env::Env;
-use std::io::Print;
+use std::io::{Input, Print};
 use std::net::Net;
 use std::process::ExitCode;
+use std::rt::Files;
 use std::sync::Wait;
 use std::time::Clock;
-use std::{env, io};
+use std::{env, io, str};
 
-/// Runs a tool as this program: with the words of its command line, over TCP, with standard output and this error
-/// output. Returns the exit status.
-pub fn run_tool<R: Clock + Env + Net + Print + Wait + AllocGlobal, E: Print>(
+/// Runs a tool as this program: with the words of its command line, over TCP, with the standard streams, of which this is
+/// the error output. Returns the exit status.
+///
+/// Standard streams that are closed are held first, so that the connection never takes the place of one. A password `-`
+/// is read from standard input before the server is dialled. Below the line of a failure, a line of its own says why no
+/// connection was made, and the tool's usage if the words are no combination that it knows.
+pub fn run_tool<R: Clock + Env + Files + Input + Net + Print + Wait + AllocGlobal, E: Print>(
     rt: &R,
     stderr: &E,
     tool: Tool,
 ) -> ExitCode {
     let mut err = WriterOutput::new(io::writer(stderr));
-    let status = match command_words(rt) {
-        Ok(words) => run_words(rt, tool, words.as_slice(), &mut err),
+    let status = match run_held(rt, tool, &mut err) {
+        Ok(status) => status,
         Err(error) => refuse_words(rt, &error, &mut err),
     };
     ExitCode::from(status)
+}
+
+/// Runs a tool with the words of the command line. The standard streams that are closed are held meanwhile.
+///
+/// # Errors
+///
+/// Why the words are not available, or that memory cannot be allocated.
+fn run_held<R, E: Output>(rt: &R, tool: Tool, err: &mut E) -> io::Result<u8>
+where
+    R: Clock + Env + Files + Input + Net + Print + Wait + AllocGlobal,
+{
+    let held = hold_closed_streams(rt, rt.alloc())?;
+    let status = run_command_line(rt, tool, err);
+    // dropped by a call, which keeps the proof of this function short
+    drop(held);
+    status
+}
+
+/// Runs a tool with the words of the command line.
+fn run_command_line<R, E: Output>(rt: &R, tool: Tool, err: &mut E) -> io::Result<u8>
+where
+    R: Clock + Env + Input + Net + Print + Wait + AllocGlobal,
+{
+    let mut words = command_words(rt)?;
+    Ok(run_words(rt, tool, &mut words, err))
 }
 
 /// Returns the words of the command line, the program's name first.
@@ -34,19 +67,102 @@ fn command_words<R: Env + AllocGlobal>(rt: &R) -> io::Result<Vec<String>> {
     Ok(words)
 }
 
-/// Runs a tool with these words.
-fn run_words<R: Clock + Net + Print + Wait + AllocGlobal, E: Output>(
+/// Runs a tool with these words, the program's name first. Returns the exit status.
+fn run_words<R, E: Output>(rt: &R, tool: Tool, words: &mut Vec<String>, err: &mut E) -> u8
+where
+    R: Clock + Input + Net + Print + Wait + AllocGlobal,
+{
+    match tool.target(rt.alloc(), words.as_slice()) {
+        Ok(Some(destination)) => ask_for_words(rt, tool, words, destination, err),
+        Ok(None) => refuse_combination(rt, tool, words.as_slice(), err),
+        Err(_) => fail(rt, Failure::Memory, err),
+    }
+}
+
+/// Reads the password if the words ask for that, and runs a tool with them. Returns the exit status.
+fn ask_for_words<R, E: Output>(
+    rt: &R,
+    tool: Tool,
+    words: &mut Vec<String>,
+    destination: Destination,
+    err: &mut E,
+) -> u8
+where
+    R: Clock + Input + Net + Print + Wait + AllocGlobal,
+{
+    match take_password(rt.alloc(), words, rt) {
+        Ok(()) => ask_destination(rt, tool, words.as_slice(), &destination, err),
+        Err(PasswordFault::Memory) => fail(rt, Failure::Memory, err),
+        Err(PasswordFault::Missing) => {
+            put_all(rt, err, b"Error: no password on standard input\n");
+            1
+        }
+    }
+}
+
+/// Connects to the server, and runs a tool with these words. Returns the exit status.
+fn ask_destination<R, E: Output>(
     rt: &R,
     tool: Tool,
     words: &[String],
+    destination: &Destination,
     err: &mut E,
-) -> u8 {
+) -> u8
+where
+    R: Clock + Net + Print + Wait + AllocGlobal,
+{
     let mut out = WriterOutput::new(io::writer(rt));
-    let Ok(destination) = tool.target(rt.alloc(), words) else {
-        return tell(rt, Err(Failure::Memory), &mut out, err);
-    };
-    match dial(rt, destination) {
-        Some(mut stream) => tool.run(rt, rt.alloc(), words, &mut stream, &mut out, err),
-        None => tool.run_alone(rt, rt.alloc(), words, &mut out, err),
+    match dial_host(rt, &destination.host, destination.port) {
+        Ok(mut stream) => tool.run(rt, rt.alloc(), words, &mut stream, &mut out, err),
+        Err(error) => {
+            let status = tool.run_alone(rt, rt.alloc(), words, &mut out, err);
+            tell_undialled(rt, tool, destination, &error, err);
+            status
+        }
     }
+}
+
+/// Writes why no connection was made, on a line of its own. It is dropped if memory for it cannot be allocated.
+fn tell_undialled<R, E: Output>(
+    rt: &R,
+    tool: Tool,
+    destination: &Destination,
+    error: &io::Error,
+    err: &mut E,
+)
+where
+    R: Wait + AllocGlobal,
+{
+    let name = tool.name();
+    let host = str::from_utf8(destination.host.as_bytes()).unwrap_or("");
+    let port = destination.port.number;
+    if let Ok(line) = format!(in rt.alloc(); "{name}: {host}:{port}: {error}\n") {
+        put_all(rt, err, line.as_bytes());
+    }
+}
+
+/// Writes why words that name no server can't be run, with the tool's usage if they are no combination that it knows, or
+/// the text that they ask for. Returns the exit status.
+fn refuse_combination<R, E: Output>(rt: &R, tool: Tool, words: &[String], err: &mut E) -> u8
+where
+    R: Print + Wait + AllocGlobal,
+{
+    let mut out = WriterOutput::new(io::writer(rt));
+    let status = tool.run_alone(rt, rt.alloc(), words, &mut out, err);
+    if tool.is_bad_combination(rt.alloc(), words) {
+        put_all(rt, err, b"Usage: ");
+        put_all(rt, err, tool.usage().as_bytes());
+        put_all(rt, err, b"\n");
+    }
+    status
+}
+
+/// Writes why nothing was asked. Returns the exit status.
+fn fail<R: Print + Wait, E: Output>(rt: &R, failure: Failure, err: &mut E) -> u8 {
+    tell(
+        rt,
+        Err(failure),
+        &mut WriterOutput::new(io::writer(rt)),
+        err,
+    )
 }

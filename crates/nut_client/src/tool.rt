@@ -1,11 +1,11 @@
 //! The three tools: how their command lines are read, and how they run.
-ghost use Rattle.std.specs.Prelude.{◌≡◌, Err, IfOk, ⊤, map, option_map};
+ghost use Rattle.std.specs.Prelude.{◌≡◌, Err, IfOk, Ok, ⊤, map, option_map, true};
 ghost use Rattle.clap.specs.Words.{app_of, found_of, rows_of};
 ghost use Rattle.nut_client.specs.CommandLine.{command_of, dialed, line_of, target_of, wanted_of};
 ghost use Rattle.nut_client.specs.Output.{written};
 ghost use Rattle.nut_client.specs.inside.Reading.{IsRead};
 ghost use Rattle.nut_client.specs.Tool.{EndsOver, RunsAs};
-ghost use Rattle.nut_client.specs.declared.failure.Failure.TheVariants.{NoConnection};
+ghost use Rattle.nut_client.specs.declared.failure.Failure.TheVariants.{BadArguments, NoConnection};
 
 use crate::command_line::{Options, Refusal, options_of, parse, value};
 use crate::destination::Destination;
@@ -34,6 +34,24 @@ pub enum Tool {
 }
 
 impl Tool {
+    /// Returns the name of the tool.
+    pub(crate) fn name(self) -> &'static str {
+        match self {
+            Tool::Upsc => "upsc",
+            Tool::Upsrw => "upsrw",
+            Tool::Upscmd => "upscmd",
+        }
+    }
+
+    /// Returns the command lines that the tool knows, without a line feed at the end.
+    pub(crate) fn usage(self) -> &'static str {
+        match self {
+            Tool::Upsc => upsc::USAGE,
+            Tool::Upsrw => upsrw::USAGE,
+            Tool::Upscmd => upscmd::USAGE,
+        }
+    }
+
     /// Returns the command line that clap reads.
     fn command<'a>(self, alloc: Global) -> Result<Command<'a>, AllocError>
         ensures { IfOk result (λ c. app_of c ≡ command_of self) }
@@ -68,6 +86,17 @@ impl Tool {
         let options = options_of(self.wanted_in(&matches), value(&matches, "name"));
         drop(matches);
         Ok(options?)
+    }
+
+    /// Whether the words can be read, but are no combination that the tool knows. It isn't if memory cannot be allocated.
+    pub(crate) fn is_bad_combination<W: AsStr>(self, alloc: Global, words: &[W]) -> bool
+        ensures { result ≡ true → line_of self (map W.text words.now) ≡ Ok (Err BadArguments) }
+    {
+        match self.read_options(alloc, words) {
+            Ok(_options) => false,
+            Err(Refusal::Failed(failure)) => matches!(failure, Failure::BadArguments),
+            Err(Refusal::Usage(_error)) => false,
+        }
     }
 
     /// Returns the host and the port that the words of the command line tell the tool to connect to, if they name any.
@@ -106,7 +135,7 @@ impl Tool {
                 let printed = ask_server(rt, alloc, ups, wanted, stream);
                 tell(rt, printed, out, err)
             }
-            Err(refusal) => tell_refusal(rt, alloc, refusal, out, err),
+            Err(refusal) => tell_refusal(rt, alloc, self.name(), refusal, out, err),
         }
     }
 
@@ -124,7 +153,7 @@ impl Tool {
     {
         match self.read_options(alloc, words) {
             Ok(_) => tell(rt, Err(Failure::NoConnection), out, err),
-            Err(refusal) => tell_refusal(rt, alloc, refusal, out, err),
+            Err(refusal) => tell_refusal(rt, alloc, self.name(), refusal, out, err),
         }
     }
 }

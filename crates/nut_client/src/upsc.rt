@@ -89,6 +89,10 @@ fn wanted_by<'a>(
     }
 }
 
+/// The command lines that the tool knows.
+pub(crate) const USAGE: &str =
+    "upsc [-j] NAME\n       upsc NAME VAR\n       upsc -l | -L [HOST[:PORT]]\n       upsc -c NAME";
+
 /// What the command line may hold.
 const PARAMETERS: [Parameter; 6] = [
     Parameter::Flag {
@@ -124,5 +128,5 @@ pub(crate) fn command<'a>(alloc: Global) -> Result<Command<'a>, AllocError>
     ensures { IfOk result (λ c. app_of c ≡ command_of Upsc) }
 {
     let about = "Shows the variables of a UPS, or the UPSes of a server";
-    tool_command(alloc, "upsc", about, &PARAMETERS)
+    tool_command(alloc, "upsc", about, USAGE, &PARAMETERS)
 }

@@ -92,6 +92,10 @@ fn wanted_by<'a>(
     }
 }
 
+/// The command lines that the tool knows.
+pub(crate) const USAGE: &str =
+    "upscmd -l NAME\n       upscmd [-w] -u USER -p PASS NAME CMD [PARAM]";
+
 /// What the command line may hold.
 const PARAMETERS: [Parameter; 7] = [
     Parameter::Flag {
@@ -120,5 +124,5 @@ pub(crate) fn command<'a>(alloc: Global) -> Result<Command<'a>, AllocError>
     ensures { IfOk result (λ c. app_of c ≡ command_of Upscmd) }
 {
     let about = "Lists the commands of a UPS, or has it do one";
-    tool_command(alloc, "upscmd", about, &PARAMETERS)
+    tool_command(alloc, "upscmd", about, USAGE, &PARAMETERS)
 }

@@ -81,6 +81,9 @@ fn wanted_by<'a>(
     }
 }
 
+/// The command lines that the tool knows.
+pub(crate) const USAGE: &str = "upsrw NAME\n       upsrw [-w] -s VAR=VALUE -u USER -p PASS NAME";
+
 /// What the command line may hold.
 const PARAMETERS: [Parameter; 5] = [
     Parameter::Valued {
@@ -100,5 +103,5 @@ pub(crate) fn command<'a>(alloc: Global) -> Result<Command<'a>, AllocError>
     ensures { IfOk result (λ c. app_of c ≡ command_of Upsrw) }
 {
     let about = "Shows the variables of a UPS that may be set, or sets one";
-    tool_command(alloc, "upsrw", about, &PARAMETERS)
+    tool_command(alloc, "upsrw", about, USAGE, &PARAMETERS)
 }

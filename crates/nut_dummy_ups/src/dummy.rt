@@ -6,7 +6,7 @@ use clap::{Arg, ArgMatches, Command};
 use mio::net::UnixListener;
 use nut_dummy::{Dummy, Script, ScriptFault, ScriptFaultKind, ScriptKind};
 use nut_log::Lines;
-use nut_program::{Failure, OwnFault, hold_closed_streams, read_file, remark_on_unread};
+use nut_program::{Failure, OwnFault, VERSION, hold_closed_streams, read_file, remark_on_unread};
 use std::alloc::{AllocError, Global};
 use std::convert::AsStr;
 use std::io::{ErrorKind, Write};
@@ -89,7 +89,7 @@ pub fn run_dummy_ups<S: AsStr, O: Write, E: Lines>(
 ) -> u8 {
     match run(rt, alloc, words, err) {
         Ok(()) => 0,
-        Err(failure) => failure.tell(out, err),
+        Err(failure) => failure.tell_of_nuts(out, err),
     }
 }
 
@@ -264,7 +264,7 @@ fn command<'a>(alloc: Global) -> Result<Command<'a>, AllocError> {
         .required(true)
         .help("Where a server connects: SOCKDIR/dummy-ups-UPS for upsd's -s SOCKDIR");
     Command::new(alloc, "dummy-ups")
-        .version("profile 1.3")
+        .version(VERSION)
         .about("A driver that tells a script in place of a device")
         .arg(file)?
         .arg(socket)

@@ -1,7 +1,10 @@
-//! The options of both upsd and upsmon.
+//! The options of both upsd and upsmon, and those of NUT's that no program has.
 
 use clap::{Arg, ArgAction};
 use std::alloc::Global;
+
+/// Where to read about an option of NUT's that a program doesn't have: below clap's text, after the program's name.
+pub const UNKNOWN_OPTION: &str = "NUT's options that aren't taken here: see from-nut(7)";
 
 /// Returns the option `--check`, with this text in the help.
 pub fn check_option<'a>(alloc: Global, help: &'static str) -> Arg<'a> {
@@ -9,6 +12,23 @@ pub fn check_option<'a>(alloc: Global, help: &'static str) -> Arg<'a> {
         .long("check")
         .action(ArgAction::SetTrue)
         .help(help)
+}
+
+/// Returns the option `-F` of NUT's daemons: what it asks for is done anyway.
+pub fn foreground_option<'a>(alloc: Global) -> Arg<'a> {
+    Arg::new(alloc, "foreground")
+        .short('F')
+        .action(ArgAction::SetTrue)
+        .help("Stay in the foreground, as it always does")
+}
+
+/// Returns the option `-D` of NUT's daemons, which may be given several times. It keeps them in the foreground, too, and
+/// nothing else follows from it here.
+pub fn debug_option<'a>(alloc: Global) -> Arg<'a> {
+    Arg::new(alloc, "debug")
+        .short('D')
+        .action(ArgAction::Count)
+        .help("Stay in the foreground, as it always does; it tells no more than without")
 }
 
 /// Returns the option `-q`, with this text in the help.

@@ -1,5 +1,6 @@
 //! Why a program ends before its work is done.
 
+use crate::command_line::UNKNOWN_OPTION;
 use crate::conf_file::FileFault;
 use nut_io::ServeFault;
 use nut_log::{Level, Lines};
@@ -118,6 +119,24 @@ impl<F: OwnFault> Failure<F> {
             Failure::CommandLine(error) if error.use_stderr() => 2,
             Failure::CommandLine(_) => u8::from(told.is_err()),
             Failure::Own(_) | Failure::Memory | Failure::Io => 1,
+        }
+    }
+
+    /// Does what [`Failure::tell`] does, for a program that has options of NUT's: if a word of the command line is unknown,
+    /// a last line says where to read about those that aren't taken.
+    pub fn tell_of_nuts<O: Write, E: Lines>(&self, out: &mut O, err: &mut E) -> u8 {
+        let status = self.tell(out, err);
+        if self.is_unknown_word() {
+            let _ = writeln!(err.begin(Level::Error), "{UNKNOWN_OPTION}");
+        }
+        status
+    }
+
+    /// Whether the command line has a word that clap doesn't know.
+    fn is_unknown_word(&self) -> bool {
+        match self {
+            Failure::CommandLine(error) => error.kind() == clap::error::ErrorKind::UnknownArgument,
+            Failure::Own(_) | Failure::Memory | Failure::Io => false,
         }
     }
 }

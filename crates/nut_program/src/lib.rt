@@ -13,10 +13,13 @@ mod reload_report;
 mod stack;
 mod streams;
 mod unknown;
+mod version;
 mod warning;
 
 pub use arguments::refuse_start;
-pub use command_line::{check_option, quiet_option};
+pub use command_line::{
+    UNKNOWN_OPTION, check_option, debug_option, foreground_option, quiet_option,
+};
 pub use conf_file::{
     ConfFile, FileFault, read_conf, read_conf_at, read_conf_if_there, read_file, remark_on_unread,
 };
@@ -26,4 +29,5 @@ pub use reload_file::{Look, ReloadFile, Turn};
 pub use reload_report::ReloadReport;
 pub use stack::{LowStack, has_stack};
 pub use streams::{Streams, hold_closed_streams};
+pub use version::VERSION;
 pub use warning::{Readable, readable_file, warn};

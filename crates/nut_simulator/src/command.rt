@@ -1,11 +1,12 @@
 //! The command line of nutsim.
 
 use clap::{Arg, ArgAction, Command};
+use nut_program::VERSION;
 use std::alloc::{AllocError, Global};
 
 /// Returns the command line `nutsim DIR SCHEDULE MONCONF..`.
 pub fn nutsim_command<'a>(alloc: Global) -> Result<Command<'a>, AllocError> {
-    let command = Command::new(alloc, "nutsim").version("profile 1.3").about(
+    let command = Command::new(alloc, "nutsim").version(VERSION).about(
         "Plays a schedule on one server and many monitors, joined in memory",
     );
     let command = command.arg(folder_word(alloc));

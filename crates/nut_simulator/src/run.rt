@@ -7,7 +7,7 @@ use crate::room::{read_config, read_monitors};
 use nut_conf::UpsmonConf;
 use nut_log::LogStream;
 use nut_play::{Fleet, FleetFault};
-use nut_program::{Failure, Streams, remark_on_unread};
+use nut_program::{Failure, Streams, hold_closed_streams, remark_on_unread};
 use nut_server::Config;
 use std::alloc::Global;
 use std::convert::AsStr;
@@ -49,6 +49,18 @@ pub fn run_nutsim<S: AsStr>(
 }
 
 fn run<'a, S: AsStr>(
+    files: &impl Files,
+    alloc: Global,
+    words: &'a [S],
+    streams: Streams,
+) -> Result<(), Failure<NutsimFault<'a>>> {
+    // no file takes the place of a standard stream that is closed
+    let _held = hold_closed_streams(files, alloc)?;
+    run_words(files, alloc, words, streams)
+}
+
+/// Plays the schedule that these words name.
+fn run_words<'a, S: AsStr>(
     files: &impl Files,
     alloc: Global,
     words: &'a [S],

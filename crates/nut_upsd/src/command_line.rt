@@ -1,9 +1,13 @@
 //! The command line of upsd.
 
 use clap::{Arg, ArgAction, ArgMatches, Command};
-use nut_program::{check_option, quiet_option};
+use nut_program::{VERSION, check_option, debug_option, foreground_option, quiet_option};
 use std::alloc::{AllocError, Global};
 use std::convert::AsStr;
+
+/// The command lines that upsd takes. clap's own usage would be of the required options alone.
+const USAGE: &str =
+    "upsd [OPTIONS] --conf <DIR> -s <SOCKDIR>\n       upsd --check [--conf <DIR> [-s <SOCKDIR>]]\n       upsd --stdio [--conf <DIR> | --ups <NAME=DESC>...]";
 
 /// Returns what these words say on a command line, the program's name first.
 ///
@@ -39,7 +43,9 @@ pub fn upsd_command<'a>(alloc: Global) -> Result<Command<'a>, AllocError> {
     let args = with(args, quiet_upsd(alloc));
     let args = with(args, check_upsd(alloc));
     let args = with(args, Ok(stdio(alloc)));
-    command_with(alloc, with(args, ups_of_stdio(alloc)))
+    let args = with(args, ups_of_stdio(alloc));
+    let args = with(args, Ok(foreground_option(alloc)));
+    command_with(alloc, with(args, Ok(debug_option(alloc))))
 }
 
 /// Appends an item. If memory was refused to it or to an earlier one, hands that error on, so that the caller has one
@@ -64,8 +70,9 @@ fn command_with<'a>(
 
 fn bare_command<'a>(alloc: Global) -> Command<'a> {
     Command::new(alloc, "upsd")
-        .version("profile 1.3")
+        .version(VERSION)
         .about("A server of the UPS Management Protocol (RFC 9271)")
+        .override_usage(USAGE)
 }
 
 fn stdio<'a>(alloc: Global) -> Arg<'a> {

@@ -8,7 +8,7 @@ use crate::configuration::read_options;
 use crate::upsd_fault::{UpsdFault, exit_status};
 use clap::ArgMatches;
 use nut_log::Lines;
-use nut_program::Failure;
+use nut_program::{Failure, hold_closed_streams};
 use nut_server::{Config, Server};
 use nut_server_loop::{StreamWorld, serve};
 use std::alloc::Global;
@@ -63,9 +63,22 @@ fn serve_words<S: AsStr, I: Read, O: Write>(
 ///
 /// # Errors
 ///
-/// The first fault of the configuration. `Memory` if memory for the server cannot be allocated, `Input` if a read
-/// failed, `Output` if a write failed.
+/// The first fault of the configuration. `Memory` if memory cannot be allocated, `Input` if a read failed, `Output` if a
+/// write failed.
 pub fn serve_options<I: Read, O: Write>(
+    rt: &(impl Wait + Files),
+    alloc: Global,
+    matches: &ArgMatches<'_>,
+    input: &mut I,
+    out: &mut O,
+) -> Result<(), Failure<UpsdFault>> {
+    // no file takes the place of a standard stream that is closed
+    let _held = hold_closed_streams(rt, alloc)?;
+    serve_files(rt, alloc, matches, input, out)
+}
+
+/// Reads the configuration that the command line names, and serves one client with it.
+fn serve_files<I: Read, O: Write>(
     rt: &(impl Wait + Files),
     alloc: Global,
     matches: &ArgMatches<'_>,

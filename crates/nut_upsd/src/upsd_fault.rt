@@ -77,6 +77,6 @@ pub fn exit_status<O: Write, E: Lines>(
 ) -> u8 {
     match served {
         Ok(()) => 0,
-        Err(failure) => failure.tell(out, err),
+        Err(failure) => failure.tell_of_nuts(out, err),
     }
 }

@@ -2,7 +2,9 @@
 
 use crate::upsmon_fault::UpsmonFault;
 use clap::{Arg, ArgAction, ArgMatches, Command};
-use nut_program::{Failure, check_option, conf_folder, quiet_option};
+use nut_program::{
+    Failure, VERSION, check_option, conf_folder, debug_option, foreground_option, quiet_option,
+};
 use std::alloc::{Alloc, AllocError, Global};
 use std::convert::AsStr;
 use std::env::Env;
@@ -66,7 +68,7 @@ fn upsmon_command<'a>(alloc: Global) -> Result<Command<'a>, AllocError> {
     let force = force(alloc)?;
     let kill_power = kill_power(alloc)?;
     let command = Command::new(alloc, "upsmon")
-        .version("profile 1.3")
+        .version(VERSION)
         .about("A monitor of UPSes that halts its machine when too few of them are left")
         .arg(conf_of_upsmon(alloc));
     let command = with(
@@ -81,7 +83,9 @@ fn upsmon_command<'a>(alloc: Global) -> Result<Command<'a>, AllocError> {
         ),
     );
     let command = with(command, force);
-    with(command, kill_power)
+    let command = with(command, kill_power);
+    let command = with(command, foreground_option(alloc));
+    with(command, debug_option(alloc))
 }
 
 /// Adds an argument to a command line, unless memory for that is already refused.

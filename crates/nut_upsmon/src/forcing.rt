@@ -75,7 +75,7 @@ where
 {
     let target = &line.target;
     match dial_host(rt, &target.host, target.port) {
-        Some(mut stream) => force_shutdown(
+        Ok(mut stream) => force_shutdown(
             rt,
             alloc,
             Word::new(target.ups.as_bytes()),
@@ -83,7 +83,7 @@ where
             Word::new(line.password.as_bytes()),
             &mut stream,
         ),
-        None => Err(Failure::NoConnection),
+        Err(_) => Err(Failure::NoConnection),
     }
 }
 

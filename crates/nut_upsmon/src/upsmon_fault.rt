@@ -59,5 +59,5 @@ pub fn tell_failure(
     mut out: LogStream<Stdout>,
     told: &mut ErrorLines,
 ) -> u8 {
-    failure.tell(&mut out, told)
+    failure.tell_of_nuts(&mut out, told)
 }
