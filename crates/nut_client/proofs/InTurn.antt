@@ -1,22 +1,22 @@
 -- How queries are asked in turn.
-use Rattle.std.proofs.Common.{◌≡◌, ℕ, ◌+◌, ◌<◌, ◌≤◌, ◌++◌, ◌∷◌, [], List, length, take, drop, get_or, Option, Ok, Err, refl, sym, ap, ap₂, subst, ◌∙◌, inl, inr}
+use Rattle.std.proofs.Common.{◌≡◌, ℕ, ◌+◌, ◌<◌, ◌++◌, ◌∷◌, [], List, length, take, drop, get_or, Option, Result, Ok, Err, sym, ap, ap₂, subst, ◌∙◌, inr}
 use Rattle.std.proofs.lemmas.Grind.{flat_map-append}
-use Rattle.std.proofs.lemmas.List.{append-nil, drop_more, take_all, take_more}
-use Rattle.std.proofs.Math.ListN.{drop_of_length-le}
+use Rattle.std.proofs.lemmas.List.{append-nil, drop_more, take_more}
 use Rattle.std.specs.Io.KnownBytes.{append_known, prepend_known}
 use Rattle.nut_proto.specs.declared.request.Request.{Request}
+use Rattle.nut_proto.specs.declared.request.Request.TheVariants as requests
 use Rattle.nut_proto.specs.Requests.{request_line}
 use Rattle.nut_link.specs.Link.{LinkValue, fresh}
 use Rattle.nut_link.specs.declared.outcome.Outcome.{Outcome}
-use Rattle.nut_client.specs.Forcing.{in_turn, query_lines}
+use Rattle.nut_client.specs.Forcing.{forcing_queries, in_turn, query_lines}
 use Rattle.nut_client.specs.Script.{Script, Asks, on_done}
 use Rattle.nut_client.specs.Tool.{Ends}
 use Rattle.nut_client.specs.declared.failure.Failure.{Failure}
 use Rattle.nut_client.specs.inside.Conversation.{Answered}
 use Rattle.nut_client.specs.inside.InTurn.{IsInTurn}
 use Rattle.nut_client.specs.inside.Task.{FailsBy, IsDone, answered}
-use Rattle.nut_client.proofs.Runs.{append_none, append_twice}
-use Rattle.nut_client.proofs.Turns.{at_start, ends_asking, ends_by, ends_well, goes_to}
+use Rattle.nut_client.proofs.Runs.{append_twice}
+use Rattle.nut_client.proofs.Turns.{ends_asking, ends_by, goes_to}
 
 -- what is left at a query
 left_asks : (queries : List Request) (i : ℕ) (query : Request) → i < length queries → query ≡ get_or queries i query
@@ -30,13 +30,6 @@ lines_more queries i query within is =
     ap query_lines (take_more queries i query within ∙ ap (λ q. take i queries ++ q ∷ []) (sym is))
     ∙ flat_map-append request_line (take i queries) (query ∷ [])
     ∙ ap (λ l. query_lines (take i queries) ++ l) (append-nil (request_line query))
-
-pub starts : (queries : List Request) (link : LinkValue) (unread : List ℕ) (input before : Option (List ℕ)) → link ≡ fresh → unread ≡ []
-    → IsInTurn queries 0 link unread input (prepend_known unread input) before before
-starts queries link unread input before here none = record {
-  between = at_start (in_turn queries) (in_turn (drop 0 queries)) link unread input before refl here none;
-  asked = sym (append_none before);
-}
 
 -- A query was answered OK.
 pub goes : (queries : List Request) (i : ℕ) (query : Request) (outcome : Outcome) (link link' : LinkValue) (unread unread' : List ℕ) (input mid last before taken taken' : Option (List ℕ))
@@ -71,12 +64,10 @@ refused queries i query outcome failure link link' unread unread' input mid last
     ends_by (in_turn queries) (in_turn (drop i queries)) query (on_done (in_turn (drop (i + 1) queries))) outcome failure link link' unread unread' input mid last before taken taken'
     at.between asks came there (subst (λ s. FailsBy (answered outcome s) failure) (sym asks) (inr (fails.1 (in_turn (drop (i + 1) queries)), fails.0)))
 
--- All queries were answered OK.
-pub ends : (queries : List Request) (i : ℕ) (link : LinkValue) (unread : List ℕ) (input last before taken : Option (List ℕ))
-    → length queries ≤ i → IsInTurn queries i link unread input (prepend_known unread last) before taken → Ends (in_turn queries) (Ok []) input last before taken
-ends queries i link unread input last before taken past at =
-    ends_well (in_turn queries) (in_turn (drop i queries)) [] [] link unread input last before taken at.between (ap in_turn (drop_of_length-le queries past)) refl
-
-pub all_asked : (queries : List Request) (i : ℕ) (link : LinkValue) (unread : List ℕ) (input last before taken : Option (List ℕ))
-    → length queries ≤ i → IsInTurn queries i link unread input last before taken → taken ≡ append_known before (query_lines queries)
-all_asked queries i link unread input last before taken past at = at.asked ∙ ap (λ q. append_known before (query_lines q)) (take_all i queries past)
+-- The queries about a UPS may have copies of its name.
+pub forces : (ups user password login primary : List ℕ) (result : Result (List ℕ) Failure) (input last before taken : Option (List ℕ)) → login ≡ ups → primary ≡ ups
+    → Ends (in_turn (requests.Username user ∷ requests.Password password ∷ requests.Login login ∷ requests.Primary primary ∷ requests.Fsd ups ∷ [])) result input last before taken
+    → Ends (in_turn (forcing_queries ups user password)) result input last before taken
+forces ups user password login primary result input last before taken same also ends =
+    let queries : List ℕ → List ℕ → List Request = λ l p. requests.Username user ∷ requests.Password password ∷ requests.Login l ∷ requests.Primary p ∷ requests.Fsd ups ∷ [] in
+    subst (λ q. Ends (in_turn q) result input last before taken) (ap₂ queries same also) ends
