@@ -42,6 +42,10 @@ SHORT, LONG, PATIENCE = 5, 10, 5
 # how many hosts the dead name server is asked for, and a host that is found without it
 HOSTS = 30
 KNOWN = "ups.example"
+LATE = (
+    "upsmon: warning: UPS %s: an answer took more than 5 s: on battery upsmon gives up such a server, and may stop this machine"
+    " after DEADTIME"
+)
 
 
 class Moody(Upstream):
@@ -65,6 +69,20 @@ class Moody(Upstream):
         self.ends.clear()
 
 
+class Slow(Moody):
+    """A server that takes a second and a half more for each answer to a query for a status than it has on battery."""
+
+    def __init__(self):
+        self.slow = []
+        super().__init__()
+
+    def answer(self, line):
+        if line == STATUS:
+            time.sleep(SHORT + 1.5)
+            self.slow.append(line)
+        return super().answer(line)
+
+
 @contextlib.contextmanager
 def deaf(port):
     """Has this port take no connections, as behind a firewall that drops them: nobody accepts those that fill its queue."""
@@ -83,6 +101,11 @@ def reports_of(watch, target):
     front = f"upsmon: UPS {target}: "
     found = [line[len(front) :] for line in watch.lines("err") if line.startswith(front)]
     return [line for line in found if not line.startswith("watched as ")]
+
+
+def warnings_of(watch):
+    """Returns the warnings on standard error, without those of settings."""
+    return [line for line in watch.lines("err") if line.startswith("upsmon: warning: UPS ")]
 
 
 class Tests(Shimmed):
@@ -253,6 +276,16 @@ class Tests(Shimmed):
             expect(watch.status(), 0, "status")
             ensure(server.asked.count(b"FSD su700\n") >= 2, "FSD is asked for again")
             expect(reports_of(watch, server.target), [*wanted, "FSD refused: ACCESS-DENIED"], f"what is told at the end {words}")
+
+    def test_server_that_is_slow(self):
+        """An answer that comes after the time that a server has on battery is told once, until the server was lost, also with -q.
+        It is read all the same."""
+        with Slow() as server, self.watch(f"MONITOR {server.target} 1 mon m1 primary\nPOLLFREQ 1\n", "-q") as watch:
+            for count in (1, 2):
+                until(lambda: len(server.slow) >= 2 * count, "two slow answers", 40)
+                expect(warnings_of(watch), [LATE % server.target] * count, "what is told")
+                expect(watch.lines().count(LOST % server.target), count - 1, "the link stays until the server drops it")
+                server.drop()
 
     def test_servers_that_never_serve(self):
         """A server that closes each connection, one that says what wasn't asked, and one that answers with a line that is no

@@ -15,5 +15,6 @@ mod report;
 mod upstream;
 
 pub use herald::Herald;
+pub use limits::{ANSWER_ON_BATTERY, LATE_ANSWERS};
 pub use links::NewLinks;
 pub use mio_mon_world::MioMonWorld;

@@ -280,6 +280,9 @@ impl Links {
         if is_read && is_after_opening(query) && upstream.begins_to_serve() {
             reports.tell(Report::Reached(upstream.name()));
         }
+        if upstream.begins_to_be_late() {
+            reports.warn(Report::Late(upstream.name()));
+        }
         if is_told {
             tell_refusal(upstream.name(), query, reply, reports);
         }

@@ -1,5 +1,6 @@
 //! What is reported of the servers of watched UPSes.
 
+use crate::limits::{ANSWER_ON_BATTERY, LATE_ANSWERS};
 use std::{fmt, io};
 
 /// An event at the link to a server, with the target of its MONITOR line as upsmon.conf writes it.
@@ -15,6 +16,8 @@ pub enum Report<'a> {
     GivenUp(&'a str, u8),
     /// The server said something that can't be read or wasn't asked for.
     Unread(&'a str),
+    /// An answer took longer than a server may take while a UPS is on battery.
+    Late(&'a str),
     /// The server refused a query: the target, the query, and the name of the error.
     Refused(&'a str, &'a str, &'a str),
 }
@@ -34,6 +37,10 @@ impl<'a> fmt::Display for Report<'a> {
                     "UPS {target}: server lost: what it says is not understood"
                 )
             }
+            Report::Late(target) => write!(
+                f,
+                "warning: UPS {target}: an answer took more than {ANSWER_ON_BATTERY} s: {LATE_ANSWERS}"
+            ),
             Report::Refused(target, what, error) => {
                 write!(f, "UPS {target}: {what} refused: {error}")
             }

@@ -6,7 +6,7 @@ ghost use Rattle.nut_io.specs.Writes.{IsWithin};
 use crate::dialler::Dialler;
 use crate::host::Host;
 use crate::inquiry::{Inquiry, Reply};
-use crate::limits::Limits;
+use crate::limits::{ANSWER_ON_BATTERY, Limits};
 use crate::pause::Pause;
 use crate::refusals::Refusals;
 use mio::event::Event;
@@ -46,6 +46,10 @@ pub struct Upstream {
     /// Whether the server has answered a query after those that open a link, since this link was made.
     serves: bool,
     refusals: Refusals,
+    /// Whether the last answer took longer than a server may take while a UPS is on battery.
+    was_late: bool,
+    /// Whether it was noted, since a server was lost that served, that an answer did.
+    is_late_noted: bool,
     /// How many seconds the server has owed a status.
     owed: u8,
     /// Whether it was noted, since the server last served, that there is no server.
@@ -66,6 +70,8 @@ impl Upstream {
             pause: Pause::none(),
             serves: false,
             refusals: Refusals::none(),
+            was_late: false,
+            is_late_noted: false,
             owed: 0,
             is_missed: false,
         })
@@ -213,9 +219,20 @@ impl Upstream {
     /// Returns the answer to the outstanding query, if the piece that was read completes a line.
     pub fn reply_in(&mut self, alloc: Global, piece: &[u8]) -> Option<Reply> {
         match &mut self.stage {
-            Stage::Up(_, inquiry) => inquiry.hear(alloc, piece),
+            Stage::Up(_, inquiry) => {
+                let is_late = inquiry.is_overdue(ANSWER_ON_BATTERY);
+                let reply = inquiry.hear(alloc, piece);
+                self.was_late = is_late && reply.is_some();
+                reply
+            }
             Stage::Down | Stage::Calling(_, _) => None,
         }
+    }
+
+    /// Whether the last answer took longer than a server may take while a UPS is on battery, and none did before, since a
+    /// server was lost that served.
+    pub fn begins_to_be_late(&mut self) -> bool {
+        self.was_late && !mem::replace(&mut self.is_late_noted, true)
     }
 
     /// Notes the answer to a query, and returns whether it is a refusal that is now to be reported.
@@ -280,6 +297,7 @@ impl Upstream {
         self.stage = Stage::Down;
         let served = mem::replace(&mut self.serves, false);
         if served {
+            self.is_late_noted = false;
             self.pause = Pause::none();
             self.refusals = Refusals::none();
         } else {
