@@ -42,6 +42,7 @@ SHORT, LONG, PATIENCE = 5, 10, 5
 # how many hosts the dead name server is asked for, and a host that is found without it
 HOSTS = 30
 KNOWN = "ups.example"
+WAITS = "upsmon: warning: UPS %s: the server waits for its driver (WAIT): no shutdown begins by DEADTIME until it has heard it"
 LATE = (
     "upsmon: warning: UPS %s: an answer took more than 5 s: on battery upsmon gives up such a server, and may stop this machine"
     " after DEADTIME"
@@ -286,6 +287,40 @@ class Tests(Shimmed):
                 expect(warnings_of(watch), [LATE % server.target] * count, "what is told")
                 expect(watch.lines().count(LOST % server.target), count - 1, "the link stays until the server drops it")
                 server.drop()
+
+    def test_server_that_waits_for_its_driver(self):
+        """A status with WAIT after another is told once, also with -q, and however often the link is lost meanwhile."""
+        for words in ((), ("-q",)):
+            with Moody(status=b"WAIT") as server:
+                conf = f"MONITOR {server.target} 1 mon m1 primary\nPOLLFREQ 1\nDEADTIME 3\n"
+                with self.watch(conf, *words) as watch:
+                    for count, status in enumerate((b"WAIT", b"OB", b"WAIT", b"AWAIT", b"ALARM WAIT", b"ERR DATA-STALE\n", b"WAIT", b"OL")):
+                        server.statuses[b"su700"] = status
+                        if count in (2, 6):
+                            server.drop()
+                        server.asked.clear()
+                        until(lambda: server.asked.count(STATUS) >= 3, f"the status is asked for: {status}", 20)
+                        wanted = 0 if count < 2 else 1 if count < 4 else 2
+                        expect(warnings_of(watch), [WAITS % server.target] * wanted, f"what is told of {status}, {words}")
+
+    def test_server_that_waits_for_its_driver_stops_no_machine(self):
+        """After OB, WAIT and then nothing the machine goes on after DEADTIME, as the warning says; after OB and nothing it
+        doesn't."""
+        for status, is_halted in ((b"OB", True), (b"WAIT", False)):
+            with Moody(status=b"OB") as server:
+                conf = f"MONITOR {server.target} 1 mon m1 primary\nPOLLFREQ 1\nDEADTIME 3\nHOSTSYNC 1\nFINALDELAY 0\n"
+                with self.watch(conf) as watch:
+                    watch.until_printed(ON_BATTERY % server.target)
+                    server.statuses[b"su700"] = status
+                    server.asked.clear()
+                    until(lambda: server.asked.count(STATUS) >= 3, "the status is asked for")
+                    server.close()
+                    watch.until_printed(LOST % server.target, 20)
+                    if is_halted:
+                        expect(watch.status(20), 0, "the halt")
+                    else:
+                        time.sleep(6)
+                        expect((watch.process.poll(), warnings_of(watch)), (None, [WAITS % server.target]), "it goes on")
 
     def test_servers_that_never_serve(self):
         """A server that closes each connection, one that says what wasn't asked, and one that answers with a line that is no

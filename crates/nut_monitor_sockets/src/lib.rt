@@ -13,6 +13,7 @@ mod pause;
 mod refusals;
 mod report;
 mod upstream;
+mod waiting;
 
 pub use herald::Herald;
 pub use limits::{ANSWER_ON_BATTERY, LATE_ANSWERS};

@@ -283,6 +283,9 @@ impl Links {
         if upstream.begins_to_be_late() {
             reports.warn(Report::Late(upstream.name()));
         }
+        if is_read && upstream.begins_to_wait(query, reply) {
+            reports.warn(Report::Waits(upstream.name()));
+        }
         if is_told {
             tell_refusal(upstream.name(), query, reply, reports);
         }

@@ -18,6 +18,8 @@ pub enum Report<'a> {
     Unread(&'a str),
     /// An answer took longer than a server may take while a UPS is on battery.
     Late(&'a str),
+    /// The server tells a status with WAIT after another status.
+    Waits(&'a str),
     /// The server refused a query: the target, the query, and the name of the error.
     Refused(&'a str, &'a str, &'a str),
 }
@@ -40,6 +42,10 @@ impl<'a> fmt::Display for Report<'a> {
             Report::Late(target) => write!(
                 f,
                 "warning: UPS {target}: an answer took more than {ANSWER_ON_BATTERY} s: {LATE_ANSWERS}"
+            ),
+            Report::Waits(target) => write!(
+                f,
+                "warning: UPS {target}: the server waits for its driver (WAIT): no shutdown begins by DEADTIME until it has heard it"
             ),
             Report::Refused(target, what, error) => {
                 write!(f, "UPS {target}: {what} refused: {error}")

@@ -9,6 +9,7 @@ use crate::inquiry::{Inquiry, Reply};
 use crate::limits::{ANSWER_ON_BATTERY, Limits};
 use crate::pause::Pause;
 use crate::refusals::Refusals;
+use crate::waiting::Waiting;
 use mio::event::Event;
 use mio::net::TcpStream;
 use nut_conf::Monitored;
@@ -46,6 +47,8 @@ pub struct Upstream {
     /// Whether the server has answered a query after those that open a link, since this link was made.
     serves: bool,
     refusals: Refusals,
+    /// Whether the server waits for its driver. NUT's upsd does so on a new link, once it was started again.
+    waiting: Waiting,
     /// Whether the last answer took longer than a server may take while a UPS is on battery.
     was_late: bool,
     /// Whether it was noted, since a server was lost that served, that an answer did.
@@ -70,6 +73,7 @@ impl Upstream {
             pause: Pause::none(),
             serves: false,
             refusals: Refusals::none(),
+            waiting: Waiting::none(),
             was_late: false,
             is_late_noted: false,
             owed: 0,
@@ -242,6 +246,16 @@ impl Upstream {
             self.owed = 0;
         }
         is_told
+    }
+
+    /// Notes an answer that the monitor has read. Returns whether the server now waits for its driver, though it told another
+    /// status before.
+    pub fn begins_to_wait(&mut self, query: Query, reply: &Reply) -> bool {
+        match (query, reply) {
+            (Query::Status, Reply::Waits) => self.waiting.begins(true),
+            (Query::Status, Reply::Other) => self.waiting.begins(false),
+            _ => false,
+        }
     }
 
     /// Notes that the server answered a query after those that open a link. Returns whether this is the first on this
