@@ -42,10 +42,16 @@ SHORT, LONG, PATIENCE = 5, 10, 5
 # how many hosts the dead name server is asked for, and a host that is found without it
 HOSTS = 30
 KNOWN = "ups.example"
+FSD = b"FSD su700\n"
+COUNT = b"GET NUMLOGINS su700\n"
 WAITS = "upsmon: warning: UPS %s: the server waits for its driver (WAIT): no shutdown begins by DEADTIME until it has heard it"
 LATE = (
     "upsmon: warning: UPS %s: an answer took more than 5 s: on battery upsmon gives up such a server, and may stop this machine"
     " after DEADTIME"
+)
+RETURNED = (
+    "upsmon: warning: UPS %s: the server that had accepted FSD is back: if it was started again, FSD is gone, and machines that"
+    " have not come back are not waited for"
 )
 
 
@@ -321,6 +327,51 @@ class Tests(Shimmed):
                     else:
                         time.sleep(6)
                         expect((watch.process.poll(), warnings_of(watch)), (None, [WAITS % server.target]), "it goes on")
+
+    def test_server_that_is_lost_after_fsd(self):
+        """A primary that waits for others is told each time that the server which accepted its FSD is back. A server that
+        comes and goes without serving isn't."""
+        with Moody(status=b"OB LB") as server:
+            server.logins = 2
+            conf = f"MONITOR {server.target} 1 mon m1 primary\nPOLLFREQ 1\nHOSTSYNC 60\nFINALDELAY 0\n"
+            with self.watch(conf, "-q") as watch:
+                for count in (0, 1, 2):
+                    until(lambda: server.asked.count(COUNT) >= 2, "who is logged in is counted")
+                    expect(warnings_of(watch), [RETURNED % server.target] * count, f"what is told after {count} losses")
+                    expect(server.asked.count(FSD), 1 if count == 0 else 0, "how often FSD is asked for")
+                    server.asked.clear()
+                    server.is_silent = count == 0
+                    server.drop()
+                    if server.is_silent:
+                        until(lambda: server.ends, "it is called again")
+                        server.is_silent = False
+                        server.drop()
+                server.logins = 1
+                expect(watch.status(20), 0, "the halt")
+
+    def test_server_that_is_started_again_after_fsd(self):
+        """upsd is killed once it has accepted FSD, and started again: a secondary that isn't back isn't waited for, which is
+        told before the shutdown goes on."""
+        with self.room() as room:
+            target = f"su700@127.0.0.1:{room.port}"
+            room.dummy(b"ups.status: OB LB\n", "dev")
+            server = room.upsd()
+            room.until(STATUS, b'VAR su700 ups.status "OB LB"\n')
+            conf = f"MONITOR {target} 1 mon m1 primary\nPOLLFREQ 1\nHOSTSYNC 60\nFINALDELAY 0\n"
+            with room.client() as secondary:
+                secondary.log_in(b"guest", b"g1")
+                expect(secondary.ask(b"LOGIN su700\n"), b"OK\n", "the secondary logs in")
+                with self.watch(conf, stderr=subprocess.STDOUT) as watch:
+                    room.until(STATUS, b'VAR su700 ups.status "FSD OB LB"\n')
+                    room.until(COUNT, b"NUMLOGINS su700 2\n")
+                    time.sleep(1.5)
+                    ensure(SHUTDOWN not in watch.lines(), "the secondary is waited for")
+                    server.kill()
+                    server.wait()
+                    room.upsd()
+                    expect(watch.status(20), 0, "the halt")
+                    told = [line for line in watch.lines() if line in (RETURNED % target, SHUTDOWN)]
+                    expect(told, [RETURNED % target, SHUTDOWN], "what is told in turn")
 
     def test_servers_that_never_serve(self):
         """A server that closes each connection, one that says what wasn't asked, and one that answers with a line that is no

@@ -20,6 +20,8 @@ pub enum Report<'a> {
     Late(&'a str),
     /// The server tells a status with WAIT after another status.
     Waits(&'a str),
+    /// The server had accepted FSD, was lost, and is connected again while this machine waits for others.
+    Returned(&'a str),
     /// The server refused a query: the target, the query, and the name of the error.
     Refused(&'a str, &'a str, &'a str),
 }
@@ -46,6 +48,10 @@ impl<'a> fmt::Display for Report<'a> {
             Report::Waits(target) => write!(
                 f,
                 "warning: UPS {target}: the server waits for its driver (WAIT): no shutdown begins by DEADTIME until it has heard it"
+            ),
+            Report::Returned(target) => write!(
+                f,
+                "warning: UPS {target}: the server that had accepted FSD is back: if it was started again, FSD is gone, and machines that have not come back are not waited for"
             ),
             Report::Refused(target, what, error) => {
                 write!(f, "UPS {target}: {what} refused: {error}")

@@ -49,6 +49,8 @@ pub struct Upstream {
     refusals: Refusals,
     /// Whether the server waits for its driver. NUT's upsd does so on a new link, once it was started again.
     waiting: Waiting,
+    /// Whether a link on which the server served was lost, and none was made since.
+    is_gone: bool,
     /// Whether the last answer took longer than a server may take while a UPS is on battery.
     was_late: bool,
     /// Whether it was noted, since a server was lost that served, that an answer did.
@@ -74,6 +76,7 @@ impl Upstream {
             serves: false,
             refusals: Refusals::none(),
             waiting: Waiting::none(),
+            is_gone: false,
             was_late: false,
             is_late_noted: false,
             owed: 0,
@@ -258,6 +261,11 @@ impl Upstream {
         }
     }
 
+    /// Notes that the link is made. Returns whether it is the first one since a link was lost on which the server served.
+    pub fn returns(&mut self) -> bool {
+        mem::take(&mut self.is_gone)
+    }
+
     /// Notes that the server answered a query after those that open a link. Returns whether this is the first on this
     /// link.
     pub fn begins_to_serve(&mut self) -> bool {
@@ -311,6 +319,7 @@ impl Upstream {
         self.stage = Stage::Down;
         let served = mem::replace(&mut self.serves, false);
         if served {
+            self.is_gone = true;
             self.is_late_noted = false;
             self.pause = Pause::none();
             self.refusals = Refusals::none();
