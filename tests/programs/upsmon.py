@@ -21,6 +21,7 @@ from tests.support.monitored import (
     FLAG,
     FORCED,
     LOST,
+    OF_SHUTDOWN,
     ON_BATTERY,
     QUICK,
     SHUTDOWN,
@@ -346,6 +347,18 @@ class Tests(Shimmed):
                 with self.watch(f"MONITOR {server.target} 1 mon m1 primary\n{QUICK}SHUTDOWNCMD true\n", "-q") as watch:
                     expect(watch.status(), 0, "status")
                     expect(watch.of_shutdown(), [it % server.target for it in wanted], f"{status} {logins}")
+
+    def test_order_of_what_is_told_of_a_shutdown(self):
+        """What it is for comes after the notices of what began it, and before its own."""
+        for times in (QUICK, "POLLFREQ 1\nHOSTSYNC 3\nFINALDELAY 0\n"):
+            with Upstream(status=b"OB LB") as server:
+                server.logins = 2
+                conf = f"MONITOR {server.target} 1 mon m1 primary\n{times}SHUTDOWNCMD true\n"
+                with self.watch(conf, "-q", stderr=subprocess.STDOUT) as watch:
+                    expect(watch.status(), 0, "status")
+                    found = [line for line in watch.lines() if not line.startswith(f"{OF_SHUTDOWN}other")]
+                    low = f"{OF_SHUTDOWN}UPS {server.target} is on battery, and its battery is low"
+                    expect(found, [ON_BATTERY % server.target, BATTERY_LOW % server.target, low, SHUTDOWN], "the lines in turn")
 
     def test_what_is_told_of_a_shutdown_for_a_lost_server(self):
         with Upstream(status=b"OB") as server:
