@@ -10,6 +10,7 @@ import os
 import subprocess
 import sys
 import tempfile
+import time
 
 from tests.support.harness import expect, run_tests
 from tests.support.monitored import (
@@ -26,7 +27,7 @@ from tests.support.monitored import (
     put_program,
 )
 from tests.peers.server import NutRoom, needed
-from tests.support.room import ONLINE, STATUS, until
+from tests.support.room import ONLINE, STATUS, stopped, until
 
 ADMIN = b"[admin]\npassword = pw\nactions = SET\ninstcmds = ALL\n"
 HALTS = 'POWERDOWNFLAG FOLDER/flag\nSHUTDOWNCMD "touch FOLDER/halted"\n'
@@ -42,17 +43,22 @@ class Tests:
 
     def begin(self, room, text):
         """Starts NUT's driver and its server, and waits until they report a status."""
-        driver, server = needed("dummy-ups", "nut-server"), needed("upsd", "nut-server")
+        driver = needed("dummy-ups", "nut-server")
+        needed("upsd", "nut-server")
         needed("upsc", "nut-client")
         room.configure_nut(text)
         users = os.path.join(room.path("nut"), "upsd.users")
         with open(users, "wb") as file:
             file.write(ADMIN + USERS)
         room.driver_process = room.start_nut(driver, "-a", "su700")
-        process = room.start_nut(server)
-        until(lambda: room.can_connect(process), "NUT's upsd listens")
+        self.begin_server(room)
         until(lambda: room.tool("upsc", "ROOM", "ups.status")[0] == 0, "NUT's upsd tells a status")
         return f"su700@127.0.0.1:{room.port}"
+
+    def begin_server(self, room):
+        """Starts NUT's server, and waits until it listens."""
+        room.server_process = room.start_nut(needed("upsd", "nut-server"))
+        until(lambda: room.can_connect(room.server_process), "NUT's upsd listens")
 
     def watch(self, target, user, conf):
         name, password, role = user
@@ -150,6 +156,26 @@ class Tests:
                 room.start_nut(needed("dummy-ups", "nut-server"), "-a", "su700")
                 watch.until_printed(ESTABLISHED % target, 30)
                 expect(watch.lines(), [LOST % target, ESTABLISHED % target], "what upsmon prints")
+
+    def test_server_that_waits_for_its_driver(self):
+        """NUT's server is started again on battery, and its driver hangs: what upsmon tells, and that DEADTIME stops nothing."""
+        with self.room() as room:
+            target = self.begin(room, b"ups.status: OB\n")
+            waits = "the server waits for its driver (WAIT): no shutdown begins by DEADTIME until it has heard it"
+            with self.watch(target, ("mon", "m1", "primary"), f"{QUICK}DEADTIME 4\n{HALTS}") as watch:
+                watch.until_printed(ON_BATTERY % target)
+                with stopped(room.driver_process):
+                    room.server_process.kill()
+                    room.server_process.wait()
+                    self.begin_server(room)
+                    told = f"upsmon: warning: UPS {target}: {waits}"
+                    until(lambda: told in watch.lines("err"), "the warning", 20)
+                    # NUT's server refuses the status from the fifteenth second on
+                    watch.until_printed(LOST % target, 30)
+                    time.sleep(8)
+                    expect((watch.process.poll(), watch.lines("err").count(told)), (None, 1), "it goes on, and tells it once")
+                self.set_status(room, "OB LB")
+                expect((watch.status(30), watch.read("halted")), (0, b""), "the halt")
 
 
 def main():

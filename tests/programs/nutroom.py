@@ -34,6 +34,8 @@ PROGRAM = os.path.join(ROOT, "tools", "nutroom")
 PAGE = os.path.join(ROOT, "docs", "room.md")
 PICTURE = os.path.join(ROOT, "docs", "room.svg")
 MANUAL = os.path.join(ROOT, "man", "nutroom.8")
+LIMITS = os.path.join(ROOT, "crates", "nut_monitor_sockets", "src", "limits.rt")
+MONITOR_MANUAL = os.path.join(ROOT, "man", "upsmon.8")
 SVG = "{http://www.w3.org/2000/svg}"
 
 ROOMS = 300
@@ -413,6 +415,19 @@ class Tests:
         with open(svg) as drawn, open(PICTURE) as shown_there:
             expect(drawn.read() == shown_there.read(), True, "docs/room.svg is what is drawn")
         ensure("](room.svg)" in page, "the picture isn't shown")
+
+    def test_the_greatest_delay_is_what_upsmon_waits_for(self):
+        """upsmon's own limit, which stands in its source, is that of this program and of the pages."""
+        with open(LIMITS) as file:
+            (most,) = re.findall(r"^pub const ANSWER_ON_BATTERY: u8 = (\d+);$", file.read(), re.MULTILINE)
+        expect(nutroom.PATIENCE_ON_BATTERY, int(most), "the greatest delay of a room")
+        for path, said in (
+            (MANUAL, f"The most may be {most}: while a UPS is on battery,"),
+            (MONITOR_MANUAL, f"or {most} while any UPS is on battery, it is lost"),
+            (PAGE, f"If it is more than {most}, none of this holds"),
+        ):
+            with open(path) as file:
+                ensure(said in file.read(), f"{path} says {said!r}")
 
     def test_the_script_that_measures(self):
         """The script that docs/room.md shows prints the greatest delay."""

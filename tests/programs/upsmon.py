@@ -21,6 +21,7 @@ from tests.support.monitored import (
     FLAG,
     FORCED,
     LOST,
+    OF_SHUTDOWN,
     ON_BATTERY,
     QUICK,
     SHUTDOWN,
@@ -347,6 +348,18 @@ class Tests(Shimmed):
                     expect(watch.status(), 0, "status")
                     expect(watch.of_shutdown(), [it % server.target for it in wanted], f"{status} {logins}")
 
+    def test_order_of_what_is_told_of_a_shutdown(self):
+        """What it is for comes after the notices of what began it, and before its own."""
+        for times in (QUICK, "POLLFREQ 1\nHOSTSYNC 3\nFINALDELAY 0\n"):
+            with Upstream(status=b"OB LB") as server:
+                server.logins = 2
+                conf = f"MONITOR {server.target} 1 mon m1 primary\n{times}SHUTDOWNCMD true\n"
+                with self.watch(conf, "-q", stderr=subprocess.STDOUT) as watch:
+                    expect(watch.status(), 0, "status")
+                    found = [line for line in watch.lines() if not line.startswith(f"{OF_SHUTDOWN}other")]
+                    low = f"{OF_SHUTDOWN}UPS {server.target} is on battery, and its battery is low"
+                    expect(found, [ON_BATTERY % server.target, BATTERY_LOW % server.target, low, SHUTDOWN], "the lines in turn")
+
     def test_what_is_told_of_a_shutdown_for_a_lost_server(self):
         with Upstream(status=b"OB") as server:
             conf = f"MONITOR {server.target} 1 mon m1 primary\n{QUICK}DEADTIME 3\nSHUTDOWNCMD true\n"
@@ -554,6 +567,7 @@ class Tests(Shimmed):
         conf = "MONITOR a@h 1 mon m1 primary\nMONITOR b@h:9 1 mon m1 primary\nMONITOR c@h 0 mon m1 primary\nSHUTDOWNCMD true\n"
         unknown = "upsmon: UPS %s: battery.runtime.low isn't known\n"
         late = "upsmon: warning: UPS %s: battery.runtime.low is %d, and this machine stops within 28 s of OB LB\n"
+        slow = "upsmon: warning: UPS %s: no answer within 5 s: on battery upsmon gives up such a server, and may stop this machine after DEADTIME\n"
         for upsc, told in (
             ("echo 28", ""),
             ("echo 28.9", ""),
@@ -565,7 +579,9 @@ class Tests(Shimmed):
             ("echo 20; exit 1", unknown % "a@h" + unknown % "b@h:9"),
             ("echo", unknown % "a@h" + unknown % "b@h:9"),
             ("echo 1e3", unknown % "a@h" + unknown % "b@h:9"),
-            ("exec sleep 60", unknown % "a@h" + unknown % "b@h:9"),
+            # nothing within the time that upsmon gives a server on battery
+            ("exec sleep 60", slow % "a@h" + slow % "b@h:9"),
+            ("sleep 3; echo 300", ""),
             # it leaves a process that holds its output
             ("sleep 60 & exit 0", unknown % "a@h" + unknown % "b@h:9"),
             ("sleep 60 & echo 20", late % ("a@h", 20) + late % ("b@h:9", 20)),
@@ -580,7 +596,9 @@ class Tests(Shimmed):
         conf = "".join(f"MONITOR {name} 1 mon m1 primary\n" for name in names) + "MINSUPPLIES 1\nSHUTDOWNCMD true\n"
         begun = time.monotonic()
         err = self.checked(conf, upsc="exec sleep 60")[2]
-        expect(sorted(err.splitlines(True)), [unknown % name for name in names], "more UPSes than are asked in time")
+        # eight are asked at a time, and the next ones don't have these seconds
+        wanted = sorted([slow % name for name in names[:8]] + [unknown % name for name in names[8:]])
+        expect(sorted(err.splitlines(True)), wanted, "more UPSes than are asked in time")
         ensure(time.monotonic() - begun < 15, "twenty silent UPSes: it took too long")
 
     def test_start_asks_how_early_lb_is_said(self):

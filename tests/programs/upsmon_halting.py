@@ -336,6 +336,47 @@ class Tests(Shimmed):
                 expect(fronts(watch.told(), wanted), wanted, "what is told")
             os.chmod(folder, 0o700)
 
+    def test_check_tells_of_the_flag(self):
+        """It says what the start says of the flag, removes none, and leaves no file."""
+        with tempfile.TemporaryDirectory(dir=self.folder) as folder:
+            flag, closed = os.path.join(folder, "flag"), os.path.join(folder, "closed")
+            os.mkdir(closed, 0o500)
+            warning = "upsmon: warning: POWERDOWNFLAG %s "
+            for path, lay, role, wanted in (
+                (flag, None, "primary", []),
+                (os.path.join(folder, "none/flag"), None, "primary", [warning + "cannot be written: No such file or directory"]),
+                (os.path.join(closed, "flag"), None, "primary", [warning + "cannot be written: Permission denied"]),
+                (os.path.join(closed, "flag"), None, "secondary", []),
+                (flag, self.file_of(FLAG), "primary", []),
+                (flag, self.file_of(b"mine\n"), "primary", [warning + FOREIGN]),
+                (flag, os.mkfifo, "secondary", [warning + FOREIGN]),
+                # what an upsmon that watches has ready, and what one left that was killed
+                (flag + "-1", lambda it: self.file_of(FLAG)(it + ".new"), "primary", []),
+                (flag + "-2", lambda it: os.mkdir(it + ".new"), "primary", [warning + "cannot be written: File exists"]),
+            ):
+                if lay is not None:
+                    lay(path)
+                before = self.look(folder), self.look(closed)
+                told = [it % path for it in wanted]
+                expect(fronts(self.checked(f"POWERDOWNFLAG {path}\n", role), told), told, f"what is told of {path} on a {role}")
+                after = self.look(folder), self.look(closed)
+                # a file was made there meanwhile, so a folder's time may differ
+                expect([set(it) for it in after], [set(it) for it in before], f"what lies there: {path}")
+                expect(after[0].get("flag"), before[0].get("flag"), "the flag")
+                expect(after[0].get("flag-1.new"), before[0].get("flag-1.new"), "the file that is ready")
+                if path == flag and lay is not None:
+                    os.remove(flag)
+
+    def checked(self, conf, role):
+        """Returns what 'upsmon --check' warns of for a machine that needs no UPS."""
+        with tempfile.TemporaryDirectory(dir=self.folder) as folder:
+            with open(os.path.join(folder, "upsmon.conf"), "w") as file:
+                file.write(f"MONITOR su700@localhost 1 mon m1 {role}\nMINSUPPLIES 0\nSHUTDOWNCMD true\n{conf}")
+            words = [self.upsmon, "--check", "--conf", folder]
+            done = subprocess.run(words, stdin=subprocess.DEVNULL, capture_output=True, timeout=60, preexec_fn=heed_modes)
+            expect(done.returncode, 0, "status")
+        return done.stderr.decode().splitlines()
+
     def test_flag_that_cannot_be_removed(self):
         """A flag of an earlier shutdown in a folder in which upsmon may not write: it stays, and the machine is halted."""
         with tempfile.TemporaryDirectory(dir=self.folder) as folder:

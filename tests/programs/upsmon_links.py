@@ -42,6 +42,17 @@ SHORT, LONG, PATIENCE = 5, 10, 5
 # how many hosts the dead name server is asked for, and a host that is found without it
 HOSTS = 30
 KNOWN = "ups.example"
+FSD = b"FSD su700\n"
+COUNT = b"GET NUMLOGINS su700\n"
+WAITS = "upsmon: warning: UPS %s: the server waits for its driver (WAIT): no shutdown begins by DEADTIME until it has heard it"
+LATE = (
+    "upsmon: warning: UPS %s: an answer took more than 5 s: on battery upsmon gives up such a server, and may stop this machine"
+    " after DEADTIME"
+)
+RETURNED = (
+    "upsmon: warning: UPS %s: the server that had accepted FSD is back: if it was started again, FSD is gone, and machines that"
+    " have not come back are not waited for"
+)
 
 
 class Moody(Upstream):
@@ -65,6 +76,20 @@ class Moody(Upstream):
         self.ends.clear()
 
 
+class Slow(Moody):
+    """A server that takes a second and a half more for each answer to a query for a status than it has on battery."""
+
+    def __init__(self):
+        self.slow = []
+        super().__init__()
+
+    def answer(self, line):
+        if line == STATUS:
+            time.sleep(SHORT + 1.5)
+            self.slow.append(line)
+        return super().answer(line)
+
+
 @contextlib.contextmanager
 def deaf(port):
     """Has this port take no connections, as behind a firewall that drops them: nobody accepts those that fill its queue."""
@@ -83,6 +108,11 @@ def reports_of(watch, target):
     front = f"upsmon: UPS {target}: "
     found = [line[len(front) :] for line in watch.lines("err") if line.startswith(front)]
     return [line for line in found if not line.startswith("watched as ")]
+
+
+def warnings_of(watch):
+    """Returns the warnings on standard error, without those of settings."""
+    return [line for line in watch.lines("err") if line.startswith("upsmon: warning: UPS ")]
 
 
 class Tests(Shimmed):
@@ -253,6 +283,95 @@ class Tests(Shimmed):
             expect(watch.status(), 0, "status")
             ensure(server.asked.count(b"FSD su700\n") >= 2, "FSD is asked for again")
             expect(reports_of(watch, server.target), [*wanted, "FSD refused: ACCESS-DENIED"], f"what is told at the end {words}")
+
+    def test_server_that_is_slow(self):
+        """An answer that comes after the time that a server has on battery is told once, until the server was lost, also with -q.
+        It is read all the same."""
+        with Slow() as server, self.watch(f"MONITOR {server.target} 1 mon m1 primary\nPOLLFREQ 1\n", "-q") as watch:
+            for count in (1, 2):
+                until(lambda: len(server.slow) >= 2 * count, "two slow answers", 40)
+                expect(warnings_of(watch), [LATE % server.target] * count, "what is told")
+                expect(watch.lines().count(LOST % server.target), count - 1, "the link stays until the server drops it")
+                server.drop()
+
+    def test_server_that_waits_for_its_driver(self):
+        """A status with WAIT after another is told once, also with -q, and however often the link is lost meanwhile."""
+        for words in ((), ("-q",)):
+            with Moody(status=b"WAIT") as server:
+                conf = f"MONITOR {server.target} 1 mon m1 primary\nPOLLFREQ 1\nDEADTIME 3\n"
+                with self.watch(conf, *words) as watch:
+                    for count, status in enumerate((b"WAIT", b"OB", b"WAIT", b"AWAIT", b"ALARM WAIT", b"ERR DATA-STALE\n", b"WAIT", b"OL")):
+                        server.statuses[b"su700"] = status
+                        if count in (2, 6):
+                            server.drop()
+                        server.asked.clear()
+                        until(lambda: server.asked.count(STATUS) >= 3, f"the status is asked for: {status}", 20)
+                        wanted = 0 if count < 2 else 1 if count < 4 else 2
+                        expect(warnings_of(watch), [WAITS % server.target] * wanted, f"what is told of {status}, {words}")
+
+    def test_server_that_waits_for_its_driver_stops_no_machine(self):
+        """After OB, WAIT and then nothing the machine goes on after DEADTIME, as the warning says; after OB and nothing it
+        doesn't."""
+        for status, is_halted in ((b"OB", True), (b"WAIT", False)):
+            with Moody(status=b"OB") as server:
+                conf = f"MONITOR {server.target} 1 mon m1 primary\nPOLLFREQ 1\nDEADTIME 3\nHOSTSYNC 1\nFINALDELAY 0\n"
+                with self.watch(conf) as watch:
+                    watch.until_printed(ON_BATTERY % server.target)
+                    server.statuses[b"su700"] = status
+                    server.asked.clear()
+                    until(lambda: server.asked.count(STATUS) >= 3, "the status is asked for")
+                    server.close()
+                    watch.until_printed(LOST % server.target, 20)
+                    if is_halted:
+                        expect(watch.status(20), 0, "the halt")
+                    else:
+                        time.sleep(6)
+                        expect((watch.process.poll(), warnings_of(watch)), (None, [WAITS % server.target]), "it goes on")
+
+    def test_server_that_is_lost_after_fsd(self):
+        """A primary that waits for others is told each time that the server which accepted its FSD is back. A server that
+        comes and goes without serving isn't."""
+        with Moody(status=b"OB LB") as server:
+            server.logins = 2
+            conf = f"MONITOR {server.target} 1 mon m1 primary\nPOLLFREQ 1\nHOSTSYNC 60\nFINALDELAY 0\n"
+            with self.watch(conf, "-q") as watch:
+                for count in (0, 1, 2):
+                    until(lambda: server.asked.count(COUNT) >= 2, "who is logged in is counted")
+                    expect(warnings_of(watch), [RETURNED % server.target] * count, f"what is told after {count} losses")
+                    expect(server.asked.count(FSD), 1 if count == 0 else 0, "how often FSD is asked for")
+                    server.asked.clear()
+                    server.is_silent = count == 0
+                    server.drop()
+                    if server.is_silent:
+                        until(lambda: server.ends, "it is called again")
+                        server.is_silent = False
+                        server.drop()
+                server.logins = 1
+                expect(watch.status(20), 0, "the halt")
+
+    def test_server_that_is_started_again_after_fsd(self):
+        """upsd is killed once it has accepted FSD, and started again: a secondary that isn't back isn't waited for, which is
+        told before the shutdown goes on."""
+        with self.room() as room:
+            target = f"su700@127.0.0.1:{room.port}"
+            room.dummy(b"ups.status: OB LB\n", "dev")
+            server = room.upsd()
+            room.until(STATUS, b'VAR su700 ups.status "OB LB"\n')
+            conf = f"MONITOR {target} 1 mon m1 primary\nPOLLFREQ 1\nHOSTSYNC 60\nFINALDELAY 0\n"
+            with room.client() as secondary:
+                secondary.log_in(b"guest", b"g1")
+                expect(secondary.ask(b"LOGIN su700\n"), b"OK\n", "the secondary logs in")
+                with self.watch(conf, stderr=subprocess.STDOUT) as watch:
+                    room.until(STATUS, b'VAR su700 ups.status "FSD OB LB"\n')
+                    room.until(COUNT, b"NUMLOGINS su700 2\n")
+                    time.sleep(1.5)
+                    ensure(SHUTDOWN not in watch.lines(), "the secondary is waited for")
+                    server.kill()
+                    server.wait()
+                    room.upsd()
+                    expect(watch.status(20), 0, "the halt")
+                    told = [line for line in watch.lines() if line in (RETURNED % target, SHUTDOWN)]
+                    expect(told, [RETURNED % target, SHUTDOWN], "what is told in turn")
 
     def test_servers_that_never_serve(self):
         """A server that closes each connection, one that says what wasn't asked, and one that answers with a line that is no

@@ -2,8 +2,9 @@
 
 ghost use Rattle.std.specs.Prelude.{◌≡◌, true, false, nat_lt, ◌&&◌};
 
+use crate::waiting::is_waiting;
 use arrayvec::ArrayVec;
-use nut_proto::{Answer, read_answer};
+use nut_proto::{Answer, Rest, read_answer};
 use nut_words::{Line, LineCutter};
 use std::alloc::Global;
 
@@ -18,6 +19,8 @@ pub type ErrorName = ArrayVec<u8, ERROR_NAME_MAX>;
 pub enum Reply {
     /// The server refuses, with the error of this name.
     Refused(ErrorName),
+    /// A row whose last word has WAIT among its own words: as a status it says that the server waits for its driver.
+    Waits,
     /// Anything else.
     Other,
 }
@@ -27,7 +30,7 @@ impl Reply {
     pub fn error(&self) -> &[u8] {
         match self {
             Reply::Refused(name) => name.as_slice(),
-            Reply::Other => &[],
+            Reply::Waits | Reply::Other => &[],
         }
     }
 }
@@ -102,9 +105,17 @@ impl Inquiry {
 fn reply_in(alloc: Global, line: &[u8]) -> Reply {
     match read_answer(alloc, line) {
         Ok(Answer::Err(name)) => Reply::Refused(first_bytes(name.as_bytes())),
-        Ok(Answer::Ok(_) | Answer::Begin(_) | Answer::End(_) | Answer::Row(_)) | Err(_) => {
-            Reply::Other
-        }
+        Ok(Answer::Row(words)) => reply_of_row(&words),
+        Ok(Answer::Ok(_) | Answer::Begin(_) | Answer::End(_)) | Err(_) => Reply::Other,
+    }
+}
+
+/// Returns what a row with these words says.
+fn reply_of_row(words: &Rest<'_>) -> Reply {
+    if is_waiting(words.get(words.len().saturating_sub(1))) {
+        Reply::Waits
+    } else {
+        Reply::Other
     }
 }
 

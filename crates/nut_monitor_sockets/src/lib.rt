@@ -13,7 +13,9 @@ mod pause;
 mod refusals;
 mod report;
 mod upstream;
+mod waiting;
 
 pub use herald::Herald;
+pub use limits::{ANSWER_ON_BATTERY, LATE_ANSWERS};
 pub use links::NewLinks;
 pub use mio_mon_world::MioMonWorld;

@@ -280,6 +280,12 @@ impl Links {
         if is_read && is_after_opening(query) && upstream.begins_to_serve() {
             reports.tell(Report::Reached(upstream.name()));
         }
+        if upstream.begins_to_be_late() {
+            reports.warn(Report::Late(upstream.name()));
+        }
+        if is_read && upstream.begins_to_wait(query, reply) {
+            reports.warn(Report::Waits(upstream.name()));
+        }
         if is_told {
             tell_refusal(upstream.name(), query, reply, reports);
         }
@@ -356,7 +362,7 @@ impl Links {
     {
         match (self.upstreams.get(i)?.is_up(), monitor.linked(i)) {
             (true, true) => self.hear(monitor, i, piece, reports),
-            (false, false) => self.reach(i, net, reports),
+            (false, false) => self.reach(monitor, i, net, reports),
             (false, true) => Some(Next::LinkLost(i)),
             (true, false) => {
                 self.close(i, reports);
@@ -424,7 +430,13 @@ impl Links {
 
     /// Calls the server of a link, or continues the call. When the link is made, what the server has sent already is to
     /// be read.
-    fn reach(&mut self, i: usize, net: &impl Net, reports: &mut Reports<'_>) -> Option<Next>
+    fn reach(
+        &mut self,
+        monitor: &Monitor,
+        i: usize,
+        net: &impl Net,
+        reports: &mut Reports<'_>,
+    ) -> Option<Next>
         ensures goes_on { IfSome result (λ n. n ≢ next.End) }
     {
         let upstream = self.upstreams.get_mut(i)?;
@@ -438,6 +450,9 @@ impl Links {
             Ok(false) => None,
             Ok(true) => {
                 self.rounds.ready.insert(token);
+                if upstream.returns() && waits_for_others(monitor, i) {
+                    reports.warn(Report::Returned(upstream.name()));
+                }
                 Some(Next::Linked(i))
             }
             Err(error) => {
@@ -583,6 +598,11 @@ fn next_after(heard: Heard, i: usize) -> Option<Next>
         Heard::All | Heard::Part => Some(Next::LinkBytes(i)),
         Heard::End => Some(Next::LinkLost(i)),
     }
+}
+
+/// Whether the monitor waits for other machines of a UPS: its FSD was accepted there, and it counts who is logged in.
+fn waits_for_others(monitor: &Monitor, i: usize) -> bool {
+    monitor.phase() == Phase::Forcing && monitor.known(i).is_some_and(|known| known.forced)
 }
 
 /// Whether a query comes after those that open a link.

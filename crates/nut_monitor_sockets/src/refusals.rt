@@ -50,7 +50,7 @@ impl Refusals {
                 self.status = Some(copy_of(error));
                 true
             }
-            Reply::Other => {
+            Reply::Waits | Reply::Other => {
                 self.status = None;
                 false
             }
@@ -62,7 +62,7 @@ impl Refusals {
 fn note_once(told: &mut bool, reply: &Reply) -> bool {
     match reply {
         Reply::Refused(_) => !mem::replace(told, true),
-        Reply::Other => false,
+        Reply::Waits | Reply::Other => false,
     }
 }
 

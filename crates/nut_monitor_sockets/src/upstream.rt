@@ -6,9 +6,10 @@ ghost use Rattle.nut_io.specs.Writes.{IsWithin};
 use crate::dialler::Dialler;
 use crate::host::Host;
 use crate::inquiry::{Inquiry, Reply};
-use crate::limits::Limits;
+use crate::limits::{ANSWER_ON_BATTERY, Limits};
 use crate::pause::Pause;
 use crate::refusals::Refusals;
+use crate::waiting::Waiting;
 use mio::event::Event;
 use mio::net::TcpStream;
 use nut_conf::Monitored;
@@ -46,6 +47,14 @@ pub struct Upstream {
     /// Whether the server has answered a query after those that open a link, since this link was made.
     serves: bool,
     refusals: Refusals,
+    /// Whether the server waits for its driver. NUT's upsd does so on a new link, once it was started again.
+    waiting: Waiting,
+    /// Whether a link on which the server served was lost, and none was made since.
+    is_gone: bool,
+    /// Whether the last answer took longer than a server may take while a UPS is on battery.
+    was_late: bool,
+    /// Whether it was noted, since a server was lost that served, that an answer did.
+    is_late_noted: bool,
     /// How many seconds the server has owed a status.
     owed: u8,
     /// Whether it was noted, since the server last served, that there is no server.
@@ -66,6 +75,10 @@ impl Upstream {
             pause: Pause::none(),
             serves: false,
             refusals: Refusals::none(),
+            waiting: Waiting::none(),
+            is_gone: false,
+            was_late: false,
+            is_late_noted: false,
             owed: 0,
             is_missed: false,
         })
@@ -213,9 +226,20 @@ impl Upstream {
     /// Returns the answer to the outstanding query, if the piece that was read completes a line.
     pub fn reply_in(&mut self, alloc: Global, piece: &[u8]) -> Option<Reply> {
         match &mut self.stage {
-            Stage::Up(_, inquiry) => inquiry.hear(alloc, piece),
+            Stage::Up(_, inquiry) => {
+                let is_late = inquiry.is_overdue(ANSWER_ON_BATTERY);
+                let reply = inquiry.hear(alloc, piece);
+                self.was_late = is_late && reply.is_some();
+                reply
+            }
             Stage::Down | Stage::Calling(_, _) => None,
         }
+    }
+
+    /// Whether the last answer took longer than a server may take while a UPS is on battery, and none did before, since a
+    /// server was lost that served.
+    pub fn begins_to_be_late(&mut self) -> bool {
+        self.was_late && !mem::replace(&mut self.is_late_noted, true)
     }
 
     /// Notes the answer to a query, and returns whether it is a refusal that is now to be reported.
@@ -225,6 +249,21 @@ impl Upstream {
             self.owed = 0;
         }
         is_told
+    }
+
+    /// Notes an answer that the monitor has read. Returns whether the server now waits for its driver, though it told another
+    /// status before.
+    pub fn begins_to_wait(&mut self, query: Query, reply: &Reply) -> bool {
+        match (query, reply) {
+            (Query::Status, Reply::Waits) => self.waiting.begins(true),
+            (Query::Status, Reply::Other) => self.waiting.begins(false),
+            _ => false,
+        }
+    }
+
+    /// Notes that the link is made. Returns whether it is the first one since a link was lost on which the server served.
+    pub fn returns(&mut self) -> bool {
+        mem::take(&mut self.is_gone)
     }
 
     /// Notes that the server answered a query after those that open a link. Returns whether this is the first on this
@@ -280,6 +319,8 @@ impl Upstream {
         self.stage = Stage::Down;
         let served = mem::replace(&mut self.serves, false);
         if served {
+            self.is_gone = true;
+            self.is_late_noted = false;
             self.pause = Pause::none();
             self.refusals = Refusals::none();
         } else {

@@ -2,3 +2,4 @@ pub mod Limits
 pub mod Laws
 pub mod Tracked
 pub mod Reloads
+pub mod Shown

@@ -10,6 +10,7 @@ ghost use Rattle.nut_server_spec.specs.examples.ReloadExamples.{ReloadEdgeExampl
 ghost use Rattle.nut_server_spec.specs.laws.Laws.{BoundsHold, ClosedStaysClosed, ConnectionsAreFew, CutsAndWritesDoNotMatter, CutsDoNotMatter, DriverCutsAndWritesDoNotMatter, DriverCutsDoNotMatter, DriverSentAndWaitingIsDue, DriverSentIsReceived, LogoutIsFinal, NumbersRise, OpenedIsFresh, OtherDriversStay, OthersStay, SameStepsSameAnswers, SentAndWaitingIsDue, SentIsFrontOfDue, SentIsReceived, WaitsForOnePiece};
 ghost use Rattle.nut_server_spec.specs.laws.Limits.{AnswersAreBounded, WaitsAreBounded};
 ghost use Rattle.nut_server_spec.specs.laws.Reloads.{KeepsItsNumber, NumbersAreDistinct, ReloadIsDownsThenClosesThenItself, UpsesStay};
+ghost use Rattle.nut_server_spec.specs.laws.Shown.{StatusIsTheDrivers};
 ghost use Rattle.nut_server_spec.specs.laws.Tracked.{TrackingLooksBack};
 
 mod limits;
@@ -216,6 +217,14 @@ pub fn worked_examples()
 pub fn tracking_looks_back()
     ensures { TrackingLooksBack }
 {}
+
+/// States a law and does nothing when called: the text of `GET VAR` for `ups.status` is that of the last SETINFO of the
+/// UPS's driver, or `FSD ` and that text. So a server shows no status of its own, such as one that it waits for the driver.
+pub fn status_is_the_drivers()
+    ensures { StatusIsTheDrivers }
+{
+    every_table_holds();
+}
 
 /// States a law and does nothing when called: a reload comes to the same as if the drivers that it disconnects and the
 /// connections that it closes had been disconnected and closed before it, one by one.

@@ -1,7 +1,8 @@
 -- How soon a machine stops if its UPSes are on a low battery.
-use Rattle.std.specs.Prelude.{ℕ, suc, ◌+◌, Bool, false, ◌&&◌, not, nat_lt, if◌then◌else◌}
+use Rattle.std.specs.Prelude.{ℕ, suc, ◌+◌, Bool, false, ◌&&◌, not, nat_lt, if◌then◌else◌, Option, Some, None}
 use Rattle.std.specs.List.{list_any}
 use Rattle.nut_monitor_spec.specs.Configuration.{Configuration, Line}
+use Rattle.nut_monitor_sockets.specs.declared.limits.TheConstants.{ANSWER_ON_BATTERY}
 use Rattle.nut_in_time.specs.Pace.{Pace}
 use Rattle.nut_in_time.specs.InTime.{seen_by, secondary_by, to_halted}
 
@@ -22,3 +23,8 @@ stops_within configuration pace = begins_within configuration pace + to_halted c
 -- Each answer comes within this delay, and the clock skips no second.
 abbrev pub prompt : ℕ → Pace
 prompt delay = record { delay = delay; skip = 0 }
+
+-- The seconds until the machine is in Halted, if each answer comes within this delay. None if upsmon may give up a server
+-- that keeps to the delay, since a UPS is on battery meanwhile: what the bound assumes of the links doesn't hold then.
+abbrev pub bound : Configuration → ℕ → Option ℕ
+bound configuration delay = if nat_lt ANSWER_ON_BATTERY delay then None else Some (stops_within configuration (prompt delay))

@@ -171,7 +171,10 @@ where
     R: Files + Processes + Clock,
 {
     fn announce(&mut self, monitor: &Monitor, notice: Notice) {
-        self.follow(monitor);
+        // What a shutdown is for stands behind the notices of what began it, and before its own, which is about no line.
+        if notice.line.is_none() {
+            self.follow(monitor);
+        }
         self.crier.announce(monitor, notice, &mut self.err);
     }
 

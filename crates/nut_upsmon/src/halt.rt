@@ -248,6 +248,38 @@ pub fn clear_left_flag(
     Ok(())
 }
 
+/// Tells what a start tells of the POWERDOWNFLAG of a configuration, except that it removes one. No flag is removed, and no
+/// file is left.
+///
+/// # Errors
+///
+/// [`AllocError`] if memory cannot be allocated.
+pub fn check_flag(
+    files: &impl Files,
+    alloc: Global,
+    config: &UpsmonConf,
+    err: &mut ErrorLines,
+) -> Result<(), AllocError> {
+    if let Some(flag) = PowerDownFlag::of(alloc, config)? {
+        check(&flag, files, has_primary(config), err);
+    }
+    Ok(())
+}
+
+/// Tells what keeps a flag from being removed at a start, or, if it is to be set, from being written.
+fn check(flag: &PowerDownFlag, files: &impl Files, is_to_set: bool, err: &mut ErrorLines) {
+    match flag.state(files) {
+        Ok(FlagState::Foreign) => tell_found(flag.path(), FlagState::Foreign, err),
+        Ok(FlagState::Absent) if is_to_set => {
+            if let Err(error) = flag.try_ready(files) {
+                tell_failed("written", flag.path(), &error, err);
+            }
+        }
+        Ok(FlagState::Absent | FlagState::Set) => {}
+        Err(error) => tell_failed("removed", flag.path(), &error, err),
+    }
+}
+
 /// Removes a flag if it is set, and tells what was found in its place.
 fn clear(flag: &PowerDownFlag, files: &impl Files, err: &mut ErrorLines) {
     match flag.clear(files) {

@@ -3,6 +3,7 @@
 use crate::stopping::Stopping;
 use nut_conf::{Monitored, UpsmonConf};
 use nut_log::{Level, Lines};
+use nut_monitor_sockets::{ANSWER_ON_BATTERY, LATE_ANSWERS};
 use nut_poll::{ErrorLines, Program, Question, Questions, text_of};
 use std::alloc::{AllocError, Global};
 use std::io::Write;
@@ -19,6 +20,9 @@ const ANSWER_MAX: usize = 64;
 /// How many steps of 100 ms a check may take.
 const CHECK_STEPS: u8 = 100;
 
+/// How many steps of a check are a second.
+const STEPS_A_SECOND: u8 = 10;
+
 /// How many milliseconds pass between two steps of a check.
 const CHECK_STEP: u64 = 100;
 
@@ -31,13 +35,13 @@ struct Patience {
     pause: u8,
     /// How often a server is asked that doesn't answer.
     tries: u8,
-    /// Whether it is told that a server doesn't answer.
+    /// Whether it is told that a server doesn't answer, and that it takes too long for an answer.
     is_told: bool,
 }
 
 /// For a check that somebody waits for, with steps of 100 ms.
 const CHECK: Patience = Patience {
-    question: 50,
+    question: ANSWER_ON_BATTERY * STEPS_A_SECOND,
     pause: 0,
     tries: 1,
     is_told: true,
@@ -45,7 +49,7 @@ const CHECK: Patience = Patience {
 
 /// For a monitor that goes on meanwhile, with steps of a second: its server may start later than it does.
 const WATCH: Patience = Patience {
-    question: 5,
+    question: ANSWER_ON_BATTERY,
     pause: 30,
     tries: 10,
     is_told: false,
@@ -63,7 +67,8 @@ struct Ups {
 
 /// Asks for `battery.runtime.low` of each UPS that feeds this machine, and warns if a UPS reports LB later than this
 /// machine needs to stop. Each question is a process of its own, `upsc UPS battery.runtime.low`, which is killed once
-/// it has taken more than five seconds: nobody waits for a server.
+/// it has taken more than [`ANSWER_ON_BATTERY`] seconds: nobody waits for a server. A check also warns of a server that takes
+/// longer, since upsmon gives such a server up while a UPS is on battery.
 #[derive(Drop)]
 pub struct LowRuntimes<'r, R: Processes> {
     alloc: Global,
@@ -132,6 +137,10 @@ impl<'r, R: Processes> LowRuntimes<'r, R> {
 
     /// Takes the answer to a question that has ended.
     fn hear(&mut self, mut question: Question<R::Started, Ups>, err: &mut ErrorLines) {
+        if self.patience.is_told && question.is_late {
+            tell_late(&question.about, err);
+            return;
+        }
         let answer = answer_of(&mut question);
         self.heed(question.about, answer, err);
     }
@@ -195,7 +204,7 @@ impl<'r, R: Processes> LowRuntimes<'r, R> {
 }
 
 /// Asks once for each UPS that feeds the machine of a configuration, waits for the answers, at most ten seconds in all,
-/// and warns of each UPS that says LB too late or isn't known.
+/// and warns of each UPS that says LB too late or isn't known, or whose server takes too long.
 ///
 /// # Errors
 ///
@@ -233,6 +242,15 @@ fn ask_all<R: Processes>(
         tell_unknown(ups, err);
     }
     runtimes.end();
+}
+
+/// Tells that a server takes longer for an answer than upsmon waits while a UPS is on battery.
+fn tell_late(ups: &Ups, err: &mut ErrorLines) {
+    let _ = writeln!(
+        err.begin(Level::Warning),
+        "warning: UPS {}: no answer within {ANSWER_ON_BATTERY} s: {LATE_ANSWERS}",
+        ups.name
+    );
 }
 
 /// Tells that a UPS isn't known to say LB early enough.

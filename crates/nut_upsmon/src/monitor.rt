@@ -4,7 +4,7 @@ use crate::caretaker::Caretaker;
 use crate::command_line::{Order, Task, order_of};
 use crate::faulty_file::{flag_despite, flag_of};
 use crate::forcing::force_shutdowns;
-use crate::halt::{clear_left_flag, halt_heap};
+use crate::halt::{check_flag, clear_left_flag, halt_heap};
 use crate::low_runtime::check_low_runtimes;
 use crate::power_down_flag::{FlagState, PowerDownFlag};
 use crate::reloader::Reloader;
@@ -184,8 +184,8 @@ where
     checked
 }
 
-/// Writes how soon the machine of a configuration stops, and asks the servers whether their UPSes report LB early enough
-/// for that.
+/// Writes how soon the machine of a configuration stops, tells what is wrong with POWERDOWNFLAG, and asks the servers
+/// whether their UPSes report LB early enough.
 fn check_config<R>(
     rt: &R,
     alloc: Global,
@@ -194,9 +194,10 @@ fn check_config<R>(
     told: &mut ErrorLines,
 ) -> Result<(), Failure<UpsmonFault>>
 where
-    R: Clock + Processes,
+    R: Files + Clock + Processes,
 {
     Stopping::of(config).tell(&mut out)?;
+    check_flag(rt, alloc, config, told)?;
     check_low_runtimes(rt, alloc, config, told)?;
     Ok(())
 }

@@ -122,6 +122,21 @@ impl PowerDownFlag {
         }
     }
 
+    /// Finds out whether [`PowerDownFlag::make_ready`] succeeds, and leaves no file. A new file that is there and complete stays:
+    /// it may be that of an upsmon that watches.
+    ///
+    /// # Errors
+    ///
+    /// If the new file cannot be written.
+    pub fn try_ready(&self, files: &impl Files) -> io::Result<()> {
+        if self.is_ready(files) {
+            return Ok(());
+        }
+        let written = self.make_ready(files);
+        let _ = fs::remove_file(files, self.fresh.as_str());
+        written
+    }
+
     /// Sets the flag: the new file beside it, whose name ends in `.new`, takes its name. If that isn't ready, it is
     /// written first. It allocates nothing, and doesn't wait until the file is on the disk.
     ///

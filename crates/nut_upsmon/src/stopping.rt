@@ -4,11 +4,12 @@ ghost use Rattle.std.specs.Prelude.{◌≡◌, ◌<◌, ◌^◌};
 ghost use Rattle.std.specs.List.{list_any};
 ghost use Rattle.nut_monitor_spec.specs.Configuration.{configuration_of, line_of};
 ghost use Rattle.nut_in_time.specs.InTime.{seen_by, to_halted};
-ghost use Rattle.nut_upsmon.specs.Stopping.{begins_within, is_led, prompt, stops_within as seconds_of};
+ghost use Rattle.nut_upsmon.specs.Stopping.{begins_within, bound, is_led, prompt, stops_within as seconds_of};
 
 use nut_conf::{Monitored, Role, UpsmonConf};
 use nut_log::{Level, Lines};
 use nut_monitor::has_primary;
+use nut_monitor_sockets::ANSWER_ON_BATTERY;
 use std::{fmt, io};
 
 /// The longest time for an answer, in seconds, that the bound and warnings assume.
@@ -41,7 +42,11 @@ impl Stopping {
         if config.min_supplies() == 0 {
             return Stopping::Never;
         }
-        Stopping::Within(stops_within(config, DELAY))
+        match stops_within(config, DELAY) {
+            Some(seconds) => Stopping::Within(seconds),
+            // upsmon waits longer for an answer than the bound assumes
+            None => unreachable!(),
+        }
     }
 
     /// Writes it as a line.
@@ -57,7 +62,20 @@ impl Stopping {
 /// Returns how many seconds pass at most from the moment at which the server shows OB and LB for so many UPSes that the
 /// others supply too little, to the moment at which the machine is halted. It assumes that each answer of a server
 /// comes within `delay` seconds, and that upsmon's clock skips none.
-pub fn stops_within(config: &UpsmonConf, delay: u32) -> u64
+///
+/// `None` if `delay` is above [`ANSWER_ON_BATTERY`]: then upsmon may give the server up before its answer comes, and no bound
+/// is known.
+pub fn stops_within(config: &UpsmonConf, delay: u32) -> Option<u64>
+    ensures { result ≡ bound (configuration_of config.now) delay }
+{
+    if delay > u32::from(ANSWER_ON_BATTERY) {
+        return None;
+    }
+    Some(seconds_within(config, delay))
+}
+
+/// Returns the seconds of [`stops_within`] for a delay that upsmon waits for.
+fn seconds_within(config: &UpsmonConf, delay: u32) -> u64
     ensures { result ≡ seconds_of (configuration_of config.now) (prompt delay) }
 {
     begins_within(config, delay) + halts_within(config)
