@@ -9,7 +9,7 @@ use Rattle.nut_proto.specs.Requests.{request_line}
 use Rattle.nut_link.specs.Link.{LinkValue, fresh}
 use Rattle.nut_link.specs.declared.outcome.Outcome.{Outcome}
 use Rattle.nut_client.specs.Forcing.{forcing_queries, in_turn, query_lines}
-use Rattle.nut_client.specs.Script.{Script, Asks, on_done}
+use Rattle.nut_client.specs.Script.{Asks, on_done}
 use Rattle.nut_client.specs.Tool.{Ends}
 use Rattle.nut_client.specs.declared.failure.Failure.{Failure}
 use Rattle.nut_client.specs.inside.Conversation.{Answered}

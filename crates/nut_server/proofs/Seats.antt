@@ -1,5 +1,5 @@
 -- Who makes way for a new connection isn't logged in.
-use Rattle.std.proofs.Common.{◌≡◌, ℕ, ◌≤◌, Bool, true, false, eqb, List, [], ◌∷◌, refl, ap, sym, subst, arith, inl, inr, Option, Some, None}
+use Rattle.std.proofs.Common.{◌≡◌, ℕ, Bool, true, false, eqb, List, [], ◌∷◌, refl, ap, sym, subst, arith, inl, inr, Option, Some, None}
 use Rattle.std.specs.Prelude.{find, option_map, is_none, is_some, IfSome}
 use Rattle.std.proofs.lemmas.Bool.{cases_Bool, eq-eqb, ne_eqb, false≢true}
 use Rattle.nut_server_spec.specs.Configuration.{User}
