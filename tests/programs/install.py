@@ -921,7 +921,7 @@ class Tests:
             with open(os.path.join(ROOT, "man", page)) as file:
                 text = file.read()
             for name, section in re.findall(r"^\.BR (\S+) \((\d)\)", text, re.MULTILINE):
-                if name in ("getent", "resolv.conf"):  # the system's
+                if name in ("getent", "resolv.conf", "systemd.exec"):  # the system's
                     continue
                 other = f"{name.replace(chr(92), '')}.{section}"
                 expect(os.path.exists(os.path.join(ROOT, "man", other)), True, f"{page}: {other}")

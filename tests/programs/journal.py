@@ -130,11 +130,12 @@ class Tests:
         expect(self.ended(tells), (1, ["<3>a.txt: unknown kind"]), "dummy-ups with another file")
 
     def test_command_lines(self):
-        """clap's text keeps its form, and its first line is an error. The help is none."""
+        """clap's text keeps its form, its first line is an error, and so is the line below it. The help is none."""
         for program in (self.upsd, self.upsmon, self.dummy):
             status, lines = self.ended([program, "--wrong"])
             plain = self.ended([program, "--wrong"], stderr=subprocess.PIPE)
-            expect((status, lines), (2, ["<3>" + plain[1][0], *plain[1][1:]]), "a wrong option")
+            first, *rest, last = plain[1]
+            expect((status, lines), (2, ["<3>" + first, *rest, "<3>" + last.partition(": ")[2]]), "a wrong option")
             ensure(plain[1][0].startswith("error: "), "clap's text elsewhere")
             status, lines = self.ended([program, "--help"])
             ensure(status == 0 and not any(line.startswith("<") and line[2:3] == ">" for line in lines), f"the help: {lines}")

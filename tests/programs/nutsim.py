@@ -415,12 +415,14 @@ class Tests:
         self.write("bare/other.conf", b"MONITOR su700@localhost 1 mon m1 tertiary\n")
         self.write("bare/empty.sched", b"")
         done = subprocess.run([self.program, ".", "empty.sched", *room.monitors], cwd=room.folder, capture_output=True, timeout=60)
-        expect((done.returncode, done.stdout, done.stderr), (1, b"", b"nutsim: other.conf:1: UnknownWord\n"), "a monitor's file")
+        said = b"nutsim: other.conf:1: UnknownWord\nnutsim: ROLE: 'primary' or 'secondary' is meant\n"
+        expect((done.returncode, done.stdout, done.stderr), (1, b"", said), "a monitor's file")
 
     def test_the_longest_file_of_a_monitor(self):
         room = self.room("longest", ALONE, [PRIMARY])
         path = self.write("longest.sched", b"")
-        for length, due in ((FILE_MAX, (0, b"", b"")), (FILE_MAX + 1, (1, b"", b"nutsim: upsmon-0.conf:0: PastLimit\n"))):
+        said = f"nutsim: upsmon-0.conf:0: PastLimit\nnutsim: a file has at most {FILE_MAX} bytes\n".encode()
+        for length, due in ((FILE_MAX, (0, b"", b"")), (FILE_MAX + 1, (1, b"", said))):
             self.write("longest/upsmon-0.conf", PRIMARY.text().ljust(length, b"\n"))
             expect(self.run(room, path), due, f"{length} bytes")
 

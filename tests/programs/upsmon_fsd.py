@@ -190,7 +190,8 @@ class Tests(Shimmed):
         expect(self.force(None), (1, "", missing), "no file")
         with Upstream() as server:
             found = self.force(f"{line_of(server.target)}POLLFREQ 0\n")
-            expect(found, (1, "", "upsmon: upsmon.conf:2: BadNumber\n"), "a fault")
+            meant = "upsmon: 0: a number from 1 to 1000000 is meant\n"
+            expect(found, (1, "", f"upsmon: upsmon.conf:2: BadNumber\n{meant}"), "a fault")
             expect(server.asked, [], "what the server is asked")
 
     def test_folder_of_the_environment(self):
