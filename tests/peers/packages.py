@@ -120,7 +120,7 @@ class Tests:
             for line in ("/etc/nut/upsmon.conf", "nothing stops this machine in a power failure", "nobody gets the status of its UPSes"):
                 ensure(line in last, f"{line} isn't among the last lines: {said}")
             ensure(not [line for line in said[told[0] :] if line.startswith(("Setting up", "Unpacking"))], f"what comes later: {said}")
-            for unit, line in (("mulgefa-upsd", "upsd: ups.conf:"), ("mulgefa-upsmon", "upsmon: upsmon.conf:")):
+            for unit, line in (("mulgefa-upsd", "]: ups.conf:"), ("mulgefa-upsmon", "]: upsmon.conf:")):
                 ensure("status=1/FAILURE" in machine.run(f"systemctl status {unit}")[1], f"{unit} fails visibly")
                 ensure(line in machine.do(f"journalctl --unit {unit} --lines 20"), f"the journal of {unit} says why")
             machine.do("systemctl enable --now mulgefa-dummy-ups@su700")
@@ -247,7 +247,7 @@ class Tests:
             machine.wait_for("upsc -l 2> /dev/null", names)
             machine.wait_for("ls /run/nut/reload /etc/nut/reload 2> /dev/null", "")
         # where nobody can make a file beside the others
-        count = "journalctl --unit mulgefa-upsd | grep -c 'upsd: reloaded: '"
+        count = "journalctl --unit mulgefa-upsd | grep -c ']: reloaded: '"
         reloads = int(machine.do(count))
         machine.do("mount --bind /etc/nut /etc/nut && mount -o remount,bind,ro /etc/nut && systemctl reload mulgefa-upsd")
         machine.wait_for(count, str(reloads + 1))
