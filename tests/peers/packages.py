@@ -262,7 +262,7 @@ class Tests:
             machine.write(f"/etc/nut/{name}", text + "faulty\n")
             status, said = machine.run(f"systemctl reload {unit}")
             ensure(status != 0, f"a reload of {name} with a fault: {said}")
-            told = f"{program}: {name}:{len(text.splitlines()) + 1}: UnknownDirective"
+            told = f"{name}:{len(text.splitlines()) + 1}: UnknownDirective"
             ensure(told in machine.do(f"systemctl status {unit}"), f"the status of {unit} doesn't show {told}")
             expect(machine.run("ls /run/nut/reload /etc/nut/reload 2> /dev/null")[1], "", "a reload is asked for")
             machine.write(f"/etc/nut/{name}", text)
