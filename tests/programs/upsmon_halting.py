@@ -628,24 +628,21 @@ class Tests(Shimmed):
 
     def test_shell_that_is_stopped_at_the_halt(self):
         """However often the shell is stopped while the machine is halted, SHUTDOWNCMD runs."""
-        with self.halting(HALTED, "-q", delay=1) as (_, watch):
-            watch.until_printed(SHUTDOWN)
-            (shell,) = children_of(watch.process.pid)
-            while watch.process.poll() is None:
-                with contextlib.suppress(ProcessLookupError):
-                    os.kill(shell, signal.SIGSTOP)
-                time.sleep(0.3)
-            expect((watch.status(), watch.read("halted")), (0, b""), "the halt")
+        self.halt_with_stops(0.3)
 
     def test_shell_that_stays_stopped(self):
         """A shell that SIGCONT doesn't continue is ended after some seconds, and another one runs SHUTDOWNCMD."""
+        self.halt_with_stops(0.001)
+
+    def halt_with_stops(self, pause):
+        """Halts a machine while the shell that is to run SHUTDOWNCMD is stopped again after each pause, in seconds."""
         with self.halting(HALTED, "-q", delay=1) as (_, watch):
             watch.until_printed(SHUTDOWN)
             (shell,) = children_of(watch.process.pid)
             while watch.process.poll() is None:
                 with contextlib.suppress(ProcessLookupError):
                     os.kill(shell, signal.SIGSTOP)
-                time.sleep(0.001)
+                time.sleep(pause)
             expect((watch.status(), watch.read("halted")), (0, b""), "the halt")
 
     def test_ends_of_children_that_nobody_hears_of(self):
