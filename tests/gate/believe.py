@@ -93,11 +93,11 @@ CRATES_OF_LAWS = ("nut_server_spec", "nut_monitor_spec", "nut_conf", "nut_client
 
 HEAD = """# What has to be believed
 
-Whoever believes the definitions below believes what the clauses of these calls and laws say. A path such as `nut_words: Lines` stands
-for `crates/nut_words/specs/Lines.antt`; each definition there has a comment that says what it means. Each section lists what it adds
-to the sections before it, in the order in which definitions rest on each other, and says how much it leads to by itself, all of which
-`python3 -m tests.gate.believe 'A monitor'` prints. Lines are those of a definition with its comment. Types and constants of the code
-that the definitions name are counted apart. Words of the toolchain's own library (lists, numbers, options) aren't listed.
+Whoever believes the definitions below believes what the clauses of these calls and laws say. Each section
+lists what it adds to those before it, by crate, with the number of its lines, and by file, in the order in which definitions rest on
+each other: **Lines** of `nut_words` is `crates/nut_words/specs/Lines.antt`, where a comment says what each definition means. All
+that a section leads to by itself is printed by `python3 -m tests.gate.believe 'A monitor'`. Lines are those of a definition with its
+comment. Types and constants of the code that definitions name are counted apart, and words of the toolchain's library aren't listed.
 
 Two files are second forms of shorter ones, and are listed since the clauses cite them. Whoever believes `nut_words: Spelling` needn't
 believe `nut_words: Reader`, except `has_backslash`, `with_backslash` and `Gives` (law `spelled_is_meant`). Whoever believes
@@ -259,12 +259,16 @@ def calls_of(calls):
 
 
 def rows(library, found):
-    """Yields a row of a table for each file with some of these definitions."""
-    for (crate, module), it in library.modules.items():
-        names = [name for name in it.definitions if (crate, module, name) in found]
-        if names:
-            lines = sum(it.definitions[name].lines for name in names)
-            yield f"| `{crate}: {module}` | {lines} | `{' '.join(names)}` |"
+    """Yields a line for each crate with some of these definitions: its lines, and its files with their definitions."""
+    for crate in library.order:
+        files, lines = [], 0
+        for (it, module), where in library.modules.items():
+            names = [name for name in where.definitions if (crate, module, name) in found]
+            if it == crate and names:
+                lines += sum(where.definitions[name].lines for name in names)
+                files.append(f"**{module}** `{' '.join(names)}`")
+        if files:
+            yield f"- `{crate}` {lines}: {'; '.join(files)}"
 
 
 def section(library, title, about, calls, found, before):
@@ -276,17 +280,12 @@ def section(library, title, about, calls, found, before):
     what_is_new = f"; {added:,} lines of definitions are new:" if added else "; no definition is new."
     sums = f"In all {lines:,} lines of definitions and {code_lines:,} of code"
     out = [f"## {title}\n", f"Of {named}: {about}. {sums}{what_is_new if before else ':'}\n"]
-    if added:
-        out.append("| File | Lines | Definitions |\n|---|---|---|\n" + "\n".join(rows(library, new)) + "\n")
-    code = {}
-    for crate in library.order:
-        names = sorted(name for it, module, name in new if module == CODE and it == crate)
-        if names:
-            code[crate] = names
-    if code:
-        listed = "; ".join(f"`{crate}`: `{' '.join(names)}`" for crate, names in code.items())
-        out.append(f"Types and constants of the code, {library.sums(new)[1]:,} lines: {listed}.\n")
-    return "\n".join(out)
+    out += rows(library, new)
+    code = {crate: sorted(name for it, module, name in new if module == CODE and it == crate) for crate in library.order}
+    listed = "; ".join(f"`{crate}` `{' '.join(names)}`" for crate, names in code.items() if names)
+    if listed:
+        out.append(f"- Types and constants of the code {library.sums(new)[1]}: {listed}")
+    return "\n".join(out) + "\n"
 
 
 def page(library):
