@@ -103,8 +103,8 @@ Two files are second forms of shorter ones, and are listed since the clauses cit
 believe `nut_words: Reader`, except `has_backslash`, `with_backslash` and `Gives` (law `spelled_is_meant`). Whoever believes
 `nut_state: LookBack` needn't believe `nut_state: Step`, except `line_adds` (law `every_table_holds`).
 
-`python3 -m tests.gate.believe --write` makes this page. A test compares it, and fails where a clause or a definition names
-something that the script doesn't find, or where a law is in no section.
+`python3 -m tests.gate.believe --write` makes this page. A test compares it, and fails where something that a clause or a definition
+names isn't found, or where a law is in no section.
 """
 
 
@@ -276,10 +276,10 @@ def section(library, title, about, calls, found, before):
     new = found - before
     lines, code_lines = library.sums(found)
     added = library.sums(new)[0]
-    named = ", ".join(f"`{it}`" for it in calls_of(calls))
+    named = " ".join(calls_of(calls))
     what_is_new = f"; {added:,} lines of definitions are new:" if added else "; no definition is new."
     sums = f"In all {lines:,} lines of definitions and {code_lines:,} of code"
-    out = [f"## {title}\n", f"Of {named}: {about}. {sums}{what_is_new if before else ':'}\n"]
+    out = [f"## {title}\n", f"Of `{named}`: {about}. {sums}{what_is_new if before else ':'}\n"]
     out += rows(library, new)
     code = {crate: sorted(name for it, module, name in new if module == CODE and it == crate) for crate in library.order}
     listed = "; ".join(f"`{crate}` `{' '.join(names)}`" for crate, names in code.items() if names)
