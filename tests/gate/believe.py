@@ -23,16 +23,16 @@ PROMISES = (
         ("nut_server", None, ("Server.*", "silence_before_ping")),)),
     ("A server's configuration", "what the files make of a server", (
         ("nut_server", "config.rt", ("Config.*", "User.*")),)),
-    ("What a server sends", "laws over whole histories: what connections and drivers are sent, and that cuts don't matter", (
+    ("What a server sends", "what connections and drivers are sent, and that cuts don't matter", (
         ("nut_server_spec", None, (
             "sent_and_waiting_is_due", "sent_is_front_of_due", "sent_is_received", "driver_sent_and_waiting_is_due",
             "driver_sent_is_received", "cuts_do_not_matter", "driver_cuts_do_not_matter", "cuts_and_writes_do_not_matter",
             "driver_cuts_and_writes_do_not_matter", "same_steps_same_answers", "logout_is_final", "others_stay", "other_drivers_stay",
             "opened_is_fresh", "closed_stays_closed", "numbers_rise", "status_is_the_drivers")),)),
-    ("Bounds of a server", "laws: how much is kept, and how much waits", (
+    ("Bounds of a server", "how much is kept, and how much waits", (
         ("nut_server_spec", None, (
             "bounds_hold", "connections_are_few", "answers_are_bounded", "waits_for_one_piece", "waits_are_bounded")),)),
-    ("Tracked requests and reloads", "laws: how a tracked request ended, and what a reload leaves", (
+    ("Tracked requests and reloads", "how a tracked request ended, and what a reload leaves", (
         ("nut_server_spec", None, (
             "tracking_looks_back", "reload_is_downs_then_closes_then_itself", "keeps_its_number", "numbers_are_distinct",
             "upses_stay")),)),
@@ -41,7 +41,7 @@ PROMISES = (
         ("nut_server_loop", None, ("serve_memory",)))),
     ("A monitor", "what a monitor asks, tells and decides, and what callers see of that", (
         ("nut_monitor", None, ("Monitor.*",)),)),
-    ("A monitor's laws", "laws over whole histories of a monitor", (
+    ("A monitor's laws", "what holds over whole histories of a monitor", (
         ("nut_monitor_spec", None, (
             "cuts_do_not_matter", "notices_are_few", "links_are_bounded", "notices_come_in_order", "linked_is_made", "waiting_is_left",
             "links_are_told", "sent_and_waiting_is_due", "queries_come_alone", "answers_come_in_turn", "logins_follow_fsd",
@@ -60,20 +60,20 @@ PROMISES = (
         ("nut_client", "output.rt", ("Output.*",)), ("nut_client", "stream.rt", ("Stream.*",)))),
     ("A shutdown by hand", "what is asked to force a shutdown, and how that ends", (
         ("nut_client", None, ("force_shutdown",)), ("nut_client", "stream.rt", ("Stream.*",)))),
-    ("The dummy driver", "what a script means, and laws over whole histories of a dummy driver", (
+    ("The dummy driver", "what a script means, and what holds over whole histories of a dummy driver", (
         ("nut_dummy", None, ("Script.read", "Dummy.*", "looks_back", "told_lines_are_heard", "dump_is_the_table")),)),
     ("A room", "what every schedule of one server and its monitors leads to, and what was really played", (
         ("nut_fleet", None, (
             "configurations_are_spoken", "events_are_accepted", "pipes_carry_beginnings", "statuses_were_shown",
             "shutdowns_have_causes", "primaries_go_last")),
         ("nut_play", None, ("Fleet.new", "Fleet.config", "Fleet.play", "rooms_hold")))),
-    ("A room in time", "the laws of docs/room.md: by when machines begin to stop and are halted, and when none is", (
+    ("A room in time", "by when machines begin to stop and are halted, and when none is", (
         ("nut_in_time", None, (
             "links_open_in_time", "statuses_come_in_time", "shutdowns_begin_in_time", "machines_halt_in_time", "shutdowns_go_on",
             "hostsync_suffices", "nobody_halts_in_vain", "the_last_ups_counts", "forced_is_shown", "room_stops_in_time",
             "several_stop_in_time?", "cut_off_machines_stop?")),
         ("nut_upsmon", None, ("stops_within",)))),
-    ("Links that keep a pace", "laws by which a link is seen to keep pace", (
+    ("Links that keep a pace", "how a link is seen to keep pace", (
         ("nut_in_time", None, ("quiet_links_keep_pace", "rounds_keep_pace")),)),
     ("Lines of a schedule", "the step that a line says", (
         ("nut_play", "reading.rt", ("read_step",)),)),
@@ -93,10 +93,10 @@ CRATES_OF_LAWS = ("nut_server_spec", "nut_monitor_spec", "nut_conf", "nut_client
 
 HEAD = """# What has to be believed
 
-Whoever believes the definitions below believes what the clauses of these calls and laws say. Each section
-lists what it adds to those before it, by crate, with the number of its lines, and by file, in the order in which definitions rest on
-each other: **Lines** of `nut_words` is `crates/nut_words/specs/Lines.antt`, where a comment says what each definition means. All
-that a section leads to by itself is printed by `python3 -m tests.gate.believe 'A monitor'`. Lines are those of a definition with its
+Whoever believes the definitions below believes what the clauses of these calls and laws say (docs/proved.md; a law's definition has its
+name). Each section lists what it adds to those before it, by crate, with the number of its lines, and by file, in the order in which
+definitions rest on each other: **Lines** of `nut_words` is `crates/nut_words/specs/Lines.antt`, where comments say what they mean.
+All that a section leads to by itself is printed by `python3 -m tests.gate.believe 'A monitor'`. Lines are those of a definition with its
 comment. Types and constants of the code that definitions name are counted apart, and words of the toolchain's library aren't listed.
 
 Two files are second forms of shorter ones, and are listed since the clauses cite them. Whoever believes `nut_words: Spelling` needn't
@@ -247,15 +247,19 @@ class Promises:
             if it.is_law and not it.name.endswith("_limits") and (crate, it.name) not in listed]
 
 
-def calls_of(calls):
-    """Returns the calls of a section as the page names them."""
-    named = []
-    for _, _, wanted in calls:
+def calls_of(promises, calls):
+    """Returns the calls of a section as the page names them. Laws are counted: each has the name of its definition."""
+    named, laws = [], {}
+    for crate, _, wanted in calls:
+        is_law = {it.name for source in promises.files(crate) for it in source.functions if it.is_law}
         for it in wanted:
-            if not it.endswith("?"):
+            if it.rstrip("?") in is_law:
+                laws[crate] = laws.get(crate, 0) + 1
+            elif not it.endswith("?"):
                 it = it.replace(".*", "").replace(".", "::")
                 named += [] if it in named else [it]
-    return named
+    called = [f"`{' '.join(named)}`"] if named else []
+    return " and ".join(called + [f"{count} law{'s' * (count > 1)} of `{crate}`" for crate, count in laws.items()])
 
 
 def rows(library, found):
@@ -271,15 +275,14 @@ def rows(library, found):
             yield f"- `{crate}` {lines}: {'; '.join(files)}"
 
 
-def section(library, title, about, calls, found, before):
+def section(library, title, about, called, found, before):
     """Returns the text of a section, in which nothing is listed that stands in those before."""
     new = found - before
     lines, code_lines = library.sums(found)
     added = library.sums(new)[0]
-    named = " ".join(calls_of(calls))
     what_is_new = f"; {added:,} lines of definitions are new:" if added else "; no definition is new."
     sums = f"In all {lines:,} lines of definitions and {code_lines:,} of code"
-    out = [f"## {title}\n", f"Of `{named}`: {about}. {sums}{what_is_new if before else ':'}\n"]
+    out = [f"## {title}\n", f"Of {called}: {about}. {sums}{what_is_new if before else ':'}\n"]
     out += rows(library, new)
     code = {crate: sorted(name for it, module, name in new if module == CODE and it == crate) for crate in library.order}
     listed = "; ".join(f"`{crate}` `{' '.join(names)}`" for crate, names in code.items() if names)
@@ -296,7 +299,7 @@ def page(library):
     out, before = [HEAD], set()
     out.append(f"In all: {count:,} definitions of {lines:,} lines; {len(everything) - count:,} types and constants of {code_lines:,}.\n")
     for title, about, calls, found in promises.sections:
-        out.append(section(library, title, about, calls, found, before))
+        out.append(section(library, title, about, calls_of(promises, calls), found, before))
         before |= found
     return "\n".join(out)
 
@@ -343,9 +346,10 @@ def main(words):
         return 0
     if words:
         library = Library()
-        for title, about, calls, found in Promises(library).sections:
+        promises = Promises(library)
+        for title, about, calls, found in promises.sections:
             if title == words[0]:
-                print(section(library, title, about, calls, found, set()))
+                print(section(library, title, about, calls_of(promises, calls), found, set()))
                 return 0
         print(f"no section {words[0]}; there are {', '.join(it[0] for it in PROMISES)}")
         return 2
