@@ -129,6 +129,9 @@ class Named:
                 # this file names what there isn't, to see that it is found
                 self.texts += [self.code(path) for path in paths if path != os.path.abspath(__file__)]
         self.words = set(self.WORD.findall("\n".join(self.texts))) | OF_OTHERS
+        # files of definitions and of proofs have names that stand in no text
+        for folder in glob.glob(os.path.join(ROOT, "crates", "*", "specs")) + glob.glob(os.path.join(ROOT, "crates", "*", "proofs")):
+            self.words |= {os.path.basename(path)[:-5] for path in files_of(folder, ".antt")}
         rules = " ".join(re.findall(r"^([\w -]+):", self.texts[0], re.M))
         self.targets = {*rules.split(), *re.search(r"PROGRAMS := (.*)", self.texts[0])[1].split()}
 
@@ -147,7 +150,7 @@ class Named:
         path = path.rstrip("/").rstrip(".")
         # NAME in a path stands for any
         any_path = re.sub(r"\b[A-Z]+(-[A-Z]+)*\b(?=[/.])", "*", path)
-        starts = ("", "crates", "docs", "packaging", "tests/*", "crates/*/src")
+        starts = ("", "crates", "docs", "packaging", "tests/*", "crates/*/src", "crates/*/specs", "crates/*/proofs/*")
         return any(glob.glob(os.path.join(ROOT, start, any_path + end)) for start in starts for end in ("", ".antt")) or self.is_said(path)
 
     def missing(self, span):
