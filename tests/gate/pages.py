@@ -1,6 +1,6 @@
 #!/usr/bin/env python3
-"""Holds the pages for developers against what they name: files, crates, definitions, functions, tests and targets of make have to
-be there, what is made from the sources has to be up to date, and the pages have to stay small.
+"""Holds the pages of docs/ against what they name: files, crates, definitions, functions, tests and targets of make have to be
+there, what is made from the sources has to be up to date, and the pages have to stay small.
 
 usage: python3 -m tests.gate.pages [--write | --tests [MODULE ..]]
 
@@ -20,12 +20,9 @@ from tests.support.harness import ensure, expect, ROOT, run_tests
 
 DOCS = os.path.join(ROOT, "docs")
 PROVED = os.path.join(DOCS, "proved.md")
-# the pages at the top that this test reads if they are there
-TOP = ("README.md", "CONTRIBUTING.md", "SECURITY.md")
-
-# The greatest sizes, in bytes: of all of docs/, and of a page.
+# The greatest sizes, in bytes: of all of docs/, and of some pages.
 ALL_DOCS = 200 * 1024
-SIZES = {"README.md": 8 * 1024 + 512, "CONTRIBUTING.md": 6 * 1024, "docs/DECISIONS.md": 35 * 1024, "docs/believe.md": 28 * 1024}
+SIZES = {"DECISIONS.md": 35 * 1024, "believe.md": 28 * 1024}
 
 # Names of others that pages have, and that stand nowhere in the sources.
 OF_OTHERS = {"SyslogLevel"}
@@ -182,9 +179,8 @@ class Named:
 
 def pages():
     """Yields the name and the text of each page."""
-    for path in sorted(glob.glob(os.path.join(DOCS, "*.md"))) + [os.path.join(ROOT, it) for it in TOP]:
-        if os.path.exists(path):
-            yield os.path.relpath(path, ROOT), read(path)
+    for path in sorted(glob.glob(os.path.join(DOCS, "*.md"))):
+        yield os.path.relpath(path, ROOT), read(path)
 
 
 class Tests:
@@ -216,9 +212,8 @@ class Tests:
         size = sum(os.path.getsize(path) for path in files_of(DOCS, ""))
         ensure(size <= ALL_DOCS, f"docs/ has {size:,} bytes, more than {ALL_DOCS:,}")
         for page, most in SIZES.items():
-            path = os.path.join(ROOT, page)
-            if os.path.exists(path):
-                ensure(os.path.getsize(path) <= most, f"{page} has {os.path.getsize(path):,} bytes, more than {most:,}")
+            size = os.path.getsize(os.path.join(DOCS, page))
+            ensure(size <= most, f"docs/{page} has {size:,} bytes, more than {most:,}")
 
 
 def main(words):
