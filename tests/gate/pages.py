@@ -114,7 +114,7 @@ class Named:
 
     WORD = re.compile(r"[A-Za-z_][A-Za-z0-9_]*")
     # a word that is a name of the code wherever it stands between backquotes
-    IS_NAME = re.compile(r"[a-z]+[a-z0-9]*_[a-z0-9_]+|[A-Z][a-z0-9]+(?:[A-Z][a-z0-9]*)+|[A-Z][A-Z0-9]*_[A-Z0-9_]+")
+    IS_NAME = re.compile(r"[a-z]+[a-z0-9]*_[a-z0-9_]+|[A-Z][a-z0-9]\w*|[A-Z][A-Z0-9]*_[A-Z0-9_]+")
     PATH = re.compile(r"[\w.*-]+(?:/[\w.*-]+)+/?|[\w-]+\.(?:md|rt|py|sh|c|txt)")
 
     def __init__(self):
@@ -159,6 +159,8 @@ class Named:
         if place := re.fullmatch(r"(\w+): ([\w/.]+)", span):
             if place[1] in self.library.order:
                 return [] if (place[1], place[2].replace("/", ".")) in self.library.modules else [span]
+        if (item := re.fullmatch(r"(\w+)::(\w+)", span)) and item[1] in self.library.order:
+            return [] if self.library.code_home(item[1], item[2], None) else [span]
         if self.PATH.fullmatch(span):
             return [] if self.has_path(span) else [span]
         names = [word for word in self.WORD.findall(span) if self.IS_NAME.fullmatch(word)]
@@ -202,7 +204,7 @@ class Tests:
         """A page that names something that isn't there is refused."""
         named = Named()
         code = ("no_such_function", "NoSuchType", "NO_SUCH_LIMIT", "make nothing")
-        for span in (*code, "nut_words: Nothing", "nut_words/src/nothing.rt", "python3 -m tests.nothing"):
+        for span in (*code, "nut_words: Nothing", "nut_words::Nothing", "nut_words/src/nothing.rt", "python3 -m tests.nothing"):
             ensure(named.missing_of(f"It is `{span}`."), f"{span} counts as something")
         ensure(named.missing_of("See docs/nothing.md."), "docs/nothing.md counts as a page")
 
