@@ -26,7 +26,7 @@ TO ?= dist
 
 INSTALLER = PREFIX='$(PREFIX)' DESTDIR='$(DESTDIR)' CONFDIR='$(CONFDIR)' BIN='$(BIN)' sh packaging/install.sh
 
-.PHONY: all try tried test notices check check-edits check-times check-peers bench install install-built configure uninstall deb tar clean toolchain $(PROGRAMS)
+.PHONY: all try tried test proved notices check check-edits check-times check-peers bench install install-built configure uninstall deb tar clean toolchain $(PROGRAMS)
 
 all: $(PROGRAMS) notices
 
@@ -44,9 +44,13 @@ tried: toolchain
 test: tried
 	@python3 -m tests.check --tried bin/tried
 
-# rt builds a program only once it and every crate below it are proved. It keeps its work in out/, so that a second
-# build takes seconds. A crate's name has no dash, but the program's name has.
-$(PROGRAMS): toolchain
+# the first proof of what is wanted, several crates at a time
+proved: toolchain
+	@tools/prove $(or $(filter $(PROGRAMS),$(MAKECMDGOALS)),$(PROGRAMS))
+
+# rt builds a program only once it and every crate below it are proved, which it looks at again here. It keeps its work in
+# out/, so that a second build takes seconds. A crate's name has no dash, but the program's name has.
+$(PROGRAMS): proved
 	@mkdir -p bin
 	@cd crates/$@ && rt run -- --version > ../../bin/$@.log 2>&1 < /dev/null || { cat ../../bin/$@.log; exit 1; }
 	@rm -f bin/$@.log
@@ -58,7 +62,9 @@ notices: toolchain
 	@mkdir -p bin
 	@tools/notices > bin/third-party-notices
 
+# (copies that an interrupted proof left would be crates of the gate's, too)
 check: toolchain
+	@rm -rf bin/proving
 	@python3 -m tests.check $(ANEW)
 
 check-edits: toolchain

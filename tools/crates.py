@@ -1,4 +1,4 @@
-"""The repository's crates, as crates.txt lists them."""
+"""The repository's crates, as crates.txt lists them, and how many of them this machine can work on at a time."""
 
 import os
 import re
@@ -39,6 +39,13 @@ def built_programs():
     """Returns the crates of the programs that `make` builds."""
     with open(os.path.join(ROOT, "Makefile"), encoding="utf-8") as file:
         return re.search(r"^PROGRAMS := (.*)$", file.read(), re.MULTILINE)[1].split()
+
+
+def at_once(memory):
+    """Returns how many runs that take up to this many bytes of memory fit this machine at a time: one for each processor at most."""
+    with open("/proc/meminfo", encoding="ascii") as file:
+        free = 1024 * int(re.search(r"^MemAvailable: *(\d+) kB$", file.read(), re.MULTILINE)[1])
+    return max(1, min(len(os.sched_getaffinity(0)), free // memory))
 
 
 def folder_of(crate):

@@ -71,6 +71,11 @@ def holds_sanitizer(program):
         return b"AddressSanitizer" in file.read()
 
 
+def patience(seconds):
+    """Returns how long a test waits for a run that ends within so many seconds on a proved build."""
+    return 10 * seconds if built_without_proof() else seconds
+
+
 def needs_proved_build(what):
     """Skips a test of something that can't be seen on a program that was built without proof."""
     if built_without_proof():
