@@ -132,16 +132,16 @@ def run_tried(count, folder):
     """Runs the tests on programs that were built without proof, as many at a time as there are processors, since most wait."""
 
     def run(command):
-        said = tempfile.TemporaryFile("w+", errors="replace")
+        began, said = time.monotonic(), tempfile.TemporaryFile("w+", errors="replace")
         with begin(command, said) as process:
             process.wait()
         said.seek(0)
-        return command, process, said
+        return command, process, said, time.monotonic() - began
 
     with futures.ThreadPoolExecutor(max(2, len(os.sched_getaffinity(0)))) as pool:
         for done in futures.as_completed([pool.submit(run, command) for command in commands_of_tests(folder)]):
-            command, process, said = done.result()
-            print(f"== {command[2]}")
+            command, process, said, seconds = done.result()
+            print(f"== {command[2]}, {seconds:.0f} s")
             with said:
                 count.add(command, process, said)
 

@@ -72,7 +72,7 @@ def holds_sanitizer(program):
 
 
 def patience(seconds):
-    """Returns how long a test waits for a run that ends within so many seconds on a proved build."""
+    """Returns how many seconds a run may take that takes at most this many on a proved build."""
     return 10 * seconds if built_without_proof() else seconds
 
 
