@@ -48,7 +48,7 @@ case $what in
 esac
 
 if [ $# -eq 0 ]; then
-    set -- $(ls "$BIN")
+    set -- $(find "$BIN" -maxdepth 1 -type f -perm -u+x -printf '%f\n' | sort)
     if [ $# -eq 0 ]; then
         echo "$0: $BIN: no programs are there" >&2
         exit 1
@@ -105,6 +105,10 @@ if [ "$what" = install ]; then
             exit 1
         fi
     done
+    if [ ! -e "$BIN/third-party-notices" ]; then
+        echo "$BIN/third-party-notices isn't there: 'make notices' makes it" >&2
+        exit 1
+    fi
 fi
 
 filled=$(mktemp)
@@ -135,6 +139,7 @@ for page in man/*.5; do
     put 644 "$page" "share/man/man5/${page##*/}"
 done
 put 644 man/from-nut.7 share/man/man7/from-nut.7
+put 644 "$BIN/third-party-notices" share/mulgefa/third-party-notices
 put 644 docs/from-nut.md share/mulgefa/from-nut.md
 put 644 docs/room.md share/mulgefa/room.md
 put 644 docs/room.svg share/mulgefa/room.svg

@@ -20,7 +20,7 @@ import sys
 import tempfile
 import time
 
-from tests.support.harness import build_library, cannot_read, ensure, expect, processor_time, run_tests
+from tests.support.harness import build_library, cannot_read, ensure, expect, patience, processor_time, run_tests
 from tests.support.room import NOT_CONNECTED, ONLINE, SOON, STATUS, VERSION, Client, Lines, Room, accepted, said, stopped, until
 
 # the default of MAXCONN
@@ -65,7 +65,7 @@ def is_quiet(pid):
     """Whether a process does nothing for a while."""
     used = processor_time(pid)
     time.sleep(0.5)
-    return processor_time(pid) - used < 0.1
+    return processor_time(pid) - used < patience(0.1)
 
 
 class Hostile:

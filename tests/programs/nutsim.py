@@ -17,7 +17,7 @@ import sys
 import tempfile
 import time
 
-from tests.support.harness import ROOT, VERSION_SHOWN, Failed, cannot_read, ensure, expect, refusals, refusing, run_tests
+from tests.support.harness import ROOT, VERSION_SHOWN, Failed, cannot_read, ensure, expect, patience, refusals, refusing, run_tests
 from tests.support.model import Config, User, quoted
 from tests.support.player import conf_steps
 from tests.rehearsals.server import greatest_memory
@@ -253,7 +253,7 @@ class Tests:
         """Returns the status, what is printed, and what is written about a failure. The schedule may be `/dev/stdin`, which
         has `data`."""
         words = [self.program, room.folder, path, *room.monitors]
-        done = subprocess.run(words, input=data, env={**os.environ, **(env or {})}, capture_output=True, timeout=60)
+        done = subprocess.run(words, input=data, env={**os.environ, **(env or {})}, capture_output=True, timeout=patience(60))
         return done.returncode, done.stdout, done.stderr
 
     def plays(self, room, steps, due, what):

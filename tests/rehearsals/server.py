@@ -19,7 +19,7 @@ import time
 import urllib.parse
 
 from tests.support.form_rows import FORMS, NO_FORMS
-from tests.support.harness import Failed, ensure, expect, refusals, run_tests, unread
+from tests.support.harness import Failed, ensure, expect, patience, refusals, run_tests, unread
 from tests.support.model import OPENED_MAX, Config
 from tests.support.player import Player, conf_steps, escaped, line_of, places, reload_steps
 from tests.support.reload_rows import RELOADS
@@ -133,7 +133,7 @@ class Tests:
                 memory = greatest_memory(process)
             with contextlib.suppress(BrokenPipeError):
                 process.stdin.close()
-            status = process.wait(timeout=60)
+            status = process.wait(timeout=patience(60))
         with open(out_path, "rb") as out, open(err_path, "rb") as err:
             return status, out.read(), err.read(), memory
 
