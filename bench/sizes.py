@@ -4,7 +4,7 @@ that are connected. It needs valgrind (see instructions.py).
 
     bench/sizes.py UPSD [PICTURE]
 
-PICTURE (docs/speed.svg if it isn't given) is an SVG. A cost that grows with the work alone is a flat line."""
+PICTURE (bench/sizes.svg if it isn't given) is an SVG. A cost that grows with the work alone is a flat line."""
 
 import os
 import shutil
@@ -65,7 +65,7 @@ def picture(rows):
 
 def main():
     upsd = os.path.abspath(sys.argv[1])
-    path = sys.argv[2] if len(sys.argv) > 2 else os.path.join(os.path.dirname(os.path.dirname(os.path.abspath(__file__))), "docs", "speed.svg")
+    path = sys.argv[2] if len(sys.argv) > 2 else os.path.join(os.path.dirname(os.path.abspath(__file__)), "sizes.svg")
     if shutil.which("valgrind") is None:
         sys.exit("valgrind is missing")
     servers = [Upsd(upsd, False), *([Upsd(NUT_UPSD, True)] if os.access(NUT_UPSD, os.X_OK) else [])]
