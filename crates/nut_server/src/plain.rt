@@ -38,10 +38,7 @@ pub fn write_answer(
 
 /// Appends an answer or a refusal. If memory cannot be allocated, `out` may hold a part of it.
 #[tactic(auto, unfolding(nut_server_spec::specs::Answer::text_of))]
-fn put_outcome(
-    out: &mut Vec<u8>,
-    told: &Result<Answer<'_>, Refusal>,
-) -> Result<(), AllocError>
+fn put_outcome(out: &mut Vec<u8>, told: &Result<Answer<'_>, Refusal>) -> Result<(), AllocError>
     ensures { OnOk result (out.new.items ≡ out.old.items ++ text_of (outcome told.now)) }
 {
     match told {

@@ -1,4 +1,4 @@
-use Rattle.std.proofs.Common.{◌≡◌, ℕ, Some, slice_get, [], ◌++◌, List, ap, map, refl, subst, ◌∙◌}
+use Rattle.std.proofs.Common.{◌≡◌, ℕ, Some, slice_get, [], List, ap, map, refl, subst, ◌∙◌}
 use Rattle.nut_proto.specs.PlainQueries.{request_of}
 use Rattle.nut_server_spec.specs.Answer.{Answer, answer, text_of}
 use Rattle.nut_server_spec.specs.Command.{Asks}
@@ -20,7 +20,7 @@ returns-clause-ok c =
     let R : List ℕ → List Supply → Answer = λ ns ds. answer (record (scene_of v) { numbers = ns; devices = map (λ d. d.device) ds }) (caller_of k) command in
     let is : R c.as_slice.result.now c.as_slice-2.result.now ≡ R v.numbers v.supplies =
     ap (λ ns. R ns c.as_slice-2.result.now) c.as_slice.ensures.value ∙ ap (R v.numbers) c.as_slice-2.ensures.value in
-    let text = c.as_slice-3.ensures.value ∙ c.in_ok-write_answer.ensures.text (caller_of k) ∙ ap (λ front. front ++ text_of (R c.as_slice.result.now c.as_slice-2.result.now)) c.clear.ensures.items ∙ ap text_of is in
+    let text = c.as_slice-3.ensures.value ∙ c.in_ok-write_answer.ensures.text (caller_of k) ∙ ap text_of is in
     let done = subst (λ reply. Does (record (scene_of v) { numbers = c.as_slice.result.now }) command reply effects.Nothing []) is (c.in_ok-write_answer.ensures.quiet (caller_of k) []) in
     let does = subst (λ ns. Does (record (scene_of v) { numbers = ns }) command (R v.numbers v.supplies) effects.Nothing []) c.as_slice.ensures.value done in
     let it : record v { sessions = c.answer.new.self; supplies = v.supplies; given = v.given } ≡ answered_by c' command (answer (scene_of v) (caller_of k) command) v =
