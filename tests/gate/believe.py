@@ -280,9 +280,8 @@ def section(library, title, about, called, found, before):
     new = found - before
     lines, code_lines = library.sums(found)
     added = library.sums(new)[0]
-    what_is_new = f"; {added:,} lines of definitions are new:" if added else "; no definition is new."
-    sums = f"In all {lines:,} lines of definitions and {code_lines:,} of code"
-    out = [f"## {title}\n", f"Of {called}: {about}. {sums}{what_is_new if before else ':'}\n"]
+    what_is_new = f", {added:,} of them new" if before else ""
+    out = [f"## {title}\n", f"Of {called}: {about}. {lines:,} lines{what_is_new}, and {code_lines:,} of code.\n"]
     out += rows(library, new)
     code = {crate: sorted(name for it, module, name in new if module == CODE and it == crate) for crate in library.order}
     listed = "; ".join(f"`{crate}` `{' '.join(names)}`" for crate, names in code.items() if names)
