@@ -19,7 +19,7 @@ import time
 import urllib.parse
 
 from tests.support.form_rows import FORMS, NO_FORMS
-from tests.support.harness import Failed, ensure, expect, patience, refusals, run_tests, unread
+from tests.support.harness import Failed, ensure, expect, fewer, needs_proved_build, patience, refusals, run_tests, unread
 from tests.support.model import Config
 from tests.support.player import Player, conf_steps, escaped, line_of, places, reload_steps
 from tests.support.reload_rows import RELOADS
@@ -193,6 +193,7 @@ class Tests:
         print(f"   {opened} connections, 256 at once, and {reloads} reloads, in {memory} KiB; {took:.1f} s")
 
     def test_memory_does_not_grow(self):
+        needs_proved_build("how much memory is taken")
         config = Config(UPSES, USERS)
         maker = ScheduleMaker(9, config, others=variants(9, config))
         steps = [*maker.steps(10_000), *(("close", c) for c in maker.server.connections)]
@@ -251,7 +252,7 @@ class Tests:
     def test_bytes_without_sense(self):
         chance = random.Random(10)
         steps = [("open", b"a"), ("open", b"b"), ("up", 0), ("up", 1)]
-        for _ in range(10_000):
+        for _ in range(fewer(10_000)):
             piece = bytes(chance.choices(range(256), k=chance.randrange(513)))
             number = chance.randrange(2)
             if chance.random() < 0.5:
