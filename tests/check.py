@@ -26,6 +26,7 @@ TESTS = (
     ("gate.believe", ()),
     ("gate.front_pages", ()),
     ("gate.pages", ()),
+    ("gate.builders", ()),
     ("programs.upsd_stdio", ("upsd",)),
     ("programs.files", ("upsd", "upsmon")),
     ("rehearsals.server", ("rehearse",)),

@@ -9,7 +9,7 @@ import subprocess
 import sys
 
 from tests.support.harness import ROOT, Missing, ensure, expect, run_tests
-from tools.crates import built_programs, is_program, name_of, rows
+from tools.crates import below, built_programs, is_program, name_of, rows
 
 PAGES = ("README.md", "CONTRIBUTING.md", "SECURITY.md", "CHANGELOG.md")
 # The greatest lengths in bytes.
@@ -20,7 +20,7 @@ LOOKED_AT = (
     "make try",
     "make test",
     "tools/tried bin/tried upsd",
-    "python3 -m tests.programs.upsd_stdio bin/tried/upsd",
+    "python3 -m tests.programs.upsd_stdio bin/tried/upsd in_turn",
     "cd crates/nut_queue && rt check",
     "python3 -m tests.gate.wrong_bodies nut_queue",
     "python3 -m tests.gate.front_pages",
@@ -103,6 +103,18 @@ class Tests:
             raise Missing("rt isn't on the PATH") from None
         (logic,) = re.findall(r"\blogic ([0-9a-f]{16})\b", text_of("README.md"))
         expect(re.findall(r"\blogic ([0-9a-f]{16})\b", version), [logic], "the logic of this toolchain, which README.md names")
+
+    def test_notices(self):
+        """Each library that is linked in has its licence among the notices, but for the toolchain's own."""
+        try:
+            said = subprocess.run([os.path.join(ROOT, "tools", "notices")], stdout=subprocess.PIPE, text=True, check=True).stdout
+        except subprocess.CalledProcessError:
+            raise Missing("rt isn't on the PATH") from None
+        listed = rows()
+        named = {word for crate in below(built_programs()) for word in listed[crate].partition(":")[2].split() if word not in listed}
+        plain = set(re.search(r"come without a notice: (.*)\.$", said, re.MULTILINE)[1].split(", "))
+        ensure(all(re.fullmatch(r"core|io|libc|os|std(_\w+)?", it) for it in plain), f"libraries without a licence: {plain}")
+        expect([it for it in sorted(named - plain) if not re.search(rf"^(.*, )?{it} \(LICENSE", said, re.MULTILINE)], [], "libraries without a licence")
 
     def test_licence(self):
         for page in ("README.md", os.path.join("packaging", "deb", "copyright")):

@@ -25,7 +25,7 @@ import time
 import xml.etree.ElementTree
 
 from tests.programs.nutsim import server_files
-from tests.support.harness import ROOT, VERSION_SHOWN, Failed, ensure, expect, run_tests
+from tests.support.harness import ROOT, VERSION_SHOWN, Failed, ensure, expect, fewer, run_tests
 from tests.support.model import Config, User, words_of
 from tests.support.room_model import Room, Rules, Watched, shown
 from tests.support.terminal import run_on_terminal
@@ -38,7 +38,7 @@ LIMITS = os.path.join(ROOT, "crates", "nut_monitor_sockets", "src", "limits.rt")
 MONITOR_MANUAL = os.path.join(ROOT, "man", "upsmon.8")
 SVG = "{http://www.w3.org/2000/svg}"
 
-ROOMS = 300
+ROOMS = fewer(300)
 ROOMS_A_CALL = 25
 # one in this many rooms is also played by the plain model
 MODEL_EACH = 5

@@ -17,7 +17,7 @@ import sys
 import tempfile
 import time
 
-from tests.support.harness import ROOT, VERSION_SHOWN, Failed, cannot_read, ensure, expect, patience, refusals, refusing, run_tests
+from tests.support.harness import ROOT, VERSION_SHOWN, Failed, cannot_read, ensure, expect, fewer, patience, refusals, refusing, run_tests
 from tests.support.model import Config, User, quoted
 from tests.support.player import conf_steps
 from tests.rehearsals.server import greatest_memory
@@ -30,8 +30,8 @@ EXAMPLES = os.path.join(ROOT, "examples")
 SCHEDULES = os.path.join(EXAMPLES, "schedules")
 
 # how many random schedules are played by calls and by `nutsim`, how many of them use one room, and how many rooms one run
-RANDOM_SCHEDULES = 10_000
-RANDOM_FILES = 400
+RANDOM_SCHEDULES = fewer(10_000)
+RANDOM_FILES = fewer(400)
 SCHEDULES_A_ROOM = 20
 ROOMS_A_RUN = 25
 LONG_STEPS = 300_000

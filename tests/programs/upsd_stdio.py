@@ -1,7 +1,7 @@
 #!/usr/bin/env python3
 """Runs upsd over standard streams as its users do, and with each allocation, read and write of a run failing in turn.
 
-    python3 -m tests.programs.upsd_stdio UPSD
+    python3 -m tests.programs.upsd_stdio UPSD [PART OF A NAME..]
 
 The last line is 'N passed, M failed'."""
 
@@ -461,7 +461,7 @@ class Tests(Shimmed):
 
 def main():
     with tempfile.TemporaryDirectory() as folder:
-        return run_tests(Tests(os.path.abspath(sys.argv[1]), folder))
+        return run_tests(Tests(os.path.abspath(sys.argv[1]), folder), sys.argv[2:])
 
 
 if __name__ == "__main__":

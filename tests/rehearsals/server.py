@@ -19,7 +19,7 @@ import time
 import urllib.parse
 
 from tests.support.form_rows import FORMS, NO_FORMS
-from tests.support.harness import Failed, ensure, expect, patience, refusals, run_tests, unread
+from tests.support.harness import Failed, ensure, expect, fewer, needs_proved_build, patience, refusals, run_tests, unread
 from tests.support.model import OPENED_MAX, Config
 from tests.support.player import Player, conf_steps, escaped, line_of, places, reload_steps
 from tests.support.reload_rows import RELOADS
@@ -201,6 +201,7 @@ class Tests:
         expect([server.open(b"a"), server.opened, server.open(b"b"), server.opened], [None, OPENED_MAX, "Full", OPENED_MAX], "the last two numbers")
 
     def test_memory_does_not_grow(self):
+        needs_proved_build("how much memory is taken")
         config = Config(UPSES, USERS)
         maker = ScheduleMaker(9, config, others=variants(9, config))
         steps = [*maker.steps(10_000), *(("close", c) for c in maker.server.connections)]
@@ -259,7 +260,7 @@ class Tests:
     def test_bytes_without_sense(self):
         chance = random.Random(10)
         steps = [("open", b"a"), ("open", b"b"), ("up", 0), ("up", 1)]
-        for _ in range(10_000):
+        for _ in range(fewer(10_000)):
             piece = bytes(chance.choices(range(256), k=chance.randrange(513)))
             number = chance.randrange(2)
             if chance.random() < 0.5:

@@ -76,6 +76,11 @@ def patience(seconds):
     return 10 * seconds if built_without_proof() else seconds
 
 
+def fewer(count):
+    """Returns how many random runs are played, of so many on a proved build."""
+    return count // 10 if built_without_proof() else count
+
+
 def needs_proved_build(what):
     """Skips a test of something that can't be seen on a program that was built without proof."""
     if built_without_proof():
