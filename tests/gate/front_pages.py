@@ -129,4 +129,4 @@ class Tests:
 
 
 if __name__ == "__main__":
-    sys.exit(run_tests(Tests()))
+    sys.exit(run_tests(Tests(), sys.argv[1:]))

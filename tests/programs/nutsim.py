@@ -17,7 +17,7 @@ import sys
 import tempfile
 import time
 
-from tests.support.harness import ROOT, VERSION_SHOWN, Failed, cannot_read, ensure, expect, fewer, patience, refusals, refusing, run_tests
+from tests.support.harness import ROOT, VERSION_SHOWN, Failed, cannot_read, ensure, expect, fewer, needs_proved_build, patience, refusals, refusing, run_tests
 from tests.support.model import Config, User, quoted
 from tests.support.player import conf_steps
 from tests.rehearsals.server import greatest_memory
@@ -479,6 +479,7 @@ class Tests:
             ensure(at > 1, "no write was seen")
 
     def test_a_long_schedule_takes_no_more_memory(self):
+        needs_proved_build("how much memory is taken")
         room = self.room("long", ALONE, [PRIMARY])
         turn = b"".join(map(line_of, [("link", 0, 0), *rounds(0, 5), says(b"OL"), ("cut-server", 0, 0), ("cut-monitor", 0, 0)]))
         turns = LONG_STEPS // turn.count(b"\n")
