@@ -1,4 +1,6 @@
-# make               proves and builds every program into bin/
+# make try           runs upsd without any proof, which takes a minute
+# make tried         builds every program without proof into bin/tried/, and make test runs the tests on these
+# make               proves and builds every program into bin/; make upsd only upsd and what it stands on
 # make check         runs all tests; its last line is 'N passed, M failed'; with ANEW=--anew it uses nothing of earlier runs
 # make check-edits   tries each wrong body one by one, which takes hours; CRATES='a b' tries those of some crates
 # make check-times   keeps the processor times of the last make check, with which the next one compares its own
@@ -24,20 +26,45 @@ TO ?= dist
 
 INSTALLER = PREFIX='$(PREFIX)' DESTDIR='$(DESTDIR)' CONFDIR='$(CONFDIR)' BIN='$(BIN)' sh packaging/install.sh
 
-.PHONY: all check check-edits check-times check-peers bench install install-built configure uninstall deb tar clean toolchain $(PROGRAMS)
+.PHONY: all try tried test proved notices check check-edits check-times check-peers bench install install-built configure uninstall deb tar clean toolchain $(PROGRAMS)
 
-all: $(PROGRAMS)
+all: $(PROGRAMS) notices
 
-# rt builds a program only once it and every crate below it are proved. It keeps its work in out/, so that a second
-# build takes seconds. A crate's name has no dash, but the program's name has.
-$(PROGRAMS): toolchain
+# The words of upsd's test run, and what it is asked. rt try compiles the sources with checks and runs the result; what it
+# says of the run, besides the program's output, is shown only if that fails.
+try: toolchain
+	@mkdir -p bin
+	@echo "Nothing is proved here: upsd is compiled with checks at run time and asked LIST UPS, which takes about a minute."
+	@cd crates/upsd && printf 'LIST UPS\nLOGOUT\n' | rt try -- --stdio --ups 'su700=Server room' 2> ../../bin/try.log || { cat ../../bin/try.log; exit 1; }
+	@rm -f bin/try.log
+
+tried: toolchain
+	@tools/tried bin/tried
+
+test: tried
+	@python3 -m tests.check --tried bin/tried
+
+# the first proof of what is wanted, several crates at a time
+proved: toolchain
+	@tools/prove $(or $(filter $(PROGRAMS),$(MAKECMDGOALS)),$(PROGRAMS))
+
+# rt builds a program only once it and every crate below it are proved, which it looks at again here. It keeps its work in
+# out/, so that a second build takes seconds. A crate's name has no dash, but the program's name has.
+$(PROGRAMS): proved
 	@mkdir -p bin
 	@cd crates/$@ && rt run -- --version > ../../bin/$@.log 2>&1 < /dev/null || { cat ../../bin/$@.log; exit 1; }
 	@rm -f bin/$@.log
 	@cp crates/$@/out/$@ bin/$(subst _,-,$@)
 	@echo "bin/$(subst _,-,$@) is proved and built"
 
+# what the licences of the linked libraries ask of whoever passes the programs on
+notices: toolchain
+	@mkdir -p bin
+	@tools/notices > bin/third-party-notices
+
+# (copies that an interrupted proof left would be crates of the gate's, too)
 check: toolchain
+	@rm -rf bin/proving
 	@python3 -m tests.check $(ANEW)
 
 check-edits: toolchain
@@ -56,7 +83,8 @@ check-peers: all
 bench: all
 	@python3 bench/stdio.py bin/upsd
 	@python3 bench/sockets.py bin/upsd bin/dummy-ups
-	@python3 bench/instructions.py bin/upsd bin/dummy-ups
+	@python3 bench/instructions.py bin/upsd bin/upsmon
+	@python3 bench/sizes.py bin/upsd
 
 install: all
 	@$(MAKE) --no-print-directory install-built
@@ -79,8 +107,5 @@ clean:
 	rm -rf bin dist crates/*/out
 
 toolchain:
-	@command -v rt > /dev/null || { \
-	  echo "The Rattle toolchain is missing: its command 'rt' is not on the PATH."; \
-	  echo "Put the folder bin of its installation there; 'rt version' then prints its version (the README says which)."; \
-	  exit 1; }
-	@command -v python3 > /dev/null || { echo "python3 is missing: rt needs Python 3.8 or later, and the tests 3.10."; exit 1; }
+	@command -v rt > /dev/null || { echo "rt, the command of the Rattle toolchain, is missing: it is looked for on the PATH, which is $$PATH"; exit 1; }
+	@command -v python3 > /dev/null || { echo "python3 is missing: it is looked for on the PATH, which is $$PATH; rt needs Python 3.8 or later, and the tests 3.10"; exit 1; }

@@ -48,7 +48,7 @@ case $what in
 esac
 
 if [ $# -eq 0 ]; then
-    set -- $(ls "$BIN")
+    set -- $(find "$BIN" -maxdepth 1 -type f -perm -u+x -printf '%f\n' | sort)
     if [ $# -eq 0 ]; then
         echo "$0: $BIN: no programs are there" >&2
         exit 1
@@ -59,7 +59,7 @@ fi
 # wants it, and so is the page of ups.conf, which says how all files are read.
 part_of() {
     case $1 in
-        share/mulgefa/rooms/* | share/mulgefa/schedules/*)
+        share/mulgefa/rooms/* | share/mulgefa/schedules/* | share/mulgefa/nutroom_modules/*)
             echo client
             return
             ;;
@@ -105,6 +105,10 @@ if [ "$what" = install ]; then
             exit 1
         fi
     done
+    if [ ! -e "$BIN/third-party-notices" ]; then
+        echo "$BIN/third-party-notices isn't there: 'make notices' makes it" >&2
+        exit 1
+    fi
 fi
 
 filled=$(mktemp)
@@ -126,6 +130,9 @@ for program in "$@"; do
     fi
 done
 put 755 tools/nutroom bin/nutroom
+for module in tools/nutroom_modules/*.py; do
+    put 644 "$module" "share/mulgefa/nutroom_modules/${module##*/}"
+done
 put 644 man/nutroom.8 share/man/man8/nutroom.8
 put 644 packaging/completions.bash share/bash-completion/completions/nutroom
 put 755 packaging/until-ready lib/mulgefa/until-ready
@@ -135,6 +142,7 @@ for page in man/*.5; do
     put 644 "$page" "share/man/man5/${page##*/}"
 done
 put 644 man/from-nut.7 share/man/man7/from-nut.7
+put 644 "$BIN/third-party-notices" share/mulgefa/third-party-notices
 put 644 docs/from-nut.md share/mulgefa/from-nut.md
 put 644 docs/room.md share/mulgefa/room.md
 put 644 docs/room.svg share/mulgefa/room.svg
@@ -164,7 +172,8 @@ fi
 
 # Folders that nothing else uses go too, once they are empty.
 if [ "$what" = uninstall ]; then
-    for folder in share/mulgefa/examples share/mulgefa/schedules $rooms share/mulgefa/rooms share/mulgefa lib/mulgefa; do
+    for folder in share/mulgefa/examples share/mulgefa/schedules $rooms share/mulgefa/rooms share/mulgefa/nutroom_modules \
+        share/mulgefa lib/mulgefa; do
         rmdir "$root/$folder" 2> /dev/null || true
     done
 fi

@@ -66,6 +66,11 @@ ship_programs() {
             strip --strip-unneeded --remove-section=.comment "$work/programs/$program"
         fi
     done
+    if [ ! -e "$BIN/third-party-notices" ]; then
+        echo "$BIN/third-party-notices isn't there: 'make notices' makes it" >&2
+        exit 1
+    fi
+    install -m 644 "$BIN/third-party-notices" "$work/programs/third-party-notices"
 }
 
 is_machine_code() {
@@ -151,13 +156,16 @@ make_tar() {
     for program in $server $client; do
         install -m 755 "$work/programs/$program" "$tree/bin/$program"
     done
+    install -m 644 "$work/programs/third-party-notices" "$tree/bin/third-party-notices"
     for file in install.sh configure.sh completions.bash mulgefa-check until-ready mulgefa.sysusers \
         mulgefa-upsd.service mulgefa-upsmon.service mulgefa-dummy-ups@.service; do
         install -m 644 "packaging/$file" "$tree/packaging/$file"
     done
     chmod 755 "$tree/packaging/install.sh" "$tree/packaging/mulgefa-check" "$tree/packaging/until-ready"
-    cp -R man examples README.md "$tree/"
+    cp -R man examples README.md CHANGELOG.md SECURITY.md "$tree/"
     install -D -m 755 tools/nutroom "$tree/tools/nutroom"
+    install -d "$tree/tools/nutroom_modules"
+    install -m 644 tools/nutroom_modules/*.py "$tree/tools/nutroom_modules/"
     install -d "$tree/docs"
     install -m 644 docs/from-nut.md docs/room.md docs/room.svg "$tree/docs/"
     chmod -R u=rwX,go=rX "$tree"

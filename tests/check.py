@@ -4,10 +4,11 @@ tests and the stored runs), then all wrong bodies, and beside them the tests in 
 gate has built. It shows how much processor time each crate took, beside the times that were kept, and at the end repeats the
 lines that reported a failure or a test that was skipped.
 
-usage: python3 -m tests.check [--anew]
+usage: python3 -m tests.check [--anew] | --tried FOLDER
 
 The toolchain's gate takes what an earlier run on this machine has proved, if nothing that it rests on has changed; with --anew
-it proves all. The last line is 'N passed, M failed'."""
+it proves all. With --tried it runs the tests in Python alone, several at a time, on the programs that tools/tried has built in a
+folder without proof. The last line is 'N passed, M failed'."""
 
 import os
 import re
@@ -15,13 +16,17 @@ import subprocess
 import sys
 import tempfile
 import time
+from concurrent import futures
 
 from tests.gate import times as gate_times
 from tests.support.harness import ROOT, children_time
 
-# The tests that run beside the rounds of wrong bodies, and the built programs that each is given.
+# The tests that run beside the rounds of wrong bodies, or on programs without proof, and the built programs that each is given.
 TESTS = (
     ("gate.believe", ()),
+    ("gate.front_pages", ()),
+    ("gate.pages", ()),
+    ("gate.builders", ()),
     ("programs.upsd_stdio", ("upsd",)),
     ("programs.files", ("upsd", "upsmon")),
     ("rehearsals.server", ("rehearse",)),
@@ -113,9 +118,34 @@ def test_command(name, *words):
     return [sys.executable, "-m", f"tests.{name}", *words]
 
 
+def commands_of_tests(folder=""):
+    """Returns the command of each test in Python, with the programs that are built in the repository or in a folder."""
+    return [
+        test_command(test, *[os.path.join(folder, "crates", program, "out", program) for program in programs]) for test, programs in TESTS
+    ]
+
+
 def run_programs(count):
-    for test, programs in TESTS:
-        count.run_test(test, *[os.path.join("crates", program, "out", program) for program in programs])
+    for command in commands_of_tests():
+        count.run(command)
+
+
+def run_tried(count, folder):
+    """Runs the tests on programs that were built without proof, as many at a time as there are processors, since most wait."""
+
+    def run(command):
+        began, said = time.monotonic(), tempfile.TemporaryFile("w+", errors="replace")
+        with begin(command, said) as process:
+            process.wait()
+        said.seek(0)
+        return command, process, said, time.monotonic() - began
+
+    with futures.ThreadPoolExecutor(max(2, len(os.sched_getaffinity(0)))) as pool:
+        for done in futures.as_completed([pool.submit(run, command) for command in commands_of_tests(folder)]):
+            command, process, said, seconds = done.result()
+            print(f"== {command[2]}, {seconds:.0f} s")
+            with said:
+                count.add(command, process, said)
 
 
 def run_all(count, words):
@@ -130,8 +160,8 @@ def run_all(count, words):
         count.run_beside(lambda: run_programs(count), test_command("gate.wrong_bodies", "--after-gate"))
 
 
-def main(words):
-    count, started = Count(), time.monotonic()
+def run_gate(count, words):
+    """Runs all tests, and shows the times of the crates if nothing failed or was taken from an earlier run."""
     with gate_times.Stopwatch() as stopwatch:
         run_all(count, words)
     if count.is_whole and not count.failed:
@@ -139,12 +169,21 @@ def main(words):
         gate_times.main([])
     else:
         print("no times of crates, since something failed or was proved by an earlier run")
+
+
+def main(words):
+    count, started = Count(), time.monotonic()
+    if words[:1] == ["--tried"]:
+        run_tried(count, os.path.abspath(words[1]))
+        print("Nothing was proved: only 'make check' does that.")
+    else:
+        run_gate(count, words)
     clock, processor = (time.monotonic() - started) / 60, children_time() / 60
     print(f"{clock:.0f} minutes, {processor:.0f} of processor with the tests of programs")
     if count.failed:
         print("What failed:", *count.failures[-FAILURES_SHOWN:], sep="\n")
     if count.skipped:
-        print("What was skipped:", *count.skipped, sep="\n")
+        print(f"{len(count.skipped)} skipped:", *count.skipped, sep="\n")
     print(f"{count.passed} passed, {count.failed} failed")
     return 1 if count.failed else 0
 

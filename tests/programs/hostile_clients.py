@@ -20,7 +20,7 @@ import sys
 import tempfile
 import time
 
-from tests.support.harness import build_library, cannot_read, ensure, expect, processor_time, run_tests
+from tests.support.harness import build_library, cannot_read, ensure, expect, needs_proved_build, patience, processor_time, run_tests
 from tests.support.room import NOT_CONNECTED, ONLINE, SOON, STATUS, VERSION, Client, Lines, Room, accepted, said, stopped, until
 
 # the default of MAXCONN
@@ -65,7 +65,7 @@ def is_quiet(pid):
     """Whether a process does nothing for a while."""
     used = processor_time(pid)
     time.sleep(0.5)
-    return processor_time(pid) - used < 0.1
+    return processor_time(pid) - used < patience(0.1)
 
 
 class Hostile:
@@ -126,6 +126,7 @@ class Tests:
     # From here on, each method whose name begins with 'test_' is a test.
 
     def test_as_many_as_there_may_be_never_read(self):
+        needs_proved_build("how fast hundreds of clients are answered")
         with self.room() as room:
             room.dummy(LONG)
             upsd = room.upsd()
@@ -143,6 +144,7 @@ class Tests:
             until(room.serves, "a new client is served")
 
     def test_what_is_kept_for_greedy_clients(self):
+        needs_proved_build("how much memory is taken")
         with self.room() as room:
             room.dummy(LONGEST)
             upsd = room.upsd()
@@ -392,6 +394,7 @@ class Tests:
             room.until(STATUS, ONLINE)
 
     def test_connections_in_turn(self):
+        needs_proved_build("how much memory is taken")
         with self.room() as room:
             upsd = room.upsd()
             address = (room.host, room.port)

@@ -161,8 +161,10 @@ def wanted_files():
     """Returns the files that are installed, with their modes."""
     files = {"lib/sysusers.d/mulgefa.conf": 0o644, "share/bash-completion/completions/nutroom": 0o644}
     files.update({script: 0o755 for script in ("sbin/mulgefa-check", "bin/nutroom", "lib/mulgefa/until-ready")})
-    files.update({f"share/mulgefa/{page}": 0o644 for page in ("from-nut.md", "room.md", "room.svg")})
+    files.update({f"share/mulgefa/{page}": 0o644 for page in ("from-nut.md", "room.md", "room.svg", "third-party-notices")})
     files.update({f"share/mulgefa/rooms/five/{file}": 0o644 for file in ROOM_FILES})
+    modules = os.listdir(os.path.join(ROOT, "tools", "nutroom_modules"))
+    files.update({f"share/mulgefa/nutroom_modules/{file}": 0o644 for file in modules if file.endswith(".py")})
     for program in programs():
         files[f"{folder_of(program)}/{program}"] = 0o755
         files[f"share/man/man8/{program}.8"] = 0o644
@@ -208,8 +210,11 @@ def state_of_file(path):
 
 
 def put_programs(built, folder):
-    """Puts the programs that were built into a folder, and scripts in place of the others. Returns the names of the former."""
+    """Puts the programs that were built into a folder, scripts in place of the others, and what stands for the notices of the
+    libraries. Returns the names of the built programs."""
     os.mkdir(folder)
+    with open(os.path.join(folder, "third-party-notices"), "w") as file:
+        file.write("notices\n")
     built = {os.path.basename(path).replace("_", "-"): path for path in built}
     for program in programs():
         path = os.path.join(folder, program)

@@ -17,7 +17,7 @@ import sys
 import tempfile
 import time
 
-from tests.support.harness import ROOT, VERSION_SHOWN, Failed, cannot_read, ensure, expect, refusals, refusing, run_tests
+from tests.support.harness import ROOT, VERSION_SHOWN, Failed, cannot_read, ensure, expect, fewer, needs_proved_build, patience, refusals, refusing, run_tests
 from tests.support.model import Config, User, quoted
 from tests.support.player import conf_steps
 from tests.rehearsals.server import greatest_memory
@@ -30,8 +30,8 @@ EXAMPLES = os.path.join(ROOT, "examples")
 SCHEDULES = os.path.join(EXAMPLES, "schedules")
 
 # how many random schedules are played by calls and by `nutsim`, how many of them use one room, and how many rooms one run
-RANDOM_SCHEDULES = 10_000
-RANDOM_FILES = 400
+RANDOM_SCHEDULES = fewer(10_000)
+RANDOM_FILES = fewer(400)
 SCHEDULES_A_ROOM = 20
 ROOMS_A_RUN = 25
 LONG_STEPS = 300_000
@@ -253,7 +253,7 @@ class Tests:
         """Returns the status, what is printed, and what is written about a failure. The schedule may be `/dev/stdin`, which
         has `data`."""
         words = [self.program, room.folder, path, *room.monitors]
-        done = subprocess.run(words, input=data, env={**os.environ, **(env or {})}, capture_output=True, timeout=60)
+        done = subprocess.run(words, input=data, env={**os.environ, **(env or {})}, capture_output=True, timeout=patience(60))
         return done.returncode, done.stdout, done.stderr
 
     def plays(self, room, steps, due, what):
@@ -479,6 +479,7 @@ class Tests:
             ensure(at > 1, "no write was seen")
 
     def test_a_long_schedule_takes_no_more_memory(self):
+        needs_proved_build("how much memory is taken")
         room = self.room("long", ALONE, [PRIMARY])
         turn = b"".join(map(line_of, [("link", 0, 0), *rounds(0, 5), says(b"OL"), ("cut-server", 0, 0), ("cut-monitor", 0, 0)]))
         turns = LONG_STEPS // turn.count(b"\n")

@@ -194,6 +194,8 @@ class Tests:
             os.mkdir(path)
         for program in install.programs():
             shutil.copy(needed("true", "coreutils"), os.path.join(folder, program))
+        with open(os.path.join(folder, "third-party-notices"), "w"):
+            pass
         with open(os.path.join(stand_in, "dpkg-shlibdeps"), "w") as file:
             file.write("#!/bin/sh\necho cannot find a library >&2\nexit 2\n")
         os.chmod(file.name, 0o755)

@@ -16,7 +16,7 @@ import threading
 import time
 from concurrent import futures
 
-from tests.support.harness import apart, ensure, expect, Failed, Missing, needed, processor_time, refusal, run_tests, Shimmed
+from tests.support.harness import apart, ensure, expect, Failed, Missing, needed, patience, processor_time, refusal, run_tests, Shimmed
 from tests.support.room import Client, DEVICE, Lines, NOT_CONNECTED, ONLINE, Room, SOON, STATUS, USERS, VERSION
 from tests.support.room import accepted, first_lines, stopped, until
 
@@ -487,7 +487,7 @@ class Tests(Shimmed):
             lines.next(NOTHING)
             used = processor_time(upsd.pid)
             time.sleep(LOOKS)
-            ensure(processor_time(upsd.pid) - used < 0.1, "processor time is used for a file that can't be removed")
+            ensure(processor_time(upsd.pid) - used < patience(0.1), "processor time is used for a file that can't be removed")
             expect(lines.count("upsd: reloaded"), 1, "reloads by one file")
             room.write("ups.conf", b"[new]\n")
             os.utime(room.path("reload"))

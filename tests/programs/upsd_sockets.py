@@ -16,7 +16,7 @@ import tempfile
 import threading
 import time
 
-from tests.support.harness import Failed, Missing, apart, cannot_read, expect, processor_time, run_tests
+from tests.support.harness import Failed, Missing, apart, cannot_read, expect, patience, processor_time, run_tests
 from tests.support.room import Client, DEVICE, Lines, NOT_CONNECTED, ONLINE, Room, SOON, STATUS, VERSION
 from tests.support.room import accepted, connected, family_of, first_lines, free_port, give_address, has_ipv6, heed_modes, raise_loopback
 from tests.support.room import said, until
@@ -135,11 +135,11 @@ class Tests:
                 for _ in range(200):
                     expect(client.ask(STATUS), ONLINE, "beside a client that never reads")
                 took = time.monotonic() - begun
-                if took > SOON:
+                if took > patience(SOON):
                     raise Failed(f"200 requests took {took:.2f} s beside a client that never reads")
                 time.sleep(1)
                 used = processor_time(upsd.pid) - used
-                if used > 0.5:
+                if used > patience(0.5):
                     raise Failed(f"{used:.2f} s of processor time were used beside a client that never reads")
                 # once the client reads, it is answered
                 stuck.socket.settimeout(SOON)
@@ -261,7 +261,7 @@ class Tests:
                 used = processor_time(upsd.pid)
                 expect(room.ask(b"VER\n"), VERSION, "beside a driver that never reads")
                 time.sleep(1)
-                if processor_time(upsd.pid) - used > 0.5:
+                if processor_time(upsd.pid) - used > patience(0.5):
                     raise Failed("processor time is used beside a driver that never reads")
 
     def test_several_drivers(self):
@@ -590,7 +590,7 @@ class Tests:
                 used = processor_time(upsd.pid)
                 time.sleep(3.5)
                 expect(clients[0].ask(b"VER\n"), VERSION, "the first client later")
-                if processor_time(upsd.pid) - used > 0.5:
+                if processor_time(upsd.pid) - used > patience(0.5):
                     raise Failed("processor time is used while descriptors are wanting")
                 for client in clients[:20]:
                     client.close()
@@ -616,7 +616,7 @@ class Tests:
                 expect(client.ask(b"VER\n"), VERSION, "a client")
                 used = processor_time(upsd.pid)
                 time.sleep(2)
-                if processor_time(upsd.pid) - used > 0.1:
+                if processor_time(upsd.pid) - used > patience(0.1):
                     raise Failed("an idle server uses processor time")
 
     def test_notices(self):
@@ -824,7 +824,7 @@ class Tests:
                     pass
                 used = processor_time(driver.pid)
                 time.sleep(1.5)
-                if processor_time(driver.pid) - used > 0.1:
+                if processor_time(driver.pid) - used > patience(0.1):
                     raise Failed("an idle driver uses processor time")
 
     def test_dummy_and_a_server_that_never_reads(self):
@@ -842,7 +842,7 @@ class Tests:
                     raise Failed("requests of a server that never reads are read without end")
                 used = processor_time(driver.pid)
                 time.sleep(1.5)
-                if processor_time(driver.pid) - used > 0.1:
+                if processor_time(driver.pid) - used > patience(0.1):
                     raise Failed("a driver uses processor time while its server doesn't read")
                 server.socket.settimeout(SOON)
                 dumps = 0

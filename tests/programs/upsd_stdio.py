@@ -1,7 +1,7 @@
 #!/usr/bin/env python3
 """Runs upsd over standard streams as its users do, and with each allocation, read and write of a run failing in turn.
 
-    python3 -m tests.programs.upsd_stdio UPSD
+    python3 -m tests.programs.upsd_stdio UPSD [PART OF A NAME..]
 
 The last line is 'N passed, M failed'."""
 
@@ -14,7 +14,7 @@ import subprocess
 import sys
 import tempfile
 
-from tests.support.harness import cannot_read, children_time, expect, Failed, Missing, NUTS_OPTIONS, refusal, refusals, ROOT, run_tests, Shimmed, unread, VERSION_SHOWN
+from tests.support.harness import cannot_read, children_time, expect, Failed, Missing, needs_proved_build, NUTS_OPTIONS, refusal, refusals, ROOT, run_tests, Shimmed, unread, VERSION_SHOWN
 from tests.support.room import VERSION, until
 
 ROOM = ["--stdio", "--ups", "su700=Server room"]
@@ -383,6 +383,7 @@ class Tests(Shimmed):
             expect(found, (0, b"BEGIN LIST UPS\n" + rows + b"END LIST UPS\n", b""), f"{text}")
 
     def test_conf_of_the_greatest_length(self):
+        needs_proved_build("processor times")
         worst = 0.0
         for line in (b"\n", b"actions = SET\n", b"# " + b"x" * 509 + b"\n"):
             text = b"[a]\n" + line * (1_048_572 // len(line))
@@ -460,7 +461,7 @@ class Tests(Shimmed):
 
 def main():
     with tempfile.TemporaryDirectory() as folder:
-        return run_tests(Tests(os.path.abspath(sys.argv[1]), folder))
+        return run_tests(Tests(os.path.abspath(sys.argv[1]), folder), sys.argv[2:])
 
 
 if __name__ == "__main__":

@@ -13,7 +13,7 @@ import sys
 import tempfile
 
 from tests.support.dummy_rows import ROOM, ROOM_SCRIPT, ROOM_UPS, ROOM_USERS, SCENES, SCRIPTS
-from tests.support.harness import Failed, ensure, expect, run_tests
+from tests.support.harness import Failed, ensure, expect, fewer, run_tests
 from tests.support.player import escaped
 from tests.support.stage import Stage
 
@@ -213,11 +213,11 @@ class Tests:
     def test_10000_pieces_without_sense(self):
         """Lines that are no requests change nothing, and nothing is told about them."""
         chance = random.Random(12)
-        pieces = [bytes(chance.choices(range(256), k=chance.randrange(513))) for _ in range(10_000)]
+        pieces = [bytes(chance.choices(range(256), k=chance.randrange(513))) for _ in range(fewer(10_000))]
         head = [("dummy dev", b"ups.status: OL\nups.id: x\n"), ("dummy link",)]
         tail = [("dummy bytes", b"\n"), ("dummy table",), ("dummy bytes", b"PING\n"), ("dummy take",)]
         lines = self.stage.play([*head, *(("dummy bytes", piece) for piece in pieces), *tail])
-        for at, line in enumerate(lines[2:10_002]):
+        for at, line in enumerate(lines[2 : len(pieces) + 2]):
             if line != b"ok waits=0":
                 raise Failed(f"piece {at}: {line!r}")
         wanted = [b"ok waits=0", shown({"ups.id": "x", "ups.status": "OL"}), b"ok waits=5", escaped(b"PONG\n")]

@@ -10,7 +10,7 @@ import random
 import sys
 import tempfile
 
-from tests.support.harness import Failed, ensure, expect, run_tests
+from tests.support.harness import Failed, ensure, expect, fewer, run_tests
 from tests.support.form_rows import FORMS, SHORTER_FORMS
 from tests.support.link_rows import ROWS
 from tests.support.model import LINE_MAX, words_of
@@ -134,7 +134,7 @@ class Tests:
         """A line that is no answer fails the link when it ends; a new link asks again."""
         chance = random.Random(11)
         steps, wanted, kept = asking(b"GET VAR su700 ups.status"), [None] * 3, b""
-        for _ in range(10_000):
+        for _ in range(fewer(10_000)):
             piece = bytes(chance.choices(range(256), k=chance.randrange(513)))
             steps.append(("link bytes", piece))
             line, feed, _ = (kept + piece).partition(b"\n")

@@ -13,7 +13,7 @@ import re
 import sys
 import tempfile
 
-from tests.support.harness import Failed, ensure, expect, run_tests
+from tests.support.harness import Failed, ensure, expect, fewer, run_tests
 from tests.support.monitor_rows import MEMORY_RUNS, PRIMARY, RUNS, SCENES, Starved, check_run, steps_of
 from tests.support.player import places
 from tests.support.stage import Stage
@@ -164,7 +164,7 @@ class Tests:
         chance = random.Random(13)
         steps, wanted = [("monitor new", PRIMARY), ("monitor linked", 0)], [b"ok", b"ok Watching true:13"]
         is_told = False
-        for _ in range(10_000):
+        for _ in range(fewer(10_000)):
             piece = bytes(chance.choices(range(256), k=chance.randrange(513)))
             steps.append(("monitor bytes", 0, piece))
             if b"\n" not in piece:

@@ -10,7 +10,7 @@ import random
 import sys
 import tempfile
 
-from tests.support.harness import ensure, expect, run_tests
+from tests.support.harness import ensure, expect, fewer, run_tests
 from tests.support.model import LINE_MAX, words_of
 from tests.support.player import escaped
 from tests.support.stage import Stage
@@ -134,7 +134,7 @@ class Tests:
 
     def test_10000_pieces_without_sense(self):
         chance = random.Random(14)
-        pieces = [bytes(chance.choices(range(256), k=chance.randrange(513))) for _ in range(10_000)]
+        pieces = [bytes(chance.choices(range(256), k=chance.randrange(513))) for _ in range(fewer(10_000))]
         *lines, rest = b"".join(pieces).split(b"\n")
         wanted = shown_lines([line if len(line) <= LINE_MAX else None for line in lines])
         expect(self.fed(pieces), (wanted, b"%d" % (len(rest) if len(rest) <= LINE_MAX else 0)), "a stream without sense")

@@ -1,5 +1,6 @@
 """What the tests of built programs share: how a check fails, how calls of a program are made to fail, how tests are run and
-counted, and how much processor time programs take, which the benches use, too."""
+counted, how a test is skipped on programs that nothing has proved, and how much processor time programs take, which the
+benches use, too."""
 
 import array
 import collections
@@ -11,6 +12,7 @@ import os
 import resource
 import shutil
 import subprocess
+import sys
 import termios
 import threading
 import traceback
@@ -55,6 +57,34 @@ class Failed(Exception):
 
 class Missing(Exception):
     """Something that a test needs isn't installed here."""
+
+
+@functools.lru_cache(maxsize=None)
+def built_without_proof():
+    """Whether tools/tried has built the programs that this test was given. They hold AddressSanitizer, which has an allocator of
+    its own and takes most of the address space, and are some ten times slower than proved ones."""
+    return any(map(holds_sanitizer, filter(os.path.isfile, sys.argv[1:])))
+
+
+def holds_sanitizer(program):
+    with open(program, "rb") as file:
+        return b"AddressSanitizer" in file.read()
+
+
+def patience(seconds):
+    """Returns how many seconds a run may take that takes at most this many on a proved build."""
+    return 10 * seconds if built_without_proof() else seconds
+
+
+def fewer(count):
+    """Returns how many random runs are played, of so many on a proved build."""
+    return count // 10 if built_without_proof() else count
+
+
+def needs_proved_build(what):
+    """Skips a test of something that can't be seen on a program that was built without proof."""
+    if built_without_proof():
+        raise Missing(f"a build without proof doesn't show {what}")
 
 
 def apart(*words):
@@ -126,6 +156,7 @@ class Shimmed:
 
     def refusing_memory(self, file):
         """Returns the environment of a program for which no allocation succeeds while this file is there."""
+        needs_proved_build("refused allocations")
         return {**os.environ, "LD_PRELOAD": self.shim, "REFUSE": "memory", "REFUSE_ONCE": file}
 
 
@@ -168,6 +199,8 @@ def was_reached(count, at):
 
 def refusal(shim, kind, at):
     """Returns the environment of a run in which a call fails, given by its kind and its number from 1 on."""
+    if kind == "allocation":
+        needs_proved_build("refused allocations")
     return {"LD_PRELOAD": shim, "REFUSE": kind, "REFUSE_AT": str(at)}
 
 

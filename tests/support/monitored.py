@@ -10,7 +10,7 @@ import tempfile
 import threading
 import time
 
-from tests.support.harness import Failed, expect, processor_time, run_tests
+from tests.support.harness import Failed, expect, patience, processor_time, run_tests
 from tests.support.room import SOON, family_of, stopped, until
 
 FLAG = b"upsmon-shutdown-file\n"
@@ -120,7 +120,7 @@ class Watch:
     def is_idle(self, seconds=1.5, most=0.3):
         used = processor_time(self.process.pid)
         time.sleep(seconds)
-        return processor_time(self.process.pid) - used <= most
+        return processor_time(self.process.pid) - used <= patience(most)
 
 
 class Upstream:

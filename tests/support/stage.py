@@ -4,7 +4,7 @@ import os
 import subprocess
 import tempfile
 
-from tests.support.harness import Shimmed, ensure, expect, refusals
+from tests.support.harness import Shimmed, ensure, expect, patience, refusals
 from tests.support.player import line_of
 
 # how a run ends in which memory was refused while no engine reports it
@@ -27,7 +27,7 @@ class Stage(Shimmed):
         with tempfile.TemporaryFile(dir=self.folder) as file:
             file.write(script)
             file.seek(0)
-            done = subprocess.run([self.program], stdin=file, env=env, capture_output=True, timeout=60)
+            done = subprocess.run([self.program], stdin=file, env=env, capture_output=True, timeout=patience(60))
         return done.returncode, done.stdout, done.stderr
 
     def play(self, steps):

@@ -5,6 +5,8 @@ import os
 import pty
 import subprocess
 
+from tests.support.harness import patience
+
 
 def run_on_terminal(words, is_for_both=False, env=None):
     """Runs a program whose error output is a terminal, and also its output if that is for both. Returns the status, what the
@@ -13,7 +15,7 @@ def run_on_terminal(words, is_for_both=False, env=None):
     with open(main, "rb", 0) as terminal:
         try:
             out = other if is_for_both else subprocess.PIPE
-            done = subprocess.run(words, stdin=subprocess.DEVNULL, stdout=out, stderr=other, env={**os.environ, **(env or {})}, timeout=60)
+            done = subprocess.run(words, stdin=subprocess.DEVNULL, stdout=out, stderr=other, env={**os.environ, **(env or {})}, timeout=patience(60))
         finally:
             os.close(other)
         told = b""
