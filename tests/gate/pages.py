@@ -150,6 +150,11 @@ class Named:
         starts = ("", "crates", "docs", "packaging", "tests/*", "crates/*/src", "crates/*/specs", "crates/*/proofs/*")
         return any(glob.glob(os.path.join(ROOT, start, any_path + end)) for start in starts for end in ("", ".antt")) or self.is_said(path)
 
+    @staticmethod
+    def has_function(crate, name):
+        files = files_of(os.path.join(ROOT, "crates", crate, "src"), ".rt")
+        return any(re.search(rf"^[ ]*pub (?:const )?fn {name}\b", read(path), re.M) for path in files)
+
     def missing(self, span):
         """Returns what a text between backquotes names that isn't there."""
         if target := re.match(r"make ([a-z][\w-]*)", span):
@@ -160,7 +165,7 @@ class Named:
             if place[1] in self.library.order:
                 return [] if (place[1], place[2].replace("/", ".")) in self.library.modules else [span]
         if (item := re.fullmatch(r"(\w+)::(\w+)", span)) and item[1] in self.library.order:
-            return [] if self.library.code_home(item[1], item[2], None) else [span]
+            return [] if self.library.code_home(item[1], item[2], None) or self.has_function(*item.groups()) else [span]
         if self.PATH.fullmatch(span):
             return [] if self.has_path(span) else [span]
         names = [word for word in self.WORD.findall(span) if self.IS_NAME.fullmatch(word)]
