@@ -173,7 +173,7 @@ def run_gate(count, words):
 
 def main(words):
     count, started = Count(), time.monotonic()
-    if words[:1] == ["--tried"]:
+    if words[:1] == ["--tried"] and len(words) == 2:
         run_tried(count, os.path.abspath(words[1]))
         print("Nothing was proved: only 'make check' does that.")
     else:

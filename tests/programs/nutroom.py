@@ -24,7 +24,7 @@ import time
 import xml.etree.ElementTree
 
 from tests.programs.nutsim import server_files
-from tests.support.harness import ROOT, VERSION_SHOWN, Failed, ensure, expect, fewer, run_tests
+from tests.support.harness import ROOT, VERSION_SHOWN, Failed, ensure, expect, fewer, needs_proved_build, patience, run_tests
 from tests.support.model import Config, User, words_of
 from tests.support.room_model import Room, Rules, Watched, shown
 from tests.support.terminal import run_on_terminal
@@ -120,7 +120,7 @@ class Tests:
     def run(self, *words, nutsim=None, cwd=None, **options):
         """Returns the status, what is printed, and what is written about a failure."""
         words = [sys.executable, PROGRAM, "--nutsim", nutsim or self.nutsim, *words]
-        done = subprocess.run(words, stdin=subprocess.DEVNULL, capture_output=True, timeout=300, cwd=cwd, **options)
+        done = subprocess.run(words, stdin=subprocess.DEVNULL, capture_output=True, timeout=patience(300), cwd=cwd, **options)
         return done.returncode, done.stdout.decode(), done.stderr.decode()
 
     def printed(self, *words, **options):
@@ -448,6 +448,7 @@ class Tests:
             for found in pool.map(functools.partial(play_rooms, self.nutsim, self.folder), calls):
                 counts.update(found)
         print(f"   {self.rooms} rooms in {time.monotonic() - begun:.1f} s: " + ", ".join(f"{counts[it]} {it}" for it in sorted(counts)))
+        needs_proved_build("enough rooms for each bound to be reached")
         for law in ("primary", "secondary", "forced"):
             ensure(counts[f"halts within the {law} bound"] > 0, f"no {law} bound was there")
             ensure(counts[f"halts at the {law} bound"] > 0, f"no run reaches the {law} bound")

@@ -221,7 +221,7 @@ class Tests:
             if line != b"ok waits=0":
                 raise Failed(f"piece {at}: {line!r}")
         wanted = [b"ok waits=0", shown({"ups.id": "x", "ups.status": "OL"}), b"ok waits=5", escaped(b"PONG\n")]
-        expect(lines[10_002:], wanted, "behind all pieces")
+        expect(lines[len(pieces) + 2 :], wanted, "behind all pieces")
 
 
 def main():
