@@ -310,6 +310,24 @@ class Tests:
                 late += second.halted is None or second.halted > first.final
             ensure((late == 0) == is_enough, f"HOSTSYNC {sync}: the primary goes on first in {late} of 100 runs")
 
+    def test_host_sync_counts_until_fsd_is_accepted(self):
+        """An answer of 3 seconds if the primary is patient; a second less than two if it isn't, has read nothing before or was
+        cut off; and two if it has several lines."""
+        patient = {name: FILES[name] for name in ("m1.conf", "m2.conf", "both.conf")}
+        hasty = {**patient, "m1.conf": Rules([Watched(b"su700", "primary")], dead_time=7)}
+        low, early = "at 20 su700 OB LB\n", "at 8 su700 OB LB\n"
+        cut = "at 1 m1 cut\nat 2 m1 back\n"
+        for conf, files, changes, due in (
+            ("m1.conf", patient, low, 16),
+            ("m1.conf", hasty, low, 18),
+            ("m1.conf", patient, early, 18),
+            ("m1.conf", patient, cut + low, 18),
+            ("both.conf", patient, low.replace("OB LB", "OB LB\nat 20 su800 OB LB"), 19),
+        ):
+            path = self.room(f"machine m1 {conf} delay 0 3\nmachine m2 m2.conf delay 0 3\n{changes}", files=files)
+            room = read_room(path, Nutsim(self.nutsim))
+            expect(needed_host_sync(room, *room.machines), due, (conf, changes))
+
     def test_the_same_seed_gives_the_same_runs(self):
         path = self.room(PAIR + LOW)
         first, second, third = (self.printed("-n", "6", "-s", seed, path) for seed in ("5", "5", "6"))
