@@ -290,6 +290,7 @@ class Tests(Shimmed):
         with Slow() as server, self.watch(f"MONITOR {server.target} 1 mon m1 primary\nPOLLFREQ 1\n", "-q") as watch:
             for count in (1, 2):
                 until(lambda: len(server.slow) >= 2 * count, "two slow answers", 40)
+                until(lambda: len(warnings_of(watch)) >= count, "that is told", 40)
                 expect(warnings_of(watch), [LATE % server.target] * count, "what is told")
                 expect(watch.lines().count(LOST % server.target), count - 1, "the link stays until the server drops it")
                 server.drop()
