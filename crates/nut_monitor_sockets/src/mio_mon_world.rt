@@ -1,7 +1,8 @@
 //! The world of a monitor over sockets.
 
-ghost use Rattle.std.specs.Prelude.{◌≡◌, ◌<◌, ℕ, length, IsOk, IfOk, OnOk};
+ghost use Rattle.std.specs.Prelude.{◌≡◌, ◌<◌, ℕ, length, IsOk, IfOk, OnOk, OnErr};
 ghost use Rattle.nut_io.specs.Writes.{IsWithin, late_after};
+ghost use Rattle.nut_monitor_loop.specs.Record.{WasClosed, WasTold, tells, tells_write};
 ghost use Rattle.nut_poll.specs.Late.{is_noted};
 ghost use Rattle.nut_monitor_sockets.specs.Untold.{untold_watch};
 
@@ -172,6 +173,8 @@ impl<'r, 'e, R: Net + Clock + Processes, H: Herald> MonWorld for MioMonWorld<'r,
         requires { 0 < length bytes.now }
         ensures no_fault { IsOk result }
         ensures count { self.new.faults ≡ self.old.faults }
+        ensures ok { IfOk result (λ w. untold_watch ≡ tells_write w i bytes.now untold_watch) }
+        ensures err { OnErr result (untold_watch ≡ untold_watch) }
         ensures within { IfOk result (λ w. IsWithin w (length bytes.now)) }
         ensures late { IfOk result (λ w. (j : ℕ)
             → is_noted self.new.late.items j ≡ late_after w i (is_noted self.old.late.items) j) }
@@ -184,6 +187,8 @@ impl<'r, 'e, R: Net + Clock + Processes, H: Herald> MonWorld for MioMonWorld<'r,
     fn close(&mut self, monitor: &Monitor, i: usize) -> Result<(), Fault>
         ensures no_fault { IsOk result }
         ensures count { self.new.faults ≡ self.old.faults }
+        ensures ok { OnOk result (untold_watch ≡ tells (WasClosed i) untold_watch) }
+        ensures err { OnErr result (untold_watch ≡ untold_watch) }
         ensures late { (j : ℕ) → is_noted self.new.late.items j ≡ is_noted self.old.late.items j }
     {
         self.links.close(monitor, i, &mut self.services.reports);
@@ -193,6 +198,8 @@ impl<'r, 'e, R: Net + Clock + Processes, H: Herald> MonWorld for MioMonWorld<'r,
     fn notice(&mut self, monitor: &Monitor, notice: Notice) -> Result<(), Fault>
         ensures no_fault { IsOk result }
         ensures count { self.new.faults ≡ self.old.faults }
+        ensures ok { OnOk result (untold_watch ≡ tells (WasTold notice) untold_watch) }
+        ensures err { OnErr result (untold_watch ≡ untold_watch) }
         ensures late { (j : ℕ) → is_noted self.new.late.items j ≡ is_noted self.old.late.items j }
     {
         self.held_losses.tell(&mut self.herald, monitor, notice);

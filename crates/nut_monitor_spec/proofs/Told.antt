@@ -76,12 +76,12 @@ of-first configuration past j (text ∷ texts) = of-asked (line_in configuration
 elsewhere : (configuration : Configuration) (events : List Event) (i j : ℕ) (test : Option Watch → Option MonitorFault) → test None ≡ Some NoSuchLink →
     test (watch_at j (content configuration events).watches) ≡ None → length configuration.lines ≤ i → eqb j i ≡ false
 elsewhere configuration events i j test refuses accepted past_end = elim (cases_Bool (eqb j i)) [
-      | inl e ↦
-          let none : watch_at j (content configuration events).watches ≡ None =
-          ap (λ n. watch_at n (content configuration events).watches) (eqb-true j i e) ∙ none-there configuration events i past_end in
-          absurd (let bad : Some NoSuchLink ≡ None = sym refuses ∙ sym (ap test none) ∙ accepted in cc)
-      | inr e ↦ e
-    ]
+  | inl e ↦
+      let none : watch_at j (content configuration events).watches ≡ None =
+      ap (λ n. watch_at n (content configuration events).watches) (eqb-true j i e) ∙ none-there configuration events i past_end in
+      absurd (let bad : Some NoSuchLink ≡ None = sym refuses ∙ sym (ap test none) ∙ accepted in cc)
+  | inr e ↦ e
+]
 
 answered-after : (configuration : Configuration) (past : List Entry) (event : Event) (i : ℕ) →
     answered_in i (answer_of configuration past event) (since_linked [] i event (answers i past)) ≡ [] → answers i (entry_of configuration past event ∷ past) ≡ []
