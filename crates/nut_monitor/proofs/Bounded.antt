@@ -92,7 +92,7 @@ at_bounded (x ∷ ws) (suc i) w lt is h = at_bounded ws i w (omega arith) is h.1
 
 silent_bounded : (c : Configuration) (k : ℕ) (w : Watch) → IsLinkBounded w.link → IsLinkBounded (silent c k w).link
 silent_bounded c k w h = by_test (is_silent c k w) where
-  by_test : (b : Bool) → IsLinkBounded (if b then record { link = w.link; last = w.last; known = record w.known { silence_told = Some k } } else w).link
+  by_test : (b : Bool) → IsLinkBounded (if b then record w { known = record w.known { silence_told = Some k } } else w).link
   by_test true = h
   by_test false = h
 

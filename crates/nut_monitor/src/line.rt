@@ -1,5 +1,6 @@
 //! A MONITOR line: its link, and what is known of its UPS.
 ghost use Rattle.std.specs.Prelude.{◌≡◌, ◌+◌, ◌<◌, ◌≤◌, ◌++◌, [], None, Some, if◌then◌else◌, is_some, length};
+ghost use Rattle.std.specs.Option.{option_map};
 ghost use Rattle.nut_link.specs.Link.{LinkValue, is_idle, with_exchange};
 ghost use Rattle.nut_link.specs.Asking.{query_of};
 ghost use Rattle.nut_link.specs.declared.exchange.Stage.TheVariants as stages;
@@ -8,7 +9,7 @@ ghost use Rattle.nut_conf.specs.declared.notice.Notice.TheVariants as kinds;
 ghost use Rattle.nut_monitor_spec.specs.Acceptance.{waits_on};
 ghost use Rattle.nut_monitor_spec.specs.Configuration.{configuration_of, line_of};
 ghost use Rattle.nut_monitor_spec.specs.Decision.{tells_silence, told as told_of, when};
-ghost use Rattle.nut_monitor_spec.specs.machine.Machine.{answer_told, asked_next, is_silent, known_after, loss_told, lost, made, silent, took as taken_by};
+ghost use Rattle.nut_monitor_spec.specs.machine.Machine.{answer_after, answer_told, asked_next, is_silent, known_after, loss_told, lost, made, silent, took as taken_by};
 ghost use Rattle.nut_monitor.specs.inside.Hearing.{HearsPiece, IsFed};
 ghost use Rattle.nut_monitor.specs.inside.Inside.{to_lose, unwatched};
 ghost use Rattle.nut_monitor.specs.inside.Sound.{IsCountAfter, IsSound};
@@ -19,15 +20,17 @@ use crate::query::{next_query, request};
 use crate::time::{is_over, is_past};
 use nut_conf::{Monitored, Notice as Kind, UpsmonConf};
 use nut_link::{Link, LinkFault, Outcome};
-use nut_monitor_spec::{Communication, Known, LastQuery, NOTICES_MAX, Phase, Query};
+use nut_monitor_spec::{Communication, Known, LastAnswer, LastQuery, NOTICES_MAX, Phase, Query};
 use std::alloc::Global;
 use std::marker::Model;
 
-/// A MONITOR line: its link if that is up, the last query on it, and what is known of its UPS.
+/// A MONITOR line: its link if that is up, the last query and the last answer since it was made, and what is known of its
+/// UPS.
 #[derive(Drop)]
 pub struct MonitorLine {
     link: Option<Link>,
     last: Option<LastQuery>,
+    answer: Option<LastAnswer>,
     known: Known,
 }
 
@@ -37,7 +40,7 @@ impl Model for MonitorLine {
 
     ghost Value = { Watch };
 
-    ghost view = { λ w. record { link = w.link; last = w.last; known = w.known } };
+    ghost view = { λ w. record { link = w.link; last = w.last; answer = w.answer; known = w.known } };
 
     ghost invariant = { λ w. IsSound w.last w.link };
 }
@@ -100,6 +103,16 @@ fn hear_answer(
     }
 }
 
+/// Keeps the answer to the last query, if both are there, in the place of the one before.
+fn keep_answer(last: Option<LastQuery>, outcome: Option<Outcome>, kept: &mut Option<LastAnswer>)
+    ensures { kept.new ≡ answer_after last outcome kept.old }
+{
+    match (last, outcome) {
+        (Some(asked), Some(outcome)) => *kept = Some(LastAnswer { asked, outcome }),
+        (_, outcome) => drop(outcome),
+    }
+}
+
 /// Queues NOCOMM if more than NOCOMMWARNTIME seconds have passed since the last status of the UPS (since the start, if
 /// there was none) and since its last NOCOMM, if there was one. Returns whether it did.
 fn tell_silence(
@@ -129,6 +142,7 @@ impl MonitorLine {
         MonitorLine {
             link: None,
             last: None,
+            answer: None,
             known: Known {
                 flags: None,
                 polled: 0,
@@ -173,12 +187,20 @@ impl MonitorLine {
         self.last
     }
 
+    /// Returns the last answer since its link was made.
+    pub fn last_answer(&self) -> Option<&LastAnswer>
+        ensures { option_map (λ a. a.now) result ≡ self.now.answer }
+    {
+        self.answer.as_ref()
+    }
+
     /// Makes its link.
     pub fn link(&mut self, alloc: Global)
         ensures { self.new ≡ made self.old }
     {
         self.last = None;
-        // dropped by a call, which keeps the proof of this function short
+        // dropped by calls, which keep the proof of this function short
+        drop(self.answer.take());
         drop(self.link.replace(Link::new(alloc)));
     }
 
@@ -219,8 +241,7 @@ impl MonitorLine {
     {
         let (done, heard, outcome) = feed(&mut self.link, self.last, piece);
         self.known = hear_answer(config, scene, self.known, self.last, &outcome, notices);
-        // dropped by a call, which keeps the proof of this function short
-        drop(outcome);
+        keep_answer(self.last, outcome, &mut self.answer);
         if heard.is_err() {
             tell_disturbed(scene, self.known, notices);
             self.known = disturbed(self.known);

@@ -1,7 +1,7 @@
 //! What a monitor knows and has decided, and how events change it.
 ghost use Rattle.std.specs.Prelude.{◌≡◌, ◌≤◌, ◌<◌, ◌+◌, ◌++◌, [], Some, IfOk, OnOk, MatchResult, is_none, length, map};
 ghost use Rattle.std.specs.Option.{option_map};
-ghost use Rattle.nut_monitor_spec.specs.Acceptance.{is_linked, waiting_on, watch_at};
+ghost use Rattle.nut_monitor_spec.specs.Acceptance.{answer_on, is_linked, waiting_on, watch_at};
 ghost use Rattle.nut_monitor_spec.specs.Configuration.{Configuration, configuration_of};
 ghost use Rattle.nut_monitor_spec.specs.Content.{content, phase_of};
 ghost use Rattle.nut_monitor_spec.specs.Event as E;
@@ -18,7 +18,7 @@ use crate::notices::Notices;
 use crate::shutdown::{is_alone, is_forced, is_short, phase};
 use nut_conf::{Monitored, Notice as Kind, UpsmonConf};
 use nut_link::LinkFault;
-use nut_monitor_spec::{Known, LastQuery, MonitorFault, NOTICES_MAX, Notice, Phase};
+use nut_monitor_spec::{Known, LastAnswer, LastQuery, MonitorFault, NOTICES_MAX, Notice, Phase};
 use nut_words::PIECE_MAX;
 use std::alloc::{AllocError, Global};
 
@@ -223,6 +223,16 @@ impl State {
     {
         match self.watch(i) {
             Some(watch) => watch.last_query(),
+            None => None,
+        }
+    }
+
+    /// Returns the last answer since the link of a line was made.
+    pub fn last_answer(&self, i: usize) -> Option<&LastAnswer>
+        ensures { option_map (λ a. a.now) result ≡ answer_on (watch_at i self.now.watches.items) }
+    {
+        match self.watch(i) {
+            Some(watch) => watch.last_answer(),
             None => None,
         }
     }

@@ -11,6 +11,7 @@ use Rattle.nut_link.specs.declared.outcome.Outcome.{Outcome}
 use Rattle.nut_monitor_spec.specs.declared.Communication.{Communication}
 use Rattle.nut_monitor_spec.specs.declared.Communication.TheVariants.{Never, Bad}
 use Rattle.nut_monitor_spec.specs.declared.Known.{Known}
+use Rattle.nut_monitor_spec.specs.declared.LastAnswer.{LastAnswer}
 use Rattle.nut_monitor_spec.specs.declared.LastQuery.{LastQuery}
 use Rattle.nut_monitor_spec.specs.declared.Notice.{Notice}
 use Rattle.nut_monitor_spec.specs.declared.Phase.{Phase}
@@ -154,6 +155,15 @@ last_in (asked ∷ older) = Some (record { query = asked.query; moment = asked.m
 
 abbrev pub last_query : ℕ → List Entry → Option LastQuery
 last_query i past = last_in (queries i past)
+
+-- the last answer on link i since it was made
+abbrev pub last_of : List Answer → Option LastAnswer
+last_of [] = None
+last_of (answer ∷ older) =
+    Some (record { asked = record { query = answer.asked.query; moment = answer.asked.moment }; outcome = answer.outcome })
+
+abbrev pub last_answer : ℕ → List Entry → Option LastAnswer
+last_answer i past = last_of (answers i past)
 
 -- the bytes of these queries of a line, joined, the oldest first
 abbrev pub joined_queries : Line → List Asked → List ℕ

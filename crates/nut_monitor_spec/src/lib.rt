@@ -11,6 +11,7 @@ mod limits;
 
 pub use limits::{NOTICES_MAX, notice_limits};
 use nut_conf::Notice as NoticeKind;
+use nut_link::Outcome;
 use thiserror::Error;
 
 /// The flags in a UPS's `ups.status` that a monitor acts on.
@@ -67,6 +68,15 @@ pub struct LastQuery {
     pub query: Query,
     /// When it was put.
     pub moment: u64,
+}
+
+/// The last answer on a link.
+#[derive(Debug, Drop)]
+pub struct LastAnswer {
+    /// The query that it answers.
+    pub asked: LastQuery,
+    /// What it says.
+    pub outcome: Outcome,
 }
 
 /// What is known of the UPS of a MONITOR line. Moments are in seconds since the start.
@@ -161,7 +171,8 @@ pub fn waiting_is_left()
 {}
 
 /// States a law and does nothing when called: `linked_is_made` and `waiting_is_left` for every number, also for one
-/// that no MONITOR line has, after every history of accepted events.
+/// that no MONITOR line has, after every history of accepted events. And the last answer of each number in the content is
+/// the newest answer since its link was made.
 pub fn links_are_told()
     ensures { LinksAreTold }
 {}
