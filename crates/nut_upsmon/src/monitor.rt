@@ -106,12 +106,10 @@ fn look_for_flag<R: Files>(
     out: LogStream<Stdout>,
     err: &mut ErrorLines,
 ) -> Result<u8, Failure<UpsmonFault>> {
-    let flag = match read_conf::<UpsmonConf>(files, alloc, folder) {
+    let flag = match read_config(files, alloc, folder) {
         Ok(config) => PowerDownFlag::of(alloc, &config)?,
-        Err(fault) => {
-            let is_of_lines = matches!(fault, FileFault::Conf(..));
-            let failure = Failure::from(fault);
-            if !is_of_lines {
+        Err(failure) => {
+            if !is_of_lines(&failure) {
                 return Err(failure);
             }
             tell_failure(failure, out, err);
@@ -119,6 +117,23 @@ fn look_for_flag<R: Files>(
         }
     };
     Ok(u8::from(!is_set(files, flag)))
+}
+
+/// Reads upsmon.conf in this folder.
+fn read_config(
+    files: &impl Files,
+    alloc: Global,
+    folder: &str,
+) -> Result<UpsmonConf, Failure<UpsmonFault>> {
+    Ok(read_conf(files, alloc, folder)?)
+}
+
+/// Whether this is a fault of the lines of a file that was read.
+fn is_of_lines(failure: &Failure<UpsmonFault>) -> bool {
+    matches!(
+        failure,
+        Failure::Own(UpsmonFault::File(FileFault::Conf(..)))
+    )
 }
 
 /// Whether there is a flag and it is set.
@@ -157,7 +172,7 @@ fn force<R>(
 where
     R: Wait + Files + Net,
 {
-    let config = read_conf(rt, alloc, folder)?;
+    let config = read_config(rt, alloc, folder)?;
     let is_forced = force_shutdowns(rt, alloc, &config, streams, err)?;
     Ok(u8::from(!is_forced))
 }
