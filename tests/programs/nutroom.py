@@ -592,8 +592,8 @@ def seen_of(plan, machine, host, story, bound):
     clock = plan.scenes[bound.start][host.number][0]
     # by the room's clock it isn't later either
     ensure(story.halted <= bound.end, f"{machine.name} is halted at {story.halted}, past {bound}")
-    is_forced = all(is_forced(plan.room.last_status(machine.rules.lines[i].ups, bound.start)) for i in bound.lines)
-    law = "forced" if is_forced else "primary" if all(machine.rules.lines[i].is_primary for i in bound.lines) else "secondary"
+    were_forced = all(is_forced(plan.room.last_status(machine.rules.lines[i].ups, bound.start)) for i in bound.lines)
+    law = "forced" if were_forced else "primary" if all(machine.rules.lines[i].is_primary for i in bound.lines) else "secondary"
     return [f"halts within the {law} bound"] + [f"halts at the {law} bound"] * (story.halted_clock == clock + bound.halts)
 
 
