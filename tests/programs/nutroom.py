@@ -353,6 +353,9 @@ class Tests:
         # very many UPSes and machines, long outages and long names
         many = "".join(f"machine a-long-name-of-a-machine-{m:04} both.conf delay 0 1\n" for m in range(8))
         self.picture(self.room(f"{many}battery su700 5000\nat 1 su700 OB\nat 4000.5 su700 OB LB\nat 4010 su800 OB LB\n"))
+
+    def test_picture_of_a_day(self):
+        needs_proved_build("a whole day in a minute")
         self.picture(self.room(f"{PAIR}at 86400 su700 OB\n"))
 
     def test_progress_is_told_on_a_terminal(self):
