@@ -83,7 +83,8 @@ check-peers: all
 bench: all
 	@python3 bench/stdio.py bin/upsd
 	@python3 bench/sockets.py bin/upsd bin/dummy-ups
-	@python3 bench/instructions.py bin/upsd bin/dummy-ups
+	@python3 bench/instructions.py bin/upsd bin/upsmon
+	@python3 bench/sizes.py bin/upsd
 
 install: all
 	@$(MAKE) --no-print-directory install-built

@@ -34,6 +34,9 @@ LOADS = [
     ("GET VAR, 1 client, 8 at a time", "GET VAR su700 ups.status", 1, 1, 8),
     ("LIST VAR, 1 client", "LIST VAR su700", VARIABLES + 3, 1, 1),
 ]
+# what a loop answers that reads nothing but line feeds, and the load at which servers are compared with it
+LIMIT_REPLY = 'VAR su700 ups.status "OL"'
+LIMIT_LOAD = ("GET VAR, 10 clients, 8 at a time", "GET VAR su700 ups.status", 1, 10, 8)
 
 
 def script():
@@ -100,6 +103,39 @@ class Server:
             process.wait()
 
 
+class Limit(Server):
+    """What one thread can do at most (limit.c): a loop that answers each line feed with a reply that it has."""
+
+    def __init__(self, program):
+        self.name = "limit"
+        self.port = free_port()
+        self.process = subprocess.Popen([program, str(self.port), LIMIT_REPLY])
+        self.driver = self.process
+        self.wait()
+
+
+def compiled(folder, name):
+    """Returns the path of a program of this folder, compiled."""
+    program = os.path.join(folder, name)
+    compiler = shutil.which("cc") or shutil.which("clang")
+    if compiler is None:
+        sys.exit("a C compiler is missing: the load comes from a program in C (cc or clang)")
+    subprocess.run([compiler, "-O2", "-o", program, os.path.join(HERE, f"{name}.c")], check=True)
+    return program
+
+
+def compare_with_limit(servers, limit, program, seconds):
+    """Prints what an answer takes of the server's processor, as a ratio to what it takes of the loop's."""
+    name, request, lines, clients, in_flight = LIMIT_LOAD
+    rounds = {it.name: [] for it in [limit, *servers]}
+    for _ in range(ROUNDS):
+        for it in [limit, *servers]:
+            rounds[it.name].append(it.load(program, seconds, request, lines, clients, in_flight))
+    costs = {it: best(found)[3] for it, found in rounds.items()}
+    for it, cost in costs.items():
+        print(f"{name:32} {it:6} processor {cost:6.2f} us an answer, {cost / costs['limit']:.2f} of the bare loop's")
+
+
 def best(rounds):
     """Returns the most answers a second, and the least times. Other work of the machine only slows a round down, so the best
     of many rounds says more than their middle."""
@@ -125,12 +161,8 @@ def measure(servers, program, seconds):
 def main():
     upsd, dummy = (os.path.abspath(it) for it in sys.argv[1:3])
     seconds = float(sys.argv[3]) if len(sys.argv) > 3 else 1.0
-    compiler = shutil.which("cc") or shutil.which("clang")
-    if compiler is None:
-        sys.exit("a C compiler is missing: the load comes from a program in C (cc or clang)")
     with tempfile.TemporaryDirectory() as folder:
-        program = os.path.join(folder, "load")
-        subprocess.run([compiler, "-O2", "-o", program, os.path.join(HERE, "load.c")], check=True)
+        program = compiled(folder, "load")
         servers = []
         try:
             servers.append(Server("upsd", folder, dummy, [upsd, "--conf", "FOLDER", "-s", "FOLDER", "-q"]))
@@ -148,6 +180,11 @@ def main():
                     client.close()
             time.sleep(1)
             measure(servers, program, seconds)
+            limit = Limit(compiled(folder, "limit"))
+            try:
+                compare_with_limit(servers, limit, program, seconds)
+            finally:
+                limit.stop()
         finally:
             for server in servers:
                 server.stop()

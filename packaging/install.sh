@@ -59,7 +59,7 @@ fi
 # wants it, and so is the page of ups.conf, which says how all files are read.
 part_of() {
     case $1 in
-        share/mulgefa/rooms/* | share/mulgefa/schedules/*)
+        share/mulgefa/rooms/* | share/mulgefa/schedules/* | share/mulgefa/nutroom_modules/*)
             echo client
             return
             ;;
@@ -130,6 +130,9 @@ for program in "$@"; do
     fi
 done
 put 755 tools/nutroom bin/nutroom
+for module in tools/nutroom_modules/*.py; do
+    put 644 "$module" "share/mulgefa/nutroom_modules/${module##*/}"
+done
 put 644 man/nutroom.8 share/man/man8/nutroom.8
 put 644 packaging/completions.bash share/bash-completion/completions/nutroom
 put 755 packaging/until-ready lib/mulgefa/until-ready
@@ -169,7 +172,8 @@ fi
 
 # Folders that nothing else uses go too, once they are empty.
 if [ "$what" = uninstall ]; then
-    for folder in share/mulgefa/examples share/mulgefa/schedules $rooms share/mulgefa/rooms share/mulgefa lib/mulgefa; do
+    for folder in share/mulgefa/examples share/mulgefa/schedules $rooms share/mulgefa/rooms share/mulgefa/nutroom_modules \
+        share/mulgefa lib/mulgefa; do
         rmdir "$root/$folder" 2> /dev/null || true
     done
 fi

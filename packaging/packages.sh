@@ -164,6 +164,8 @@ make_tar() {
     chmod 755 "$tree/packaging/install.sh" "$tree/packaging/mulgefa-check" "$tree/packaging/until-ready"
     cp -R man examples README.md CHANGELOG.md SECURITY.md "$tree/"
     install -D -m 755 tools/nutroom "$tree/tools/nutroom"
+    install -d "$tree/tools/nutroom_modules"
+    install -m 644 tools/nutroom_modules/*.py "$tree/tools/nutroom_modules/"
     install -d "$tree/docs"
     install -m 644 docs/from-nut.md docs/room.md docs/room.svg "$tree/docs/"
     chmod -R u=rwX,go=rX "$tree"

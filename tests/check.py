@@ -25,6 +25,7 @@ from tests.support.harness import ROOT, children_time
 TESTS = (
     ("gate.believe", ()),
     ("gate.front_pages", ()),
+    ("gate.pages", ()),
     ("gate.builders", ()),
     ("programs.upsd_stdio", ("upsd",)),
     ("programs.files", ("upsd", "upsmon")),

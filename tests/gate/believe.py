@@ -1,240 +1,117 @@
 #!/usr/bin/env python3
-"""Lists what has to be believed. For each promise of the programs, it finds the definitions that its clauses lead to, and
-lists them in docs/believe.md: `believe.py --write` writes that page. Without an option it tests that the page is that list,
-and that each name in docs/definitions.md is in the file of definitions that the page gives for it. The last line is
-'N passed, M failed'."""
+"""Lists what has to be believed: for each promise of the programs, the definitions that its clauses lead to.
+
+usage: python3 -m tests.gate.believe [--write | TITLE]
+
+Without an argument it tests that docs/believe.md is that list, and that no promise and no definition is missing; the last line
+is 'N passed, M failed'. `--write` writes that page. A title, such as 'A monitor', prints all that this section leads to."""
 
 import os
 import re
 import sys
 
-from tests.support.harness import ensure, expect, ROOT, run_tests
+from tests.gate.definitions import CODE, Imports, Library, Scope, files_of, read, tokens, WORD
+from tests.support.harness import ensure, expect, Failed, ROOT, run_tests
 
 PAGE = os.path.join(ROOT, "docs", "believe.md")
-NAMES = os.path.join(ROOT, "docs", "definitions.md")
 
-# The promises: the title of each, and the functions, methods and traits whose clauses make it, by their files.
+# The promises: the title of each and what it is about; then the functions, methods and traits whose clauses make it, by crate and
+# file (None: any file). `Type.*` are all public methods of a type, and all members of a trait. A name with a `?` is taken if
+# there is such a function.
 PROMISES = (
-    ("A server", "`Server::new` and `Server::arrive`: what a server answers, keeps and asks of its drivers", (
-        ("nut_server", "server.rt", ("Server.new", "Server.arrive")),)),
-    ("What a server sends", "the laws over whole histories of what connections and drivers are sent", (
-        ("nut_server_spec", "lib.rt", ("sent_and_waiting_is_due", "sent_is_front_of_due", "driver_sent_and_waiting_is_due")),)),
-    ("The server's loop", "`serve`: what a world gives and takes is what a server is told and sends", (
-        ("nut_server_loop", "serving.rt", ("serve",)), ("nut_server_loop", "world.rt", ("World.*",)))),
-    ("A monitor", "`Monitor::new`, `arrive`, `take_notice` and `notice_text`: what a monitor asks, tells and decides", (
-        ("nut_monitor", "monitor.rt", ("Monitor.new", "Monitor.arrive", "Monitor.take_notice", "Monitor.notice_text")),)),
-    ("The monitor's loop", "`watch`: what a world gives and takes is what a monitor is told and asks", (
-        ("nut_monitor_loop", "watching.rt", ("watch",)), ("nut_monitor_loop", "world.rt", ("MonWorld.*",)))),
-    ("Configuration files", "`read_ups`, `read_users`, `read_upsd`, `read_descriptions`, `read_upsmon`: what a file means", (
-        ("nut_conf", None, ("read_ups", "read_users", "read_upsd", "read_descriptions", "read_upsmon")),)),
-    ("The tools", "`run_upsc`, `run_upsrw`, `run_upscmd` and their targets: what is asked, printed and dialed", (
-        ("nut_client", None, ("run_upsc", "run_upsrw", "run_upscmd", "upsc_target", "upsrw_target", "upscmd_target")),
+    ("A server", "what a server answers, keeps and asks of its drivers, and what callers see of that", (
+        ("nut_server", None, ("Server.*", "silence_before_ping")),)),
+    ("A server's configuration", "what the files make of a server", (
+        ("nut_server", "config.rt", ("Config.*", "User.*")),)),
+    ("What a server sends", "what connections and drivers are sent, and that cuts don't matter", (
+        ("nut_server_spec", None, (
+            "sent_and_waiting_is_due", "sent_is_front_of_due", "sent_is_received", "driver_sent_and_waiting_is_due",
+            "driver_sent_is_received", "cuts_do_not_matter", "driver_cuts_do_not_matter", "cuts_and_writes_do_not_matter",
+            "driver_cuts_and_writes_do_not_matter", "same_steps_same_answers", "logout_is_final", "others_stay", "other_drivers_stay",
+            "opened_is_fresh", "closed_stays_closed", "numbers_rise", "status_is_the_drivers")),)),
+    ("Bounds of a server", "how much is kept, and how much waits", (
+        ("nut_server_spec", None, (
+            "bounds_hold", "connections_are_few", "answers_are_bounded", "waits_for_one_piece", "waits_are_bounded")),)),
+    ("Tracked requests and reloads", "how a tracked request ended, and what a reload leaves", (
+        ("nut_server_spec", None, (
+            "tracking_looks_back", "reload_is_downs_then_closes_then_itself", "keeps_its_number", "numbers_are_distinct",
+            "upses_stay")),)),
+    ("The server's loop", "what a world gives and takes is what a server is told and sends", (
+        ("nut_server_loop", "serving.rt", ("serve",)), ("nut_server_loop", "world.rt", ("World.*",)),
+        ("nut_server_loop", None, ("serve_memory",)))),
+    ("A monitor", "what a monitor asks, tells and decides, and what callers see of that", (
+        ("nut_monitor", None, ("Monitor.*",)),)),
+    ("A monitor's laws", "what holds over whole histories of a monitor", (
+        ("nut_monitor_spec", None, (
+            "cuts_do_not_matter", "notices_are_few", "links_are_bounded", "notices_come_in_order", "linked_is_made", "waiting_is_left",
+            "links_are_told", "sent_and_waiting_is_due", "queries_come_alone", "answers_come_in_turn", "logins_follow_fsd",
+            "others_stay", "shutdown_stays")),)),
+    ("The monitor's loop", "what a world gives and takes is what a monitor is told and asks", (
+        ("nut_monitor_loop", "watching.rt", ("watch",)), ("nut_monitor_loop", "world.rt", ("MonWorld.*",)),
+        ("nut_monitor_loop", None, ("watch_memory",)))),
+    ("Configuration files", "what a file means", (
+        ("nut_conf", None, (
+            "read_ups", "read_users", "read_upsd", "read_descriptions", "read_upsmon", "first_fault", "blank_lines_change_nothing",
+            "names_are_distinct", "rules_are_kept")),)),
+    ("The tools", "what is asked, printed and dialed", (
+        ("nut_client", None, (
+            "run_upsc", "run_upsrw", "run_upscmd", "upsc_target", "upsrw_target", "upscmd_target", "more_bytes_are_ignored",
+            "all_bytes_decide")),
         ("nut_client", "output.rt", ("Output.*",)), ("nut_client", "stream.rt", ("Stream.*",)))),
-    ("A shutdown by hand", "`force_shutdown`: what is asked to force a shutdown, and how that ends", (
+    ("A shutdown by hand", "what is asked to force a shutdown, and how that ends", (
         ("nut_client", None, ("force_shutdown",)), ("nut_client", "stream.rt", ("Stream.*",)))),
-    ("The dummy driver", "`Script::read`, `Dummy::server_bytes`, and the laws over whole histories of a dummy driver", (
-        ("nut_dummy", None, ("Script.read", "Dummy.new", "Dummy.server_bytes", "looks_back", "dump_is_the_table")),)),
-    ("A room", "`Fleet::new`, `Fleet::play` and `rooms_hold`: what every schedule of one server and its monitors leads to", (
-        ("nut_play", None, ("Fleet.new", "Fleet.play", "rooms_hold")),)),
-    ("A room in time", "the laws of docs/room.md: by when machines begin to stop and are halted, and when none is", (
+    ("The dummy driver", "what a script means, and what holds over whole histories of a dummy driver", (
+        ("nut_dummy", None, ("Script.read", "Dummy.*", "looks_back", "told_lines_are_heard", "dump_is_the_table")),)),
+    ("A room", "what every schedule of one server and its monitors leads to, and what was really played", (
+        ("nut_fleet", None, (
+            "configurations_are_spoken", "events_are_accepted", "pipes_carry_beginnings", "statuses_were_shown",
+            "shutdowns_have_causes", "primaries_go_last")),
+        ("nut_play", None, ("Fleet.new", "Fleet.config", "Fleet.play", "rooms_hold")))),
+    ("A room in time", "by when machines begin to stop and are halted, and when none is", (
         ("nut_in_time", None, (
-            "shutdowns_begin_in_time", "machines_halt_in_time", "hostsync_suffices", "nobody_halts_in_vain", "the_last_ups_counts",
-            "room_stops_in_time")),)),
-    ("Lines of a schedule", "`read_step`: the step that a line says", (
+            "links_open_in_time", "statuses_come_in_time", "shutdowns_begin_in_time", "machines_halt_in_time", "shutdowns_go_on",
+            "hostsync_suffices", "nobody_halts_in_vain", "the_last_ups_counts", "forced_is_shown", "room_stops_in_time",
+            "cut_off_machines_stop")),
+        ("nut_upsmon", None, ("stops_within",)))),
+    ("Links that keep a pace", "how a link is seen to keep pace", (
+        ("nut_in_time", None, ("quiet_links_keep_pace", "rounds_keep_pace")),)),
+    ("Lines of a schedule", "the step that a line says", (
         ("nut_play", "reading.rt", ("read_step",)),)),
 )
 
+# What no section has: clauses in terms of the machine, which say what others say in terms of histories; and laws that only proofs
+# cite.
+LEFT_OUT = {
+    "nut_server": ("Server.step",),
+    "nut_monitor": ("Monitor.step",),
+    "nut_server_spec": ("machine_keeps_content", "answers_keep_content"),
+    "nut_monitor_spec": ("machine_keeps_content", "answers_keep_content"),
+    "nut_fleet": ("pipes_move", "contents_tell", "deeds_are_seen", "fleets_go_on"),
+}
+# The crates each of whose laws has to be in a section or above.
+CRATES_OF_LAWS = ("nut_server_spec", "nut_monitor_spec", "nut_conf", "nut_client", "nut_dummy", "nut_fleet", "nut_in_time", "nut_play")
+
 HEAD = """# What has to be believed
 
-Whoever believes the definitions below believes what the clauses of these calls say. For each call the page lists, in the order in
-which they rest on each other, the definitions that its clauses lead to: a path such as `nut_words: Lines` stands for
-`crates/nut_words/specs/Lines.antt`. Lines are those of a definition with its comment. Words of the toolchain's own library
-(lists, numbers, options) aren't listed, and types and constants of the code are listed apart.
+Whoever believes the definitions below believes what the clauses of these calls and laws say (docs/proved.md; a law's definition has its
+name). Each section lists what it adds to those before it, by crate, with the number of its lines, and by file, in the order in which
+definitions rest on each other: **Lines** of `nut_words` is `crates/nut_words/specs/Lines.antt`, where comments say what they mean.
+All that a section leads to by itself is printed by `python3 -m tests.gate.believe 'A monitor'`. Lines are those of a definition with its
+comment. Types and constants of the code that definitions name are counted apart, and words of the toolchain's library aren't listed.
 
 Two files are second forms of shorter ones, and are listed since the clauses cite them. Whoever believes `nut_words: Spelling` needn't
 believe `nut_words: Reader`, except `has_backslash`, `with_backslash` and `Gives` (law `spelled_is_meant`). Whoever believes
 `nut_state: LookBack` needn't believe `nut_state: Step`, except `line_adds` (law `every_table_holds`).
 
-This page is written by `python3 -m tests.gate.believe --write`, and the tests see that it is up to date.
+`python3 -m tests.gate.believe --write` makes this page. A test compares it, and fails where something that a clause or a definition
+names isn't found, or where a law is in no section.
 """
-
-WORD = r"[^\W\d][\w'-]*"
-OPERATOR = r"◌[^\s{},()]+◌(?:[^\s{},()]+◌)?"
-HOLE = "◌"
-
-
-def read(path):
-    with open(path, encoding="utf-8") as file:
-        return file.read()
-
-
-def crates():
-    """Returns the crates, each behind those that it depends on."""
-    depends = {}
-    for line in read(os.path.join(ROOT, "crates.txt")).splitlines():
-        line = line.split("#")[0]
-        if ":" in line:
-            head, tail = line.split(":")
-            depends[head.split()[0]] = tail.split()
-    order = []
-
-    def visit(crate):
-        if crate in depends and crate not in order:
-            for below in depends[crate]:
-                visit(below)
-            order.append(crate)
-
-    for crate in depends:
-        visit(crate)
-    return order
-
-
-def imports(text):
-    """Returns the names that a text imports from definitions, with the crate, the module and the name there of each, and the
-    modules that it imports under another name."""
-    names, modules = {}, {}
-    found = re.findall(r"use Rattle\.(\w+)\.specs\.([\w.]+?)(?:\.\{([^}]*)\}| as ([\w]+))?\s*;?\s*$", text, re.M)
-    for crate, module, listed, other in found:
-        if other:
-            modules[other] = (crate, module)
-        for name in filter(None, (it.strip() for it in listed.split(","))):
-            name, _, renamed = name.partition(" as ")
-            names[(renamed or name).strip()] = (crate, module, name.strip())
-    return names, modules
-
-
-def without_blocks(lines):
-    """Returns the lines of a file, with the contents of a block `module _` moved to the left."""
-    kept, is_inside = [], False
-    for line in lines:
-        if line and not line[0].isspace():
-            is_inside = line.startswith("module _")
-        kept.append(line[2:] if is_inside and line.startswith("  ") else line)
-    return kept
-
-
-class Definition:
-    """A definition: its text with its comment, and the number of lines of that."""
-
-    def __init__(self, crate, name, text):
-        self.crate, self.name = crate, name
-        self.body = "\n".join(it for it in text.splitlines() if not it.lstrip().startswith("--"))
-        self.lines = sum(bool(it.strip()) for it in text.splitlines())
-
-
-class Module:
-    """A file of definitions."""
-
-    HEAD = re.compile(rf"^(?:(?:pub|abbrev|unfoldable|opaque)\s+)*(data\s+|record\s+)?(?:pub\s+)?({OPERATOR}|{WORD})[^:=\n]*\s:\s")
-
-    def __init__(self, crate, name, path):
-        self.crate, self.name = crate, name
-        text = read(path)
-        self.names, self.modules = imports(text)
-        self.definitions = {}
-        # a constructor counts as its type
-        self.inside = {}
-        self.order = []
-        lines = without_blocks(it for it in text.splitlines() if not it.startswith("use "))
-        starts = [at for at, line in enumerate(lines) if self.HEAD.match(line)]
-        firsts = []
-        for at in starts:
-            first = at
-            while first > 0 and lines[first - 1].startswith("--"):
-                first -= 1
-            firsts.append(first)
-        for at, first, end in zip(starts, firsts, firsts[1:] + [len(lines)]):
-            kind, word = self.HEAD.match(lines[at]).groups()
-            self.definitions[word] = Definition(crate, word, "\n".join(lines[first:end]))
-            self.order.append(word)
-            if kind and kind.startswith("data"):
-                for line in lines[at + 1:end]:
-                    constructor = re.match(rf"\s+(?:pub\s+)?({OPERATOR}|{WORD})\s*:\s", line)
-                    if constructor:
-                        self.inside[constructor[1]] = word
-
-
-class Library:
-    """All definitions of the repository."""
-
-    def __init__(self):
-        self.order = crates()
-        self.modules = {}
-        for crate in self.order:
-            folder = os.path.join(ROOT, "crates", crate, "specs")
-            for at, _, files in sorted(os.walk(folder)):
-                for file in sorted(files):
-                    if file.endswith(".antt"):
-                        path = os.path.join(at, file)
-                        name = os.path.relpath(path, folder)[:-5].replace(os.sep, ".")
-                        self.modules[crate, name] = Module(crate, name, path)
-
-    def home(self, crate, module, name):
-        """Returns the definition of a name, and whether it is one of the code's own types or constants; None if it is the
-        toolchain's."""
-        if crate not in self.order:
-            return None
-        if module.startswith("declared"):
-            return crate, "code", declared(module, name)
-        found = self.modules.get((crate, module))
-        if found is None:
-            return None
-        if name in found.definitions:
-            return crate, module, name
-        if name in found.inside:
-            return crate, module, found.inside[name]
-        if name in found.names:
-            return self.home(*found.names[name])
-        return None
-
-    def cited(self, text, names, modules, own=None):
-        """Returns the definitions that a text names."""
-        cited = set()
-        for alias, name in re.findall(rf"\b({WORD})\.({WORD})", text):
-            if alias in modules:
-                cited.add(self.home(*modules[alias], name))
-        words = set(re.findall(WORD, text))
-        symbols = set(re.findall(r"[^\w\s(){}\[\],.;:]+", text))
-        for name in names:
-            if name in words or HOLE in name and is_used(name, words, symbols):
-                cited.add(self.home(*names[name]))
-        if own:
-            for name in [*own.definitions, *own.inside]:
-                if name in words or HOLE in name and is_used(name, words, symbols):
-                    cited.add(self.home(own.crate, own.name, name))
-        return cited - {None}
-
-    def closure(self, first):
-        """Returns all definitions that these lead to, and the types and constants of the code that they name."""
-        found, todo = set(), list(first)
-        while todo:
-            it = todo.pop()
-            if it in found:
-                continue
-            found.add(it)
-            crate, module, name = it
-            if module != "code":
-                where = self.modules[crate, module]
-                todo += self.cited(where.definitions[name].body, where.names, where.modules, where)
-        return found
-
-
-def declared(module, name):
-    """Returns what a definition cites of the code: a type, also if a variant of it is named, or a constant."""
-    parts = module.split(".")
-    if "TheVariants" in parts:
-        return parts[parts.index("TheVariants") - 1]
-    return name
-
-
-def is_used(operator, words, symbols):
-    parts = [it for it in operator.split(HOLE) if it]
-    return all(it in words or any(it in symbol for symbol in symbols) for it in parts)
 
 
 def clauses(text, at):
-    """Returns the clauses of the function whose `fn` is at this place."""
+    """Returns the parameters of the function whose `fn` is at this place, and its clauses."""
     found, depth, i = [], 0, text.index("(", at)
+    start_of_parameters, parameters = text.index("(", at), None
     while i < len(text):
         if text.startswith("//", i):
             i = text.index("\n", i)
@@ -249,71 +126,180 @@ def clauses(text, at):
             depth += 1
         elif text[i] in ")]":
             depth -= 1
+            if depth == 0 and parameters is None:
+                parameters = text[at:i]
         elif depth == 0 and text[i] in "{;":
-            return found
+            break
         i += 1
-    return found
+    names = set(re.findall(rf"\b({WORD})\s*:(?!:)", parameters or text[start_of_parameters:i]))
+    return names | set(re.findall(rf"[<,]\s*({WORD})\s*(?=[:,>])", text[at:start_of_parameters])), found
 
 
 def owners(text):
-    """Returns where each impl or trait block of a file begins and ends, and the name of its type."""
+    """Returns where each impl or trait block of a file begins and ends, the name of its type, and whether all of its members count
+    as public."""
     found = []
-    for block in re.finditer(rf"^(?:pub )?(?:impl(?:<[^\n]*?>)? (?:[\w:<>', +]+ for )?|trait )({WORD})[^\n{{]*", text, re.M):
+    for block in re.finditer(rf"^(?:pub )?(impl(?:<[^\n]*?>)? ((?:[\w:<>', +]+ for )?)|trait )({WORD})[^\n{{]*", text, re.M):
         end = text.find("\n}", block.start())
-        found.append((block.start(), end, block[1]))
+        found.append((block.start(), end, block[3], block[1].startswith("trait"), bool(block[2])))
     return found
 
 
-def functions(text):
-    """Yields the clauses of each function of a file, by its name, with its type in front if it has one."""
-    blocks = owners(text)
-    for it in re.finditer(rf"^\s*(?:pub )?(?:const )?fn ({WORD})", text, re.M):
-        owner = next((name for start, end, name in blocks if start <= it.start() < end), None)
-        yield (f"{owner}.{it[1]}" if owner else it[1]), clauses(text, it.end())
+class Function:
+    """A function of the code: its name, with its type in front if it has one, and what its clauses may name."""
+
+    def __init__(self, name, is_public, is_law, names, said):
+        self.name, self.is_public, self.is_law, self.names, self.said = name, is_public, is_law, names, said
 
 
-def sources(crate, file):
-    folder = os.path.join(ROOT, "crates", crate, "src")
-    for at, _, files in sorted(os.walk(folder)):
-        for name in sorted(files):
-            if name.endswith(".rt") and file in (None, name):
-                yield read(os.path.join(at, name))
+class Source:
+    """A file of code."""
+
+    def __init__(self, path):
+        self.path, self.text = path, read(path)
+        self.imports = Imports(self.text.replace("ghost use", "use"))
+        self.functions = list(self.find_functions())
+        self.ghosts = re.findall(r"^\s*ghost (?!use)\w+: ([^;]*);", self.text, re.M)
+        self.ghost_names = set(re.findall(r"^\s*ghost (?!use)(\w+)", self.text, re.M))
+
+    def find_functions(self):
+        blocks = owners(self.text)
+        for it in re.finditer(rf"^[ ]*(pub )?(?:const )?fn ({WORD})", self.text, re.M):
+            block = next((block for block in blocks if block[0] <= it.start() < block[1]), None)
+            before = self.text[:it.start()].rsplit("\n\n", 1)[-1]
+            if block and block[4]:
+                continue
+            names, said = clauses(self.text, it.end())
+            yield Function(f"{block[2]}.{it[2]}" if block else it[2], bool(it[1]) or bool(block and block[3]),
+                "/// States a law and" in before or "/// States laws and" in before, names, said)
+
+    def code_names(self):
+        """Returns the names that the code itself imports from other crates, or has."""
+        found = {}
+        for crate, listed in re.findall(r"^\s*(?:pub )?use (\w+)::([^;]*);", self.text, re.M):
+            for name in re.findall(WORD, listed):
+                found[name] = crate
+        return found
 
 
-def believed(library, calls):
-    """Returns the definitions that the clauses of these calls lead to."""
-    first, met = set(), set()
-    for crate, file, wanted in calls:
-        for text in sources(crate, file):
-            names, modules = imports(text.replace("ghost use", "use"))
-            for name, said in functions(text):
-                if name in wanted or f"{name.split('.')[0]}.*" in wanted:
-                    met.add((crate, name))
-                    first |= library.cited("\n".join(said), names, modules)
-            if any(it.endswith(".*") for it in wanted):
-                for ghost in re.findall(r"^\s*ghost \w+[^;]*;", text, re.M):
-                    first |= library.cited(ghost, names, modules)
-        for name in wanted:
-            ensure(name.endswith(".*") or (crate, name) in met, f"{crate} has no function {name}")
-    return library.closure(first)
+class Promises:
+    """The sections of the page, with what each leads to."""
+
+    def __init__(self, library):
+        self.library, self.sources = library, {}
+        self.sections = [(title, about, calls, self.believed(calls)) for title, about, calls in PROMISES]
+
+    def files(self, crate):
+        if crate not in self.sources:
+            folder = os.path.join(ROOT, "crates", crate, "src")
+            self.sources[crate] = [Source(path) for path in files_of(folder, ".rt")]
+        return self.sources[crate]
+
+    def believed(self, calls):
+        """Returns the definitions that the clauses of these calls lead to."""
+        first = set()
+        for crate, file, wanted in calls:
+            met = set()
+            for source in self.files(crate):
+                if file in (None, os.path.basename(source.path)):
+                    for it in source.functions:
+                        pattern = self.wanted_by(crate, it, wanted)
+                        if pattern:
+                            met.add(pattern)
+                            first |= self.cited(crate, source, it.said, it.names, it.name)
+                    if any(pattern in met and pattern.endswith(".*") for pattern in wanted):
+                        first |= self.cited(crate, source, source.ghosts, (), os.path.basename(source.path))
+            for pattern in wanted:
+                ensure(pattern.endswith("?") or pattern in met, f"{crate} has no function {pattern}")
+        return self.library.closure(first)
+
+    @staticmethod
+    def wanted_by(crate, function, wanted):
+        if function.name in LEFT_OUT.get(crate, ()):
+            return None
+        for pattern in wanted:
+            is_of_type = pattern.endswith(".*") and function.is_public and function.name.split(".")[0] == pattern[:-2]
+            if is_of_type or function.name == pattern.rstrip("?"):
+                return pattern
+        return None
+
+    def cited(self, crate, source, said, names, name):
+        """Returns the definitions, types and constants that clauses name."""
+        known = {*"result self Self fn rt u8 u16 u32 u64 usize bool str MAX".split(), *names, *source.ghost_names}
+        scope = Scope(self.library, source.imports, None, known)
+        for clause in said:
+            scope.expression(tokens(clause), ())
+        found, missing = scope.cited - {None}, []
+        imported = source.code_names()
+        for word in scope.unknown:
+            home = self.library.code_home(crate, word, imported.get(word))
+            if home:
+                found.add(home)
+            elif imported.get(word) not in ("std", "core"):
+                missing.append(word)
+        ensure(not missing, f"{crate}: {name} cites what isn't found: {', '.join(sorted(missing))}")
+        return found
+
+    def laws_without_section(self):
+        listed = {(crate, name.rstrip("?")) for _, _, calls in PROMISES for crate, _, wanted in calls for name in wanted}
+        listed |= {(crate, name) for crate, names in LEFT_OUT.items() for name in names}
+        return [f"{crate}: {it.name}" for crate in CRATES_OF_LAWS for source in self.files(crate) for it in source.functions
+            if it.is_law and not it.name.endswith("_limits") and (crate, it.name) not in listed]
+
+
+def calls_of(promises, calls):
+    """Returns the calls of a section as the page names them. Laws are counted: each has the name of its definition."""
+    named, laws = [], {}
+    for crate, _, wanted in calls:
+        is_law = {it.name for source in promises.files(crate) for it in source.functions if it.is_law}
+        for it in wanted:
+            if it.rstrip("?") in is_law:
+                laws[crate] = laws.get(crate, 0) + 1
+            elif not it.endswith("?"):
+                it = it.replace(".*", "").replace(".", "::")
+                named += [] if it in named else [it]
+    called = [f"`{' '.join(named)}`"] if named else []
+    return " and ".join(called + [f"{count} law{'s' * (count > 1)} of `{crate}`" for crate, count in laws.items()])
+
+
+def rows(library, found):
+    """Yields a line for each crate with some of these definitions: its lines, and its files with their definitions."""
+    for crate in library.order:
+        files, lines = [], 0
+        for (it, module), where in library.modules.items():
+            names = [name for name in where.definitions if (crate, module, name) in found]
+            if it == crate and names:
+                lines += sum(where.definitions[name].lines for name in names)
+                files.append(f"**{module}** `{' '.join(names)}`")
+        if files:
+            yield f"- `{crate}` {lines}: {'; '.join(files)}"
+
+
+def section(library, title, about, called, found, before):
+    """Returns the text of a section, in which nothing is listed that stands in those before."""
+    new = found - before
+    lines, code_lines = library.sums(found)
+    added = library.sums(new)[0]
+    what_is_new = f", {added:,} of them new" if before else ""
+    out = [f"## {title}\n", f"Of {called}: {about}. {lines:,} lines{what_is_new}, and {code_lines:,} of code.\n"]
+    out += rows(library, new)
+    code = {crate: sorted(name for it, module, name in new if module == CODE and it == crate) for crate in library.order}
+    listed = "; ".join(f"`{crate}` `{' '.join(names)}`" for crate, names in code.items() if names)
+    if listed:
+        out.append(f"- Types and constants of the code {library.sums(new)[1]}: {listed}")
+    return "\n".join(out) + "\n"
 
 
 def page(library):
-    out = [HEAD]
-    for title, about, calls in PROMISES:
-        found = believed(library, calls)
-        rows, sum_of_lines = [], 0
-        for (crate, module), it in library.modules.items():
-            names = [name for name in it.order if (crate, module, name) in found]
-            if names:
-                lines = sum(it.definitions[name].lines for name in names)
-                sum_of_lines += lines
-                rows.append(f"| `{crate}: {module}` | {lines} | {', '.join(f'`{name}`' for name in names)} |")
-        code = sorted({f"`{crate}`: `{name}`" for crate, module, name in found if module == "code"})
-        out.append(f"## {title}\n\nFor {about}: {sum_of_lines} lines in {len(rows)} files.\n")
-        out.append("| File | Lines | Definitions |\n|---|---|---|\n" + "\n".join(rows) + "\n")
-        if code:
-            out.append("Types and constants of the code: " + ", ".join(code) + ".\n")
+    promises = Promises(library)
+    everything = set().union(*(found for _, _, _, found in promises.sections))
+    count = sum(it[1] != CODE for it in everything)
+    lines, code_lines = library.sums(everything)
+    out, before = [HEAD], set()
+    out.append(f"In all: {count:,} definitions of {lines:,} lines; {len(everything) - count:,} types and constants of {code_lines:,}.\n")
+    for title, about, calls, found in promises.sections:
+        out.append(section(library, title, about, calls_of(promises, calls), found, before))
+        before |= found
     return "\n".join(out)
 
 
@@ -325,21 +311,30 @@ class Tests:
         """docs/believe.md lists what the clauses lead to."""
         expect(read(PAGE).splitlines(), page(self.library).splitlines(), "docs/believe.md; python3 -m tests.gate.believe --write writes it")
 
-    def test_names_are_there(self):
-        """Each name in docs/definitions.md is in the file that the page gives."""
-        missing, modules = [], []
-        for line in read(NAMES).splitlines():
-            heads = re.fullmatch(r"(`\w+: [\w/]+`(?:[,;] `(?:\w+: )?[\w/]+`)*).*", line)
-            if heads and not line.startswith("|"):
-                modules, crate = [], None
-                for named, module in re.findall(r"`(?:(\w+): )?([\w/]+)`", heads[1]):
-                    crate = named or crate
-                    modules.append((crate, module.replace("/", ".")))
-            elif line.startswith("| `"):
-                for name in re.findall(r"`([^`]+)`", line.split("|")[1]):
-                    if not any(self.library.home(*it, name) for it in modules):
-                        missing.append(f"{name} ({', '.join(f'{c}: {m}' for c, m in modules)})")
-        expect(missing, [], "names that stand in no such file")
+    def test_every_law_has_a_section(self):
+        """Each law of the crates of laws is in a section, or is left out by name."""
+        expect(Promises(self.library).laws_without_section(), [], "laws that no section has")
+
+    def test_every_definition_is_found(self):
+        """All that any definition of the repository cites is found."""
+        for (crate, module), it in self.library.modules.items():
+            for name in it.definitions:
+                self.library.cited((crate, module, name))
+
+    def test_a_missing_definition_is_refused(self):
+        """If the script overlooks a definition, a constructor or a type that something cites, it says so."""
+        missing = (("nut_server_spec", "Device", "is_stale"), ("nut_fleet", "Fleet", "IsReason"), ("nut_words", "Lines", "LineText"))
+        for crate, module, name in missing:
+            library = Library()
+            where = library.modules[crate, module]
+            del where.definitions[name]
+            where.inside = {it: owner for it, owner in where.inside.items() if owner != name}
+            try:
+                page(library)
+            except Failed as fault:
+                ensure(f"{crate}: {module}" in str(fault), f"the file of {name} isn't named: {fault}")
+            else:
+                ensure(False, f"{name} was overlooked, and nothing was said")
 
 
 def main(words):
@@ -348,6 +343,15 @@ def main(words):
         with open(PAGE, "w", encoding="utf-8") as file:
             file.write(text)
         return 0
+    if words:
+        library = Library()
+        promises = Promises(library)
+        for title, about, calls, found in promises.sections:
+            if title == words[0]:
+                print(section(library, title, about, calls_of(promises, calls), found, set()))
+                return 0
+        print(f"no section {words[0]}; there are {', '.join(it[0] for it in PROMISES)}")
+        return 2
     return run_tests(Tests())
 
 

@@ -163,6 +163,8 @@ def wanted_files():
     files.update({script: 0o755 for script in ("sbin/mulgefa-check", "bin/nutroom", "lib/mulgefa/until-ready")})
     files.update({f"share/mulgefa/{page}": 0o644 for page in ("from-nut.md", "room.md", "room.svg", "third-party-notices")})
     files.update({f"share/mulgefa/rooms/five/{file}": 0o644 for file in ROOM_FILES})
+    modules = os.listdir(os.path.join(ROOT, "tools", "nutroom_modules"))
+    files.update({f"share/mulgefa/nutroom_modules/{file}": 0o644 for file in modules if file.endswith(".py")})
     for program in programs():
         files[f"{folder_of(program)}/{program}"] = 0o755
         files[f"share/man/man8/{program}.8"] = 0o644

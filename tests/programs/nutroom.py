@@ -11,12 +11,11 @@ import collections
 import concurrent.futures
 import contextlib
 import functools
-import importlib.machinery
-import importlib.util
 import os
 import random
 import re
 import shlex
+import shutil
 import signal
 import subprocess
 import sys
@@ -30,7 +29,16 @@ from tests.support.model import Config, User, words_of
 from tests.support.room_model import Room, Rules, Watched, shown
 from tests.support.terminal import run_on_terminal
 
-PROGRAM = os.path.join(ROOT, "tools", "nutroom")
+TOOLS = os.path.join(ROOT, "tools")
+sys.path.append(TOOLS)
+
+from nutroom_modules.bounds import PATIENCE_ON_BATTERY, is_forced, needed_host_sync
+from nutroom_modules.nutsim import Nutsim
+from nutroom_modules.picture import width_of
+from nutroom_modules.reading import read_room
+from nutroom_modules.stories import play_run
+
+PROGRAM = os.path.join(TOOLS, "nutroom")
 PAGE = os.path.join(ROOT, "docs", "room.md")
 PICTURE = os.path.join(ROOT, "docs", "room.svg")
 MANUAL = os.path.join(ROOT, "man", "nutroom.8")
@@ -50,18 +58,6 @@ FILES = {"m1.conf": PRIMARY, "m2.conf": SECONDARY, "both.conf": Rules([Watched(b
 
 PAIR = "machine m1 m1.conf delay 0 2\nmachine m2 m2.conf delay 0 2\n"
 LOW = "at 10 su700 OB\nat 20 su700 OB LB\n"
-
-
-def loaded():
-    """Returns the program as a module."""
-    loader = importlib.machinery.SourceFileLoader("nutroom", PROGRAM)
-    module = importlib.util.module_from_spec(importlib.util.spec_from_loader("nutroom", loader))
-    sys.modules["nutroom"] = module
-    loader.exec_module(module)
-    return module
-
-
-nutroom = loaded()
 
 
 def write(folder, name, text):
@@ -236,11 +232,10 @@ class Tests:
 
     def test_nutsim_is_found(self):
         path = self.room(PAIR + LOW)
-        with open(PROGRAM) as file:
-            text = file.read()
+        folder = os.path.join(self.folder, "found")
+        shutil.copytree(TOOLS, os.path.join(folder, "tools"), ignore=shutil.ignore_patterns("__pycache__"))
+        program = os.path.join(folder, "tools", "nutroom")
         for at, env in (("tools", {}), ("bin", {}), ("other", {"PATH": os.path.join(self.folder, "found", "other")})):
-            folder = os.path.join(self.folder, "found")
-            program = write(folder, "tools/nutroom", text)
             link = os.path.join(folder, at, "nutsim")
             os.makedirs(os.path.dirname(link), exist_ok=True)
             os.symlink(self.nutsim, link)
@@ -274,7 +269,7 @@ class Tests:
         lines = self.printed("-n", "3", self.room(PAIR + "battery su700 3\n" + LOW)).splitlines()
         ensure("  m1  halted by 20 + POLLFREQ 5 + delay 2 + HOSTSYNC 15 + 1 + FINALDELAY 5 = 48" in lines, lines)
         ensure("  m2  halted by 20 + delay 2 + HOSTSYNC 15 + 1 + FINALDELAY 5 = 43" in lines, lines)
-        ensure("HOSTSYNC 15 of m1 is enough for m2 (15); in brackets what is enough" in lines, lines)
+        ensure("HOSTSYNC 15 of m1 is enough for m2 (14); in brackets what is enough" in lines, lines)
         ensure("battery.runtime.low of su700: at least 28 s, and what a machine takes from SHUTDOWNCMD until it is off; the battery of this room lasts 3 s" in lines, lines)
         rows = [it.split() for it in lines if it.startswith(("m1", "m2"))]
         expect([(row[0], row[1], row[8], row[9]) for row in rows], [("m1", "primary", "48", "3"), ("m2", "secondary", "43", "3")], "the table")
@@ -286,7 +281,7 @@ class Tests:
         ensure("  m1  goes on: its UPSes are neither low nor forced, and DEADTIME is long enough" in lines, lines)
         rows = {it.split()[0]: it.split()[2:] for it in lines if it.startswith(("m1 ", "m2 ", "m3 "))}
         expect((rows["m1"], rows["m2"][6], rows["m3"][6]), (["-"] * 6 + ["goes", "on"], "42", "46"), "the table")
-        for line in ("is enough for m2 (14)", "may be too short for m3 (18)"):
+        for line in ("is enough for m2 (13)", "may be too short for m3 (17)"):
             ensure(f"HOSTSYNC 15 of m1 {line}; in brackets what is enough" in lines, lines)
         cut = self.printed("-n", "4", self.room(f"{PAIR}{LOW}at 15 m2 cut\n")).splitlines()
         ensure("  m2  halted by 20 + delay 2 + HOSTSYNC 15 + 1 + FINALDELAY 5 = 43; doesn't hold, since its link was cut" in cut, cut)
@@ -298,7 +293,7 @@ class Tests:
         files = {**FILES, "m1.conf": Rules([Watched(b"su700", "primary")], host_sync=5)}
         path = self.room("machine m1 m1.conf delay 0 1\nmachine m2 m2.conf delay 0 1\nmachine m3 m2.conf delay 0 3\n" + LOW, files=files)
         lines = self.printed("-n", "40", "-s", "1", path).splitlines()
-        ensure("HOSTSYNC 5 of m1 may be too short for m2 (13), m3 (15); in brackets what is enough" in lines, lines)
+        ensure("HOSTSYNC 5 of m1 may be too short for m2 (12), m3 (14); in brackets what is enough" in lines, lines)
         orders = [it.strip().split(":")[0].split() for it in lines[lines.index("They were halted in this order:") + 1 :]]
         ensure(any(it[-1] != "m1" for it in orders), f"m1 was always last: {orders}")
 
@@ -307,13 +302,31 @@ class Tests:
         for sync, is_enough in ((4, True), (2, False)):
             files = {name: Rules(it.lines, poll_freq=1, final_delay=0, host_sync=sync) for name, it in FILES.items()}
             path = self.room("machine m1 m1.conf delay 1 1\nmachine m2 m2.conf delay 1 1\nat 3 su700 OB LB\n", files=files)
-            room, nutsim = nutroom.read_room(path, nutroom.Nutsim(self.nutsim)), nutroom.Nutsim(self.nutsim)
-            expect(nutroom.needed_host_sync(*room.machines), 4, "what is enough")
+            room, nutsim = read_room(path, Nutsim(self.nutsim)), Nutsim(self.nutsim)
+            expect(needed_host_sync(room, *room.machines), 4, "what is enough")
             late = 0
             for number in range(100):
-                _, (first, second) = nutroom.play_run(room, nutsim, 1, number)
+                _, (first, second) = play_run(room, nutsim, 1, number)
                 late += second.halted is None or second.halted > first.final
             ensure((late == 0) == is_enough, f"HOSTSYNC {sync}: the primary goes on first in {late} of 100 runs")
+
+    def test_host_sync_counts_until_fsd_is_accepted(self):
+        """An answer of 3 seconds if the primary is patient; a second less than two if it isn't, has read nothing before or was
+        cut off; and two if it has several lines."""
+        patient = {name: FILES[name] for name in ("m1.conf", "m2.conf", "both.conf")}
+        hasty = {**patient, "m1.conf": Rules([Watched(b"su700", "primary")], dead_time=7)}
+        low, early = "at 20 su700 OB LB\n", "at 8 su700 OB LB\n"
+        cut = "at 1 m1 cut\nat 2 m1 back\n"
+        for conf, files, changes, due in (
+            ("m1.conf", patient, low, 16),
+            ("m1.conf", hasty, low, 18),
+            ("m1.conf", patient, early, 18),
+            ("m1.conf", patient, cut + low, 18),
+            ("both.conf", patient, low.replace("OB LB", "OB LB\nat 20 su800 OB LB"), 19),
+        ):
+            path = self.room(f"machine m1 {conf} delay 0 3\nmachine m2 m2.conf delay 0 3\n{changes}", files=files)
+            room = read_room(path, Nutsim(self.nutsim))
+            expect(needed_host_sync(room, *room.machines), due, (conf, changes))
 
     def test_the_same_seed_gives_the_same_runs(self):
         path = self.room(PAIR + LOW)
@@ -335,9 +348,9 @@ class Tests:
         expect((done.returncode, done.stderr), (0, b""), "nutsim")
         ensure(b"skipped" not in done.stdout, "a step was skipped")
         expect(len(re.findall(rb"monitor \d phase Halted", done.stdout)), 2, "machines that were halted")
-        room = nutroom.read_room(path, nutroom.Nutsim(self.nutsim))
+        room = read_room(path, Nutsim(self.nutsim))
         with open(to) as file:
-            expect("".join(nutroom.play_run(room, nutroom.Nutsim(self.nutsim), 2, 2)[0].steps), file.read(), "the steps")
+            expect("".join(play_run(room, Nutsim(self.nutsim), 2, 2)[0].steps), file.read(), "the steps")
 
     def test_pictures(self):
         first = self.picture(self.room(PAIR + "battery su700 60\n" + LOW))
@@ -423,7 +436,7 @@ class Tests:
         """upsmon's own limit, which stands in its source, is that of this program and of the pages."""
         with open(LIMITS) as file:
             (most,) = re.findall(r"^pub const ANSWER_ON_BATTERY: u8 = (\d+);$", file.read(), re.MULTILINE)
-        expect(nutroom.PATIENCE_ON_BATTERY, int(most), "the greatest delay of a room")
+        expect(PATIENCE_ON_BATTERY, int(most), "the greatest delay of a room")
         for path, said in (
             (MANUAL, f"The most may be {most}: while a UPS is on battery,"),
             (MONITOR_MANUAL, f"or {most} while any UPS is on battery, it is lost"),
@@ -476,7 +489,7 @@ def check_picture(text):
             ensure(-0.5 <= x <= width + 0.5 and -0.5 <= y <= height + 0.5, f"{it.tag} at {x}, {y} of {width}, {height}")
         if it.tag == f"{SVG}text":
             ensure(float(it.get("font-size", "13")) >= 12, f"{it.text} is small")
-            wide = nutroom.width_of(it.text) * float(it.get("font-size", "13")) / 13
+            wide = width_of(it.text) * float(it.get("font-size", "13")) / 13
             left = x - {"end": wide, "middle": wide / 2}.get(it.get("text-anchor"), 0)
             ensure(left >= 0 and left + wide <= width + 4, f"{it.text!r} leaves the picture")
             for other, at, far, line in places:
@@ -543,7 +556,7 @@ class RandomRoom:
         return [f"at {time} {name} cut", *back]
 
 
-class Trusted(nutroom.Nutsim):
+class Trusted(Nutsim):
     """A nutsim that isn't asked to check the files that the test has made."""
 
     def check(self, folder, machine):
@@ -555,8 +568,8 @@ def play_rooms(program, folder, seeds):
     counts, nutsim = collections.Counter(), Trusted(program)
     for seed in seeds:
         made = RandomRoom(seed, folder)
-        room = nutroom.read_room(made.path, nutsim)
-        plan, stories = nutroom.play_run(room, nutsim, 1, seed)
+        room = read_room(made.path, nutsim)
+        plan, stories = play_run(room, nutsim, 1, seed)
         counts["machines"] += len(stories)
         for machine, host, story, bound in zip(room.machines, plan.hosts, stories, room.bounds):
             ensure(not story.is_wrong, f"room {seed}: {machine.name} passes its bound: {bound}, {story}")
@@ -579,7 +592,7 @@ def seen_of(plan, machine, host, story, bound):
     clock = plan.scenes[bound.start][host.number][0]
     # by the room's clock it isn't later either
     ensure(story.halted <= bound.end, f"{machine.name} is halted at {story.halted}, past {bound}")
-    is_forced = all(nutroom.is_forced(plan.room.last_status(machine.rules.lines[i].ups, bound.start)) for i in bound.lines)
+    is_forced = all(is_forced(plan.room.last_status(machine.rules.lines[i].ups, bound.start)) for i in bound.lines)
     law = "forced" if is_forced else "primary" if all(machine.rules.lines[i].is_primary for i in bound.lines) else "secondary"
     return [f"halts within the {law} bound"] + [f"halts at the {law} bound"] * (story.halted_clock == clock + bound.halts)
 
@@ -589,7 +602,7 @@ def syncs_of(seed, room, plan, stories):
     to keep pace, and the primary's shutdown has to begin by what it was shown."""
     for p, primary in enumerate(room.machines):
         for m, machine in enumerate(room.machines):
-            need = nutroom.needed_host_sync(primary, machine) if primary.rules.has_primary and p != m else None
+            need = needed_host_sync(room, primary, machine) if primary.rules.has_primary and p != m else None
             if need is None or need > primary.rules.host_sync or room.bounds[p] is None:
                 continue
             if plan.hosts[p].cuts or plan.hosts[m].cuts or not stories[p].keeps_pace:

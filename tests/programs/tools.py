@@ -5,6 +5,8 @@
 
 The last line is 'N passed, M failed'."""
 
+import contextlib
+import itertools
 import json
 import os
 import resource
@@ -252,9 +254,11 @@ class Teller:
             threading.Thread(target=self.tell, args=(client,), daemon=True).start()
 
     def tell(self, client):
-        for piece in self.pieces:
-            client.sendall(piece)
-            time.sleep(self.pause)
+        # a client may leave before all is sent
+        with contextlib.suppress(OSError):
+            for piece in self.pieces:
+                client.sendall(piece)
+                time.sleep(self.pause)
 
 
 class Crowded:
@@ -332,7 +336,7 @@ class Tests:
 
     def test_servers_that_take_too_long(self):
         lost = (1, b"", b"Error: connection lost\n")
-        silent, halting, crowded = Teller([]), Teller([b"BEGIN LIST "]), Crowded()
+        silent, halting, crowded = Teller([]), Teller([b"a" * LINE_MAX]), Crowded()
         asks = (("upsc", ["su700@AT"]), ("upsrw", ["su700@AT"]), ("upscmd", ["-l", "su700@AT"]))
         cases = [(*ask, place.at) for place in (silent, halting, crowded) for ask in asks]
         # the whole takes longer than a tool waits, and no pause does
@@ -347,6 +351,18 @@ class Tests:
             what = f"{tool} with the server at {at}"
             expect(end, want, what)
             ensure(5 < seconds < 60, f"{what} took {seconds:.1f} seconds")
+
+    def test_lines_without_an_end(self):
+        """A line is a bad answer at its byte 2,049, whether more follows or not, and whatever came before it."""
+        overlong = b"a" * (LINE_MAX + 1)
+        list_of_variables, list_of_commands, deed = ("upsc", ["su700@AT"]), ("upscmd", ["-l", "su700@AT"]), ("upscmd", [*ADMIN, "su700@AT", "load.off"])
+        cases = [(*ask, place.at) for place in (Teller([overlong]), Teller(itertools.repeat(b"a"))) for ask in (list_of_variables, ("upsrw", ["su700@AT"]), list_of_commands, deed)]
+        cases.append((*list_of_variables, Teller([b"BEGIN LIST VAR su700\nVAR su700 a 1\n" + overlong]).at))
+        cases.append((*deed, Teller([b"OK\n", overlong]).at))
+        for case in cases:
+            end, seconds = self.timed(case)
+            expect(end, (1, b"", b"Error: bad answer\n"), f"{case}")
+            ensure(seconds < 5, f"{case} took {seconds:.1f} seconds")
 
     def test_object_is_what_a_reader_of_json_takes(self):
         self.server.whole()

@@ -15,7 +15,7 @@ import tempfile
 import time
 
 from tests.support.harness import Shimmed, cannot_read, ensure, expect, refusals
-from tests.support.monitored import FLAG, FORCED, QUICK, SHUTDOWN, USERS, ByteByByte, Closing, Rubbish, Silent, Upstream, Watch, play
+from tests.support.monitored import FLAG, FORCED, QUICK, SHUTDOWN, USERS, ByteByByte, Closing, Endless, Rubbish, Silent, Upstream, Watch, play
 from tests.support.room import STATUS, Room, free_port, until
 
 PASSWORD = "not-to-be-shown"
@@ -143,6 +143,14 @@ class Tests(Shimmed):
             expect(found, (1, is_set(server.target), failed(silent.target, "connection lost")), "what is told")
             ensure(9 < time.monotonic() - begun < 20, "a server that doesn't answer is given up after 10 seconds")
             expect(silent.asked, [b"USERNAME mon\n"], "what it is asked")
+
+    def test_line_without_an_end(self):
+        """A server whose line is too long is given up at once, and the next one is asked."""
+        with Endless() as endless, Upstream() as server:
+            begun = time.monotonic()
+            found = self.force(line_of(endless.target) + line_of(server.target))
+            expect(found, (1, is_set(server.target), failed(endless.target, "bad answer")), "what is told")
+            ensure(time.monotonic() - begun < 5, "no time is lost")
 
     def test_queries_come_one_by_one(self):
         with OneByOne() as server, ByteByByte() as slow:

@@ -20,7 +20,7 @@ import urllib.parse
 
 from tests.support.form_rows import FORMS, NO_FORMS
 from tests.support.harness import Failed, ensure, expect, fewer, needs_proved_build, patience, refusals, run_tests, unread
-from tests.support.model import Config
+from tests.support.model import OPENED_MAX, Config
 from tests.support.player import Player, conf_steps, escaped, line_of, places, reload_steps
 from tests.support.reload_rows import RELOADS
 from tests.support.server_rows import ONLINE, OPEN, PROBE, ROOM, ROWS, STATUS, Row, ask, err, listed, live, told
@@ -189,8 +189,16 @@ class Tests:
                 raise Failed(f"{it!r} isn't in the schedule")
         opened, reloads = schedule.player.model.opened, due.count(b"; drivers [")
         ensure(reloads > 400, f"{reloads} reloads")
+        tracked, told = (due.count(it) for it in (b"OK TRACKING ", b" SUCCESS"))
+        ensure(told > 200, f"SUCCESS is told {told} times, and {tracked} requests are tracked")
         took = time.monotonic() - begun
-        print(f"   {opened} connections, 256 at once, and {reloads} reloads, in {memory} KiB; {took:.1f} s")
+        print(f"   {opened} connections, 256 at once, {reloads} reloads, {tracked} tracked requests, SUCCESS {told} times, in {memory} KiB; {took:.1f} s")
+
+    def test_no_number_is_left(self):
+        """The model opens no connection once the last number was given. No run gets there, so the test sets the number."""
+        server = Player(ROOM).model
+        server.opened = OPENED_MAX - 1
+        expect([server.open(b"a"), server.opened, server.open(b"b"), server.opened], [None, OPENED_MAX, "Full", OPENED_MAX], "the last two numbers")
 
     def test_memory_does_not_grow(self):
         needs_proved_build("how much memory is taken")

@@ -93,7 +93,8 @@ SCENES = [
         {"ups.id": "x", "ups.status": "OL"},
         [
             link(),
-            says(b"DUMPALL\n", dump({"ups.id": "x", "ups.status": "OL"})),
+            says(b'SET ups.id "z" TRACKING 7\nINSTCMD load.up TRACKING 8\n', ups_id="z"),
+            says(b"DUMPALL\n", dump({"ups.id": "z", "ups.status": "OL"})),
             says(b'SET ups.id "y" TRACKING 1\n', told(ups_id="y") + "TRACKING 1 0\n", ups_id="y"),
             says(b'SET ups.status "x" tracking 2\n', "TRACKING 2 1\n"),
             says(b"INSTCMD load.off TRACKING 3\n", told(ups_status="OFF") + "TRACKING 3 0\n", ups_status="OFF"),

@@ -19,6 +19,8 @@ RANGES_MAX = 16
 ASKS_MAX = 4096
 TRACKED_MAX = 64
 TRACKING_NUMBER_MAX = 999_999_999
+# how many connections a server opens, and the number of the last of them
+OPENED_MAX = 4_294_967_295
 
 VARIABLES_DESCRIBED = {
     b"battery.charge": b"Battery charge (percent)",
@@ -382,7 +384,7 @@ class Server:
     def open(self, address):
         if not fits(ADDRESS, address):
             return "BadAddress"
-        if len(self.connections) >= self.config.max_conn:
+        if len(self.connections) >= self.config.max_conn or self.opened >= OPENED_MAX:
             return "Full"
         self.opened += 1
         self.connections[self.opened] = Connection(address)

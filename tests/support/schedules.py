@@ -213,8 +213,8 @@ class ScheduleMaker:
             lambda: (b"INSTCMD", self.ups(), self.pick(COMMANDS), self.pick(VALUES)),
             lambda: (b"SET", b"TRACKING", self.pick([b"ON", b"on", b"ON", b"OFF", b"maybe"])),
             lambda: (b"GET", b"TRACKING"),
-            lambda: (b"GET", b"TRACKING", self.number()),
-            lambda: (b"GET", b"TRACKING", self.number()),
+            lambda: (b"GET", b"TRACKING", self.number(self.known())),
+            lambda: (b"GET", b"TRACKING", self.number(self.known())),
             lambda: (b"LOGIN", self.ups()),
             lambda: (b"PRIMARY", self.ups()),
             lambda: self.who(),
@@ -244,11 +244,21 @@ class ScheduleMaker:
         value = self.pick(variable.enums or [b"%d" % self.pick(it) for it in variable.ranges] or VALUES[:-3])
         return b"SET", b"VAR", u, v, value
 
-    def number(self):
-        """Returns the number of a tracked request, sometimes one that was never given."""
-        if self.chance(0.2):
+    def number(self, tracked):
+        """Returns the number of a tracked request: most often one of these, and sometimes one that was never given."""
+        if self.chance(0.1):
             return self.pick(NUMBERS)
+        if tracked and self.chance(0.8):
+            return b"%d" % self.pick(tracked)
         return b"%d" % max(0, self.server.given - int(self.random.expovariate(1 / 60)))
+
+    def known(self):
+        """Returns the numbers of the tracked requests that the server still knows."""
+        return [number for ups in self.server.upses for number in ups.tracked]
+
+    def pending(self, u):
+        """Returns the numbers of the tracked requests whose outcome the driver of this UPS hasn't told."""
+        return [number for ups in self.server.upses if ups.number == u for number, status in ups.tracked.items() if status == b"PENDING"]
 
     def who(self):
         return self.pick([(b"USERNAME", self.pick([*USERS, b"nobody", b"", b"u" * 129])), (b"PASSWORD", self.pick([b"pw", b"m1", b"", b"x", b"q" * 128]))])
@@ -268,8 +278,8 @@ class ScheduleMaker:
         lines += [b"SET TRACKING ON"] if self.chance(0.5) else []
         return lines + ([b"LOGIN " + self.ups()] if self.chance(0.6) else [])
 
-    def report(self):
-        """Returns a line of a driver."""
+    def report(self, u):
+        """Returns a line of the driver of this UPS."""
         forms = [
             lambda: (b"SETINFO", self.variable(), self.pick(VALUES)),
             lambda: (b"SETINFO", self.variable(), self.pick(VALUES)),
@@ -283,8 +293,8 @@ class ScheduleMaker:
             lambda: (b"SETFLAGS", self.variable(), *(self.pick(FLAGS) for _ in range(self.random.randrange(4)))),
             lambda: (self.pick([b"ADDCMD", b"ADDCMD", b"DELCMD"]), self.pick([*COMMANDS, b"", b"k" * 65, b"a b"])),
             lambda: (b"ADDCMD", b"many.%d" % self.random.randrange(200)),
-            lambda: (b"TRACKING", self.number(), self.pick([b"0", b"0", b"1", b"00", b"x"])),
-            lambda: (b"TRACKING", self.number(), self.pick([b"0", b"0", b"1", b"00", b"x"])),
+            lambda: (b"TRACKING", self.number(self.pending(u)), self.pick([b"0", b"0", b"1", b"00", b"x"])),
+            lambda: (b"TRACKING", self.number(self.pending(u)), self.pick([b"0", b"0", b"1", b"00", b"x"])),
             lambda: (self.pick([b"DUMPDONE", b"DATAOK", b"DATAOK", b"DATAOK", b"PONG"]),),
             lambda: (self.pick([b"DATASTALE", b"FOO", b"SETFLAGS", b"="]),) if self.chance(0.2) else (b"DATAOK",),
         ]
@@ -396,7 +406,7 @@ class ScheduleMaker:
             waiting = self.told.setdefault(u, bytearray())
             # a dump is told soon
             for _ in range(1 + len(waiting) // 256):
-                yield ("driver", u, self.piece(waiting, self.report))
+                yield ("driver", u, self.piece(waiting, lambda: self.report(u)))
 
     def open_steps(self):
         if self.chance(0.03):

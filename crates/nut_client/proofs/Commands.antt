@@ -3,7 +3,7 @@ use Rattle.std.proofs.Common.{◌≡◌, ℕ, true, List, [], ◌∷◌, codes, 
 use Rattle.clap.specs.Words.{App, IsAmong, Kinds, Row, fault_of, first_of, found_of, kind_of, is_simple_and_free, matches_of, rows_of}
 use Rattle.clap.specs.declared.error.ErrorKind.{ErrorKind}
 use Rattle.clap.specs.declared.ArgMatches.{ArgMatches}
-use Rattle.nut_client.specs.CommandLine.{CommandLine, Options, command_of, line_by, line_of, options_of, wanted_of}
+use Rattle.nut_client.specs.CommandLine.{Options, command_of, line_by, line_of, options_of, wanted_of}
 use Rattle.nut_client.specs.inside.Reading.{IsRead, IsReadBy, options_view}
 use Rattle.nut_client.specs.declared.command_line.Options.{Options as Read}
 use Rattle.nut_client.specs.declared.command_line.Refusal.{Refusal}

@@ -2,14 +2,13 @@
 use Rattle.std.proofs.Common.{◌≡◌, ◌⊎◌, ◌<◌, ℕ, true, List, [], ◌∷◌, ◌++◌, length, Some, None, Result, Err, IfErr, refl, sym, ap, subst, ◌∙◌, inl, inr}
 use Rattle.std.proofs.lemmas.List.{append_assoc, append-nil}
 use Rattle.std.specs.Io.KnownBytes.{prepend_known}
-use Rattle.nut_words.specs.Lines.{LineText, lines, lines_after, rest}
-use Rattle.nut_words.proofs.StreamGrowth.{lines-append}
+use Rattle.nut_words.specs.Lines.{LineText}
 use Rattle.nut_client.specs.laws.Laws.{AllBytesDecide, MoreBytesAreIgnored}
 use Rattle.nut_client.specs.Script.{Script}
-use Rattle.nut_client.specs.Tool.{Failed, Printed, Standing, Waits, after, begin, ending, is_over, run_of}
+use Rattle.nut_client.specs.Tool.{Failed, Printed, Standing, Waits, after, begin, ending, is_over, run_of, settled_lines}
 use Rattle.nut_client.specs.declared.failure.Failure.{Failure}
 use Rattle.nut_client.specs.declared.failure.Failure.TheVariants as failures
-use Rattle.nut_client.proofs.Runs.{after-append}
+use Rattle.nut_client.proofs.Runs.{after-append, settled-append}
 
 stays : (ls : List LineText) (queries : List ℕ) (s : Standing) → is_over s ≡ true → after ls (record { queries = queries; standing = s }) ≡ record { queries = queries; standing = s }
 stays [] queries s over = refl
@@ -19,9 +18,10 @@ stays (l ∷ ls) queries (Failed failure) over = stays ls queries (Failed failur
 
 pub more_bytes : MoreBytesAreIgnored
 more_bytes script bytes more over =
-    ap (λ ls. after ls (begin [] script)) (lines-append bytes more)
-    ∙ after-append (lines bytes) (lines_after (rest bytes) more) (begin [] script)
-    ∙ stays (lines_after (rest bytes) more) (run_of script bytes).queries (run_of script bytes).standing over
+    let behind = settled-append bytes more in
+    ap (λ ls. after ls (begin [] script)) behind.1
+    ∙ after-append (settled_lines bytes) behind.0 (begin [] script)
+    ∙ stays behind.0 (run_of script bytes).queries (run_of script bytes).standing over
 
 Decides : Script → Result (List ℕ) Failure → List ℕ → List ℕ → List ℕ → List ℕ → Type 0
 Decides script result bytes heard left written =

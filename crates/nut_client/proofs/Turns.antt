@@ -14,8 +14,8 @@ use Rattle.nut_client.specs.inside.Conversation.{Answered, IsReadFor}
 use Rattle.nut_link.specs.Link.{LinkValue, fresh}
 use Rattle.nut_client.specs.Script.{Script, Prints, Asks}
 use Rattle.nut_client.specs.inside.Task.{FailsBy, answered}
-use Rattle.nut_client.specs.Tool.{Ends, IsReadInTime, WasWrittenBy, after, begin, breaks_off, ending, is_over, run_of}
-use Rattle.nut_client.proofs.Runs.{after-append, append_twice, begin_more, append_none, prepend_none, prepend_twice}
+use Rattle.nut_client.specs.Tool.{Ends, IsReadInTime, WasWrittenBy, after, begin, breaks_off, ending, is_over, overlong, run_of, settled_lines}
+use Rattle.nut_client.proofs.Runs.{after-append, append_twice, begin_more, append_none, prepend_none, prepend_twice, settled}
 
 -- nothing was asked yet
 pub at_start : (script left : Script) (link : LinkValue) (unread : List ℕ) (input before : Option (List ℕ)) → left ≡ script → link ≡ fresh → unread ≡ []
@@ -31,19 +31,22 @@ at_start script left link unread input before all here none = record {
   link_is = here;
 }
 
--- bytes after whole lines complete lines of their own
-lines_behind : (b x : List ℕ) → rest b ≡ Text [] → lines (b ++ x) ≡ lines b ++ lines x
-lines_behind b x ended = lines-append b x ∙ ap (λ r. lines b ++ lines_after r x) ended ∙ ap (λ ls. lines b ++ ls) (sym (lines-append [] x))
-
 rest_behind : (b x : List ℕ) → rest b ≡ Text [] → rest (b ++ x) ≡ rest x
 rest_behind b x ended = rest-append b x ∙ ap (λ r. rest_after r x) ended ∙ sym (rest-append [] x)
 
+-- bytes after whole lines complete lines of their own
+lines_behind : (b x : List ℕ) → rest b ≡ Text [] → settled_lines (b ++ x) ≡ settled_lines b ++ settled_lines x
+lines_behind b x ended =
+    ap₂ (λ ls r. ls ++ overlong r) (lines-append b x ∙ ap (λ r. lines b ++ lines_after r x) ended ∙ ap (λ ls. lines b ++ ls) (sym (lines-append [] x))) (rest_behind b x ended)
+    ∙ append_assoc (lines b) (lines x) (overlong (rest x))
+    ∙ ap (λ ls. ls ++ settled_lines x) (sym (settled b [] ended))
+
 -- the run over what was heard before and for this query
-run_behind : (script left : Script) (b x w : List ℕ) → rest b ≡ Text [] → run_of script b ≡ begin w left → run_of script (b ++ x) ≡ after (lines x) (begin w left)
+run_behind : (script left : Script) (b x w : List ℕ) → rest b ≡ Text [] → run_of script b ≡ begin w left → run_of script (b ++ x) ≡ after (settled_lines x) (begin w left)
 run_behind script left b x w ended runs =
     ap (λ ls. after ls (begin [] script)) (lines_behind b x ended)
-    ∙ after-append (lines b) (lines x) (begin [] script)
-    ∙ ap (after (lines x)) runs
+    ∙ after-append (settled_lines b) (settled_lines x) (begin [] script)
+    ∙ ap (after (settled_lines x)) runs
 
 -- What was read before a query and for it was read in time.
 reads_on : (script left : Script) (request : Request) (next : Outcome → Script) (b x w unread unread' : List ℕ) → rest b ≡ Text [] → run_of script b ≡ begin w left → left ≡ Asks request next
@@ -57,7 +60,7 @@ reads_on script left request next b x w unread unread' ended runs asks before (i
       late = l.late;
       parted = append_assoc b x unread' ∙ ap (λ l. b ++ l) l.parted ∙ sym (append_assoc b l.early l.late);
       few = l.few;
-      waits = ap (λ r. is_over r.standing) (run_behind script left b l.early w ended runs ∙ ap (λ s. after (lines l.early) (begin w s)) asks) ∙ l.waits;
+      waits = ap (λ r. is_over r.standing) (run_behind script left b l.early w ended runs ∙ ap (λ s. after (settled_lines l.early) (begin w s)) asks) ∙ l.waits;
     })
 
 -- A query was answered.
@@ -69,7 +72,7 @@ goes_to script left left' request next outcome link link' unread unread' input m
   written = at.written ++ request_line request;
   ended = rest_behind at.heard answered.heard at.ended ∙ answered.came.0;
   runs = run_behind script left at.heard answered.heard at.written at.ended at.runs
-      ∙ ap (λ s. after (lines answered.heard) (begin at.written s)) asks
+      ∙ ap (λ s. after (settled_lines answered.heard) (begin at.written s)) asks
       ∙ answered.came.1 at.written next
       ∙ ap (begin (at.written ++ request_line request)) (sym goes);
   in_time = reads_on script left request next at.heard answered.heard at.written unread unread' at.ended at.runs asks at.in_time answered.in_time;
@@ -83,8 +86,8 @@ pub ends_asking : (script left : Script) (request : Request) (next : Outcome →
     → IsBetween script left link unread input mid before taken → left ≡ Asks request next → Answered request (Err failure) unread unread' mid (prepend_known unread' last') taken taken'
     → Ends script (Err failure) input last' before taken'
 ends_asking script left request next failure link unread unread' input mid last' before taken taken' at asks answered =
-    let run : run_of script (at.heard ++ answered.heard) ≡ after (lines answered.heard) (begin at.written (Asks request next)) =
-    run_behind script left at.heard answered.heard at.written at.ended at.runs ∙ ap (λ s. after (lines answered.heard) (begin at.written s)) asks in
+    let run : run_of script (at.heard ++ answered.heard) ≡ after (settled_lines answered.heard) (begin at.written (Asks request next)) =
+    run_behind script left at.heard answered.heard at.written at.ended at.runs ∙ ap (λ s. after (settled_lines answered.heard) (begin at.written s)) asks in
     record {
       heard = at.heard ++ answered.heard;
       unheard = unread';

@@ -8,7 +8,7 @@ use Rattle.clap.specs.declared.error.ErrorKind.TheVariants as kinds
 use Rattle.std.specs.Io.KnownBytes.{append_known, prepend_known}
 use Rattle.std.specs.declared.io.ErrorKind.{ErrorKind as IoErrorKind}
 use Rattle.std.specs.declared.io.ErrorKind.TheVariants as io_kinds
-use Rattle.nut_words.specs.Lines.{LineText, lines}
+use Rattle.nut_words.specs.Lines.{LineText, Text, TooLong, lines, rest}
 use Rattle.nut_words.specs.declared.limits.TheConstants.{PIECE_MAX}
 use Rattle.nut_proto.specs.declared.request.Request.{Request}
 use Rattle.nut_proto.specs.Requests.{request_line}
@@ -79,9 +79,19 @@ abbrev pub after : List LineText → Run → Run
 after [] run = run
 after (line ∷ more) run = after more (hears line run.queries run.standing)
 
+-- a line that is too long, before its line feed has come
+abbrev pub overlong : LineText → List LineText
+overlong (Text text) = []
+overlong TooLong = TooLong ∷ []
+
+-- The lines of these bytes of which a tool waits for no more: those that have ended, and the unfinished one if it is too
+-- long already.
+abbrev pub settled_lines : List ℕ → List LineText
+settled_lines bytes = lines bytes ++ overlong (rest bytes)
+
 -- The run of a tool whose server sends these bytes.
 abbrev pub run_of : Script → List ℕ → Run
-run_of script bytes = after (lines bytes) (begin [] script)
+run_of script bytes = after (settled_lines bytes) (begin [] script)
 
 -- How a tool ends if nothing more comes: with a text to print, or with a failure. If it still waits, it has lost its
 -- connection.

@@ -1,7 +1,7 @@
 //! Queries over a connection, one after the other.
-ghost use Rattle.std.specs.Prelude.{◌≡◌, [], IfErr, OnOk};
+ghost use Rattle.std.specs.Prelude.{◌≡◌, ◌+◌, [], IfErr, OnOk, false, min, true};
 ghost use Rattle.std.specs.Io.KnownBytes.{prepend_known};
-ghost use Rattle.nut_client.specs.inside.Conversation.{Answered, Hears, IsWaiting, Sends};
+ghost use Rattle.nut_client.specs.inside.Conversation.{Answered, HasLength, Hears, IsWaiting, Sends};
 ghost use Rattle.nut_link.specs.Link.{fresh};
 ghost use Rattle.nut_words.specs.Hearing.{IsRest};
 ghost use Rattle.nut_client.specs.declared.failure.Failure.TheVariants.{ConnectionLost};
@@ -11,6 +11,7 @@ use crate::stream::{Moved, Stream};
 use crate::unread::Unread;
 use nut_link::{Link, Outcome};
 use nut_proto::Request;
+use nut_words::LINE_MAX;
 use std::alloc::Global;
 use std::sync::Wait;
 
@@ -51,8 +52,9 @@ impl Conversation {
         if let Err(failure) = self.send(rt, stream, request) {
             return Err(failure);
         }
+        let mut length = 0usize;
         for _ in rt.forever() {
-            match self.hear(rt, stream) {
+            match self.hear(rt, stream, &mut length) {
                 Ok(Some(outcome)) => return Ok(outcome),
                 Ok(None) => {}
                 Err(failure) => return Err(failure),
@@ -87,15 +89,18 @@ impl Conversation {
         Ok(())
     }
 
-    /// Feeds the link the next part of a line, and takes out the answer if it is complete.
+    /// Feeds the link the next part of a line, and takes out the answer if it is complete. `length` is how many bytes of
+    /// an unfinished line were fed. A line that is too long is a bad answer at once: it may never end.
     fn hear<S: Stream>(
         &mut self,
         rt: &impl Wait,
         stream: &mut S,
+        length: &mut usize,
     ) -> Result<Option<Outcome>, Failure>
         requires waits { IsWaiting self.old.link.exchange }
         requires rest { IsRest self.old.link.rest }
-        ensures hears { Hears self.old.link self.old.unread result self.new.link self.new.unread
+        requires short { HasLength self.old.link.rest length.old }
+        ensures hears { Hears self.old.link self.old.unread result self.new.link length.new self.new.unread
             (prepend_known self.old.unread (S.remaining stream.old)) (prepend_known self.new.unread (S.remaining stream.new))
             (S.has_ended stream.new) }
         ensures taken { S.taken stream.new ≡ S.taken stream.old }
@@ -103,13 +108,29 @@ impl Conversation {
         if !self.unread.fill(rt, stream) {
             return Err(Failure::ConnectionLost);
         }
-        let part = self.unread.line_part();
+        let (part, is_ended) = self.unread.line_part();
         let used = part.len();
         let fed = self.link.feed(part);
         self.unread.take(used);
         if let Err(fault) = fed {
             return Err(Failure::from(fault));
         }
+        *length = length_after(*length, used, is_ended);
+        if *length > LINE_MAX {
+            return Err(Failure::BadAnswer);
+        }
         Ok(self.link.answer())
+    }
+}
+
+/// Returns how many bytes of an unfinished line were heard after a part of so many bytes, by whether it ends its line.
+fn length_after(length: usize, used: usize, is_ended: bool) -> usize
+    ensures ended { is_ended ≡ true → result ≡ 0 }
+    ensures unended { is_ended ≡ false → result ≡ min (length + used) usize.MAX }
+{
+    if is_ended {
+        0
+    } else {
+        length.saturating_add(used)
     }
 }

@@ -1,7 +1,8 @@
 //! Bytes that were read from a connection and haven't been used yet.
 ghost use Rattle.std.specs.Prelude.{◌≡◌, ◌⊎◌, ◌<◌, ◌≤◌, [], IfSome, None, drop, false, length, true};
 ghost use Rattle.std.specs.Io.KnownBytes.{prepend_known};
-ghost use Rattle.nut_client.specs.inside.Unread.{IsLinePart};
+ghost use Rattle.nut_client.specs.inside.Unread.{IsEnded};
+ghost use Rattle.nut_words.specs.Quoting.{Begins};
 
 use crate::stream::{Moved, Stream};
 use arrayvec::ArrayVec;
@@ -44,15 +45,16 @@ impl Unread {
         &self.bytes.as_slice()[self.used..]
     }
 
-    /// Returns the bytes through the first line feed, or all of them if there is none.
-    pub(crate) fn line_part(&self) -> &[u8]
-        ensures part { IsLinePart self.now result.now }
-        ensures some { 0 < length self.now → 0 < length result.now }
+    /// Returns the bytes through the first line feed, or all of them if there is none, and whether there is one.
+    pub(crate) fn line_part(&self) -> (&[u8], bool)
+        ensures part { Begins result.0.now self.now }
+        ensures ended { IsEnded result.1 result.0.now }
+        ensures some { 0 < length self.now → 0 < length result.0.now }
     {
         let bytes = self.as_slice();
         match memchr(b'\n', bytes) {
-            Some(at) => &bytes[..at + 1],
-            None => bytes,
+            Some(at) => (&bytes[..at + 1], true),
+            None => (bytes, false),
         }
     }
 

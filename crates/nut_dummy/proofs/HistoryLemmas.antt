@@ -13,7 +13,7 @@ use Rattle.nut_dummy.specs.declared.dummy.DummyFault.TheVariants as faults
 use Rattle.nut_dummy.specs.declared.command.Command.{Command}
 use Rattle.nut_dummy.specs.Command.{variable_set, value_set, command_of}
 use Rattle.nut_dummy.specs.Script.{Script, Timeline}
-use Rattle.nut_dummy.specs.Teller.{Teller, Change, Passing, Assigning, Doing, followed, dumped, untold, changed, dumped_all, commanded, answered, ended, heard_all, relinked, asked_by}
+use Rattle.nut_dummy.specs.Teller.{Teller, Change, Passing, Assigning, Doing, followed, dumped, untold, changed, dumped_all, commanded, answered, heard_all, relinked, asked_by}
 use Rattle.nut_dummy.specs.Dummy.{Content, bytes_refusal, cut_behind, moment_refusal, passed, told_bytes, took_refusal, waits_of}
 use Rattle.nut_dummy.specs.History.{Deed, Fresh, Changes, Fails, Dumps, Pongs, has_asked, seen, owed, told, by_command, by_ask, by_lines, Call, Linked, Moment, Bytes, Lost, Took, clock, input, count_taken, deeds, driver, step, refusal, IsAccepted, told_by, is_linked, left_by_cut, received, timelines, Stands, LooksBack}
 
@@ -42,7 +42,7 @@ module _ (ts : List Timeline) where
 
     fails_is : (number : Option ℕ) → commanded number None (told_by ts past n) ≡ told_by ts (Fails number ∷ past) n
     fails_is number =
-        ap (λ w. record { variables = map (seen past) ts; asked = has_asked past; waits = w }) (sym (drop-append-le n (told ts past) (ended number false) room))
+        ap (λ w. record { variables = map (seen past) ts; asked = has_asked past; waits = w }) (sym (drop-append-le n (told ts past) (owed ts (Fails number) past) room))
 
     command_is : (number : Option ℕ) (command : Option Command) → commanded number command (told_by ts past n) ≡ told_by ts (by_command number command past) n
     command_is number None = fails_is number
@@ -57,7 +57,7 @@ module _ (ts : List Timeline) where
     ask_is (Some (asks.InstCmd name parameter number)) = command_is number (command_of name)
 
     command_room : (number : Option ℕ) (command : Option Command) → n ≤ length (told ts (by_command number command past))
-    command_room number None = omega (arith, room, length-append (told ts past) (ended number false))
+    command_room number None = omega (arith, room, length-append (told ts past) (owed ts (Fails number) past))
     command_room number (Some c) = omega (arith, room, length-append (told ts past) (owed ts (Changes number (Doing (variable_set c) (value_set c))) past))
 
     change_room : (number : Option ℕ) (change : Change) → n ≤ length (told ts (Changes number change ∷ past))
@@ -81,7 +81,7 @@ module _ (ts : List Timeline) where
 
   -- what lines owe is appended to what was told before them
   command_tells : (number : Option ℕ) (command : Option Command) (past : List Deed) → (more : List ℕ) × (told ts (by_command number command past) ≡ told ts past ++ more)
-  command_tells number None past = (ended number false, refl)
+  command_tells number None past = (owed ts (Fails number) past, refl)
   command_tells number (Some c) past = (owed ts (Changes number (Doing (variable_set c) (value_set c))) past, refl)
 
   ask_tells : (ask : Option DriverAsk) (past : List Deed) → (more : List ℕ) × (told ts (by_ask ask past) ≡ told ts past ++ more)

@@ -57,13 +57,12 @@ was_told t (Fails number ∷ past) = was_told t past
 abbrev pub seen : List Deed → Timeline → Variable
 seen past t = record { name = t.name; steps = t.steps; value = value t past; told = was_told t past }
 
--- The bytes that a deed owes the link. A change is told only once DUMPALL was asked; how a request with a number ended
--- is told in any case.
+-- The bytes that a deed owes the link. A change, and how a request with a number ended, are told only once DUMPALL was asked.
 abbrev pub owed : List Timeline → Deed → List Deed → List ℕ
 owed ts Fresh past = []
 owed ts (Changes number change) past =
-    (if has_asked past then flat_map (says change) (map (seen past) ts) else []) ++ ended number (is_done change (map (seen past) ts))
-owed ts (Fails number) past = ended number false
+    if has_asked past then flat_map (says change) (map (seen past) ts) ++ ended number (is_done change (map (seen past) ts)) else []
+owed ts (Fails number) past = if has_asked past then ended number false else []
 owed ts Dumps past = dump (map (seen past) ts)
 owed ts Pongs past = codes "PONG\n"
 

@@ -103,13 +103,13 @@ abbrev pub ended : Option ℕ → Bool → List ℕ
 ended None done = []
 ended (Some number) done = codes "TRACKING " ++ (decimal number ++ (if done then codes " 0\n" else codes " 1\n"))
 
--- All variables follow a change. It is told only if DUMPALL was asked; how the request with this number ended is told
--- in any case.
+-- All variables follow a change. It is told only if DUMPALL was asked, and behind it how the request with this number
+-- ended.
 abbrev pub changed : Option ℕ → Change → Teller → Teller
 changed number change s = record {
   variables = map (followed s.asked change) s.variables;
   asked = s.asked;
-  waits = s.waits ++ ((if s.asked then flat_map (says change) s.variables else []) ++ ended number (is_done change s.variables));
+  waits = s.waits ++ (if s.asked then flat_map (says change) s.variables ++ ended number (is_done change s.variables) else []);
 }
 
 abbrev pub dumped_all : Teller → Teller
@@ -117,7 +117,7 @@ dumped_all s = record { variables = map dumped s.variables; asked = true; waits 
 
 -- A command that the driver knows sets its variable, whatever its parameter.
 abbrev pub commanded : Option ℕ → Option Command → Teller → Teller
-commanded number None s = record s { waits = s.waits ++ ended number false }
+commanded number None s = record s { waits = s.waits ++ (if s.asked then ended number false else []) }
 commanded number (Some c) s = changed number (Doing (variable_set c) (value_set c)) s
 
 -- what was asked is done

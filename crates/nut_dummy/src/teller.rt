@@ -43,23 +43,6 @@ fn queue(outbox: &mut Outbox, bytes: &[u8]) -> Result<(), AllocError>
     }
 }
 
-/// Appends the lines that tell a change, if DUMPALL was asked.
-fn put_lines(
-    out: &mut Vec<u8>,
-    asked: bool,
-    variables: &[Variable],
-    change: &Change<'_>,
-) -> Result<(), AllocError>
-    ensures ok { OnOk result (out.new.items ≡ out.old.items ++ (if asked then flat_map (says (change_of change.now)) variables.now else [])) }
-    ensures err { OnErr result (0 < length (if asked then flat_map (says (change_of change.now)) variables.now else [])) }
-{
-    if asked {
-        say_all(out, variables, change)
-    } else {
-        Ok(())
-    }
-}
-
 /// Appends the line that tells how the request with this number ended, if it has a number.
 fn put_end(
     out: &mut Vec<u8>,
@@ -75,7 +58,7 @@ fn put_end(
     Ok(())
 }
 
-/// Makes the lines that tell a change, and how the request with this number ended.
+/// Makes the lines that tell a change, and how the request with this number ended, if DUMPALL was asked.
 fn make_lines(
     out: &mut Vec<u8>,
     asked: bool,
@@ -84,12 +67,15 @@ fn make_lines(
     number: Option<u32>,
 ) -> Result<(), AllocError>
     ensures ok { OnOk result (out.new.items
-        ≡ (if asked then flat_map (says (change_of change.now)) variables.now else []) ++ ended number (is_done (change_of change.now) variables.now)) }
+        ≡ (if asked then flat_map (says (change_of change.now)) variables.now ++ ended number (is_done (change_of change.now) variables.now) else [])) }
     ensures err { OnErr result (0 < length
-        ((if asked then flat_map (says (change_of change.now)) variables.now else []) ++ ended number (is_done (change_of change.now) variables.now))) }
+        (if asked then flat_map (says (change_of change.now)) variables.now ++ ended number (is_done (change_of change.now) variables.now) else [])) }
 {
     out.clear();
-    put_lines(out, asked, variables, change)?;
+    if !asked {
+        return Ok(());
+    }
+    say_all(out, variables, change)?;
     put_end(out, variables, change, number)
 }
 
@@ -195,7 +181,20 @@ impl Teller {
                 },
                 number,
             ),
-            None => queue(&mut self.outbox, ended(number, false).as_slice()),
+            None => self.fail(number),
+        }
+    }
+
+    /// Tells that the request with this number wasn't done, if DUMPALL was asked. It takes no memory unless something is
+    /// told.
+    fn fail(&mut self, number: Option<u32>) -> Result<(), AllocError>
+        ensures ok { OnOk result (self.new ≡ commanded number None self.old) }
+        ensures err { OnErr result ((self.new ≡ self.old) × IsTrue (tells_more self.old (commanded number None self.old))) }
+    {
+        if self.asked {
+            queue(&mut self.outbox, ended(number, false).as_slice())
+        } else {
+            Ok(())
         }
     }
 

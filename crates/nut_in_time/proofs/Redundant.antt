@@ -46,11 +46,8 @@ module _ (setup : Setup) (law : IsLawful setup.server) (fine : IsSetup setup) wh
   fails pace m start middle redundant low = record {
     front = low.front;
     steady = low.steady;
-    one = 0;
-    one_there = redundant.there;
-    one_low = refl;
+    needs = record { one = 0; there = redundant.there; passes = refl; short = let none = power-none (monitor_of setup m).lines in let some = redundant.some in omega (arith, none, some) };
     lines = λ i within is. low.lines i within;
-    short = let none = power-none (monitor_of setup m).lines in let some = redundant.some in omega (arith, none, some);
   }
 
   pub last-counts : (pace : Pace) (m : ℕ) (start middle schedule : List Step) → LastCounts setup pace m start middle schedule

@@ -1,77 +1,47 @@
 -- The primary of a room on a low battery: its FSD is accepted in time.
-use Rattle.std.proofs.Common.{◌≡◌, ◌⊎◌, ℕ, zero, suc, ◌+◌, ◌<◌, ◌≤◌, ◌||◌, inl, inr, List, [], ◌∷◌, length, Bool, true, false, not, Some, is_some, refl, sym, ◌∙◌, ap, subst, arith}
+use Rattle.std.proofs.Common.{◌≡◌, ◌⊎◌, ℕ, zero, suc, ◌+◌, ◌<◌, ◌≤◌, ◌||◌, inl, inr, List, [], ◌∷◌, length, Bool, true, false, not, Some, refl, sym, ◌∙◌, ap, subst, arith}
 use Rattle.std.specs.Prelude.{nat_lt}
 use Rattle.std.proofs.lemmas.Bool.{cases_Bool, ltb-false, ltb-true, or_cases}
-use Rattle.nut_link.specs.declared.outcome.Outcome.{Outcome}
-use Rattle.nut_proto.specs.declared.reply.Reply.{Reply}
-use Rattle.nut_proto.specs.declared.reply.Reply.TheVariants as replies
-use Rattle.nut_server_spec.specs.Answer.{Line as OneLine}
 use Rattle.nut_server_spec.specs.Configuration.{number_of_ups}
 use Rattle.nut_server_spec.specs.Content.{past}
-use Rattle.nut_server_spec.specs.Event as arrivals
-use Rattle.nut_server_spec.specs.Trace.{answer_to}
-use Rattle.nut_monitor_spec.specs.declared.Query.{Query}
-use Rattle.nut_monitor_spec.specs.declared.Query.TheVariants.{Username, Password, Login, Primary, Status, Fsd, NumLogins}
+use Rattle.nut_monitor_spec.specs.declared.Query.TheVariants.{Primary}
 use Rattle.nut_monitor_spec.specs.Configuration.{Configuration, Line, has_primary, line_in}
-use Rattle.nut_monitor_spec.specs.Decision.{is_alone, power_where}
+use Rattle.nut_monitor_spec.specs.Decision.{power_where}
 use Rattle.nut_monitor_spec.specs.Event.{Event, NoticeTaken}
-use Rattle.nut_monitor_spec.specs.Query.{logins_in}
-use Rattle.nut_monitor_spec.specs.Trace.{Answer, Entry, clock, newest_answer, logins_of_answer, logins, status, critical, begun, has_begun, came, notices_waiting, trace}
+use Rattle.nut_monitor_spec.specs.Trace.{Entry, clock, status, critical, is_any, is_short, supply, begun, has_begun, came, entry_of, notices_waiting, trace}
+use Rattle.nut_monitor_spec.proofs.Lists.{earliest-none}
 use Rattle.nut_fleet.specs.Schedule.{Step, IsFront}
 use Rattle.nut_fleet.specs.World.{Setup, has_link, informed, line_of, monitor_of, world}
-use Rattle.nut_fleet.specs.Exchange.{exchanges}
-use Rattle.nut_fleet.specs.Fleet.{Exists, IsAnswered, IsSetup}
-use Rattle.nut_fleet.specs.Shown.{query_line}
+use Rattle.nut_fleet.specs.Fleet.{IsSetup}
 use Rattle.nut_fleet.proofs.Entries.{entry-answer, forced-by, forced-entry, length-trace}
-use Rattle.nut_fleet.proofs.Fronts.{front-self, front-older, fronts-compare}
-use Rattle.nut_fleet.proofs.Primaries.{forced-genuine}
-use Rattle.nut_fleet.proofs.Reading.{reply-same}
-use Rattle.nut_fleet.proofs.Sound.{EachGenuine, ForAnswer, ForcedBy, Genuine, IsLawful}
-use Rattle.nut_fleet.proofs.Statuses.{found}
-use Rattle.nut_fleet.proofs.Steps.{spoken}
+use Rattle.nut_fleet.proofs.Fronts.{front-self, front-older}
+use Rattle.nut_fleet.proofs.Sound.{EachGenuine, ForAnswer, Genuine, IsLawful}
 use Rattle.nut_fleet.proofs.Worlds.{sound}
-use Rattle.nut_fleet.proofs.Unreloaded.{as-made, no-reload}
 use Rattle.nut_in_time.specs.Pace.{Pace, FromOn, IsPolled, IsSteady, IsWatched, KeepsPace, Says, seen_at, shown_at}
 use Rattle.nut_in_time.specs.InTime.{BeginsBy, IsFailing, has_fsd, is_low, seen_by, turn}
-use Rattle.nut_in_time.specs.Room.{IsGrant, WasGranted, is_forced}
+use Rattle.nut_in_time.specs.Room.{WasGranted, is_forced}
 use Rattle.nut_in_time.proofs.Asking.{not-made, waits-outstanding}
-use Rattle.nut_in_time.proofs.Beginning.{begin-by, fsd-critical, low-critical, low-begun, linked-any}
-use Rattle.nut_in_time.proofs.Climbing.{back, climb, forth, front-of}
-use Rattle.nut_in_time.proofs.Ending.{clock-entry, clock-grows, clock-taken}
-use Rattle.nut_in_time.proofs.Forced.{schedule-stays}
-use Rattle.nut_in_time.proofs.Forcing.{Track, track-next}
-use Rattle.nut_in_time.proofs.Granted.{answered-forced, entitled, entitled-forces, said-keeps}
+use Rattle.nut_in_time.proofs.Beginning.{begin-by, fsd-critical, low-critical, low-begun, linked-any, power-less}
+use Rattle.nut_in_time.proofs.Climbing.{back, climb, forth}
+use Rattle.nut_in_time.proofs.Ending.{clock-entry, clock-grows, clock-taken, earliest-now, empty-any}
+use Rattle.nut_in_time.proofs.Forcing.{IsGone, Track, track-next}
 use Rattle.nut_in_time.proofs.Lasting.{AllGood, Chosen, Lasts, all-good, good-before, lasts-first, lasts-next, still}
 use Rattle.nut_in_time.proofs.Polling.{Current}
-use Rattle.nut_in_time.proofs.Showing.{monitor-grows}
-use Rattle.nut_in_time.proofs.Standing.{connection-kept, server-climb}
-
--- ---- clocks
-
-pub clock-later : (setup : Setup) (m : ℕ) (early late : List Step) → IsFront early late → clock (seen_at setup m early) ≤ clock (seen_at setup m late)
-clock-later setup m early late front =
-    let config = monitor_of setup m in
-    climb setup m early late (λ told. clock (seen_at setup m early) ≤ clock (trace config told)) front (omega arith)
-    (λ step earlier event within since moved before.
-    let told = (world setup earlier).monitor m in
-    let same = clock-taken config (notices_waiting (trace config (event ∷ told))) (event ∷ told) in
-    let time = clock-entry config (trace config told) event in
-    let grows = clock-grows event (clock (trace config told)) in
-    omega (arith, before, same, time, grows))
+use Rattle.nut_in_time.proofs.Unforced.{none-counted, none-forced, none-read}
 
 -- ---- statuses that stop a primary at once
 
 abbrev pub is_urgent : List (List ℕ) → Bool
 is_urgent words = has_fsd words || is_low words
 
-urgent-critical : (configuration : Configuration) (i : ℕ) (past : List Entry) → (line_in configuration.lines i).primary ≡ true →
+pub urgent-critical : (configuration : Configuration) (i : ℕ) (past : List Entry) → (line_in configuration.lines i).primary ≡ true →
     Says is_urgent (status i past) → critical configuration i past ≡ true
 urgent-critical configuration i past primary says = elim (or_cases (has_fsd says.0) (is_low says.0) says.2) [
   | inl fsd ↦ fsd-critical configuration i past (says.0, says.1, fsd)
   | inr low ↦ low-critical configuration i past (says.0, says.1, low) (inl primary)
 ]
 
-none-power : (lines : List Line) → power_where (λ i. false) lines ≡ 0
+pub none-power : (lines : List Line) → power_where (λ i. false) lines ≡ 0
 none-power [] = refl
 none-power (line ∷ lines) = let rest = none-power lines in omega (arith, rest)
 
@@ -83,17 +53,35 @@ line-primary (line ∷ lines) (suc i) less is = elim (cases_Bool line.primary) [
   | inr f ↦ rw f (line-primary lines i (omega (arith, less)) is)
 ]
 
-count-asked : (query : Query) (outcome : Outcome) → is_some (logins_in query outcome) ≡ true → query ≡ NumLogins
-count-asked NumLogins outcome is = refl
-count-asked Username outcome is = cc
-count-asked Password outcome is = cc
-count-asked Login outcome is = cc
-count-asked Primary outcome is = cc
-count-asked Status outcome is = cc
-count-asked Fsd outcome is = cc
-
 abbrev pub every : ℕ → Bool
 every i = true
+
+-- ---- before a shutdown begins
+
+enough-before : (configuration : Configuration) (past : List Entry) → is_any past ≡ true → has_begun configuration past ≡ false →
+    configuration.min_supplies ≤ supply configuration past
+enough-before configuration [] any none = cc
+enough-before configuration (e ∷ p) any none =
+    ltb-false (supply configuration (e ∷ p)) configuration.min_supplies
+    (earliest-none (is_short configuration) p e (empty-any (begun configuration (e ∷ p)) none))
+
+-- if there is one line, it becomes critical as the shutdown begins
+wild-now : (configuration : Configuration) (past : List Entry) (entry : Entry) → length configuration.lines ≡ 1 → is_any past ≡ true →
+    has_begun configuration past ≡ false → has_begun configuration (entry ∷ past) ≡ true → critical configuration 0 (entry ∷ past) ≡ true
+wild-now configuration past entry one any none begins = elim (cases_Bool (critical configuration 0 (entry ∷ past))) [
+  | inl t ↦ t
+  | inr f ↦
+      let short = ltb-true (supply configuration (entry ∷ past)) configuration.min_supplies ((earliest-now (is_short configuration) entry past none begins).1) in
+      let enough = enough-before configuration past any none in
+      let more : supply configuration past ≤ supply configuration (entry ∷ past) =
+      power-less (λ i. not (critical configuration i past)) (λ i. not (critical configuration i (entry ∷ past))) configuration.lines
+      (by (λ i. not (critical configuration i past)) (λ i. not (critical configuration i (entry ∷ past))) (rw f refl)) in
+      absurd (omega (arith, short, enough, more))
+]
+  where
+    by : (a b : ℕ → Bool) → b 0 ≡ true → (i : ℕ) → i < length configuration.lines → a i ≡ true → b i ≡ true
+    by a b is zero less before = is
+    by a b is (suc i) less before = absurd (omega (arith, one, less))
 
 -- ---- a machine with one line
 
@@ -108,11 +96,13 @@ module _ (setup : Setup) (pace : Pace) (m : ℕ) (Words : List (List ℕ) → Bo
   failing = record {
     front = front;
     steady = steady;
-    one = 0;
-    one_there = omega (arith, one);
-    one_low = refl;
+    needs = record {
+      one = 0;
+      there = omega (arith, one);
+      passes = refl;
+      short = let none : power_where (λ i. not (every i)) (monitor_of setup m).lines ≡ 0 = none-power (monitor_of setup m).lines in omega (arith, none, needed);
+    };
     lines = lines-watched;
-    short = let none : power_where (λ i. not (every i)) (monitor_of setup m).lines ≡ 0 = none-power (monitor_of setup m).lines in omega (arith, none, needed);
   }
 
 -- ---- the primary, while nobody has forced the shutdown
@@ -154,66 +144,10 @@ module _ (setup : Setup) (law : IsLawful setup.server) (fine : IsSetup setup) (p
   pub primary-begins : BeginsBy config (seen_by config pace t0) (seen_by config pace t0) (seen_at setup p schedule)
   primary-begins = begin-by setup law fine schedule pace p is_urgent every start (failing setup pace p is_urgent start schedule front steady one needed watched) urgent
 
-  module _ (long : pace.delay ≤ config.host_sync) (granted : WasGranted setup p Primary start) (not_begun : has_begun config (seen_at setup p start) ≡ false)
+  module _ (long : pace.delay ≤ config.host_sync) (granted : WasGranted setup p 0 Primary start) (not_begun : has_begun config (seen_at setup p start) ≡ false)
       (not_forced : is_forced setup u schedule ≡ false) where
-    -- no FSD was accepted
-    none-accepted : (e : List Step) → IsFront e schedule → (step : Step) (early : List Step) → IsFront (step ∷ early) e → IsAnswered setup p 0 Fsd replies.FsdSet step early → ⊥
-    none-accepted e inside step early played answered =
-        let now = answered-forced setup p 0 u step early (spoken setup p 0 fine there) (ap (λ n. number_of_ups n setup.server.upses) name ∙ number) answered in
-        let bad : false ≡ true = sym not_forced ∙ schedule-stays setup u (step ∷ early) schedule (front-of (step ∷ early) e schedule played inside) now in cc
-
-    -- the server accepts each FSD on the link since `start`
-    accepts : (early : List Step) (reply : Reply) → IsFront start early → IsFront early schedule →
-        answer_to setup.server (past setup.server (world setup early).server) ((world setup early).connection p 0) (query_line line Fsd) ≡ OneLine reply → reply ≡ replies.FsdSet
-    accepts early reply since inside answered =
-        let c0 = (world setup start).connection p 0 in
-        let c = (world setup early).connection p 0 in
-        let t = past setup.server (world setup early).server in
-        let line_fine = spoken setup p 0 fine there in
-        let same : c ≡ c0 = connection-kept setup p 0 start early since (λ e from to. keeps.linked e (front-of e early schedule to inside) from) in
-        let said : Exists (IsGrant line Primary) (exchanges c0 t) =
-        server-climb setup start early (λ h. Exists (IsGrant line Primary) (exchanges c0 (past setup.server h))) since granted
-        (λ e event from before. said-keeps setup.server c0 (IsGrant line Primary) event (world setup e).server before) in
-        let said' : Exists (IsGrant line Primary) (exchanges c t) = subst (λ d. Exists (IsGrant line Primary) (exchanges d t)) (sym same) said in
-        let own = (((sound setup law fine early).monitors p).links 0 there).link.own in
-        let none = no-reload setup early in
-        let right = entitled setup.server line c (arrivals.steps (world setup early).server) none line_fine own said' in
-        let made = as-made setup.server (arrivals.steps (world setup early).server) none in
-        reply-same reply replies.FsdSet (sym answered ∙ entitled-forces setup.server line c t made line_fine own right)
-
-    module _ (e : List Step) (inside : IsFront e schedule) where
-      -- no number of logins was read
-      none-counted : (past : List Entry) → EachGenuine setup e p past → is_alone (logins 0 past) ≡ true → ⊥
-      none-counted past all alone = elim (found setup e p (λ query outcome. is_some (logins_in query outcome)) 0 past all) [
-        | inl none ↦
-            let bad : false ≡ true = sym (ap (λ t. is_alone (logins_of_answer (newest_answer t))) none) ∙ alone in cc
-        | inr f ↦
-            let a = f.answer in
-            let forced = forced-genuine setup e p law a.link a.asked.event f.past (f.genuine.forced (count-asked a.asked.query a.outcome f.passed)) f.older in
-            none-accepted e inside forced.step forced.early forced.played
-            (subst (λ j. IsAnswered setup p j Fsd replies.FsdSet forced.step forced.early) f.link forced.answered)
-      ]
-
-      -- no FSD was answered OK
-      none-forced : (n : ℕ) (past : List Entry) → EachGenuine setup e p past → ForcedBy 0 n past → ⊥
-      none-forced n past all is =
-          let forced = forced-genuine setup e p law 0 n past is all in
-          none-accepted e inside forced.step forced.early forced.played forced.answered
-
-      -- no answer to an FSD that was put since `start` was read
-      none-read : (past : List Entry) (a : Answer) → Genuine setup e p past a → a.link ≡ 0 → a.asked.query ≡ Fsd → n0 < a.asked.event → ⊥
-      none-read past a g link query late =
-          let early = g.was.early in
-          let to_e : IsFront early e = front-older g.was.step early e g.was.played in
-          let to_end : IsFront early schedule = front-of early e schedule to_e inside in
-          let since : IsFront start early = elim (fronts-compare start early schedule front to_end) [
-            | inl is ↦ is
-            | inr is ↦ let few = monitor-grows setup p early start is in let asked = g.asked in absurd (omega (arith, few, asked, late))
-          ] in
-          let answered : IsAnswered setup p 0 Fsd g.reply g.was.step early =
-          subst (λ q. IsAnswered setup p 0 q g.reply g.was.step early) query (subst (λ j. IsAnswered setup p j a.asked.query g.reply g.was.step early) link g.was.answered) in
-          none-accepted e inside g.was.step early g.was.played
-          (subst (λ r. IsAnswered setup p 0 Fsd r g.was.step early) (accepts early g.reply since to_end answered.answered) answered)
+    number' : number_of_ups (line_of setup p 0).ups setup.server.upses ≡ Some u
+    number' = ap (λ n. number_of_ups n setup.server.upses) name ∙ number
 
     abbrev Is : List Event → Type 0
     Is told = (t0 ≤ clock (trace config told))
@@ -246,12 +180,14 @@ module _ (setup : Setup) (law : IsLawful setup.server) (fine : IsSetup setup) (p
           lasts-next config n0 t0 most pace is_urgent every turned soon told event before now little lasts,
           track-next config 0 n0 t0 most pace is_urgent before_ event within primary turned long
               (not-made config told event 0 within g.accepted.1 b.there) g.there little from (omega (arith, since, count)) b.prompt g.prompt
-              (none-counted e inside (trace config (event ∷ told)) all)
+              (none-counted setup law fine p 0 u start schedule front there number' keeps.linked granted not_forced e inside (trace config (event ∷ told)) all)
               (λ f. let midway = came config before_ event ∷ before_ in
-              none-forced e inside (length midway) (trace config (event ∷ told)) all
+              none-forced setup law fine p 0 u start schedule front there number' keeps.linked granted not_forced e inside (length midway) (trace config (event ∷ told)) all
               (forced-entry config before_ event 0 (length midway) (forced-by 0 (length midway) midway (omega arith) f)))
-              (λ a answer. none-read e inside before_ a
+              (λ a answer. none-read setup law fine p 0 u start schedule front there number' keeps.linked granted not_forced e inside before_ a
               (subst (λ o. ForAnswer o (Genuine setup e p before_)) (entry-answer config before_ event ∙ answer) all.0))
+              (tame-at told before)
+              (wild-now config before_ (entry_of config before_ event) one (linked-any 0 before_ b.there))
               (λ not_yet. (
                 λ c. let begun : has_begun config before_ ≡ true = current-begun told before c in let bad : false ≡ true = sym not_yet ∙ begun in cc,
                 lasts.polls not_yet 0 within refl,
@@ -271,6 +207,20 @@ module _ (setup : Setup) (law : IsLawful setup.server) (fine : IsSetup setup) (p
             let none : power_where (λ i. not (every i)) config.lines ≡ 0 = none-power config.lines in
             low-begun config every (trace config told) (linked-any 0 (trace config told) (good 0 within refl).there) (omega (arith, none, needed))
             (λ i less is. critical-at told c i less)
+
+        tame-at : (told : List Event) → Goods told → has_begun config (trace config told) ≡ false → critical config 0 (trace config told) ≡ false
+        tame-at told good none = elim (cases_Bool (critical config 0 (trace config told))) [
+          | inr f ↦ f
+          | inl t ↦
+              let none_left : power_where (λ i. not (every i)) config.lines ≡ 0 = none-power config.lines in
+              let begun : has_begun config (trace config told) ≡ true =
+              low-begun config every (trace config told) (linked-any 0 (trace config told) (good 0 within refl).there) (omega (arith, none_left, needed)) (only t) in
+              let bad : false ≡ true = sym none ∙ begun in cc
+        ]
+          where
+            only : critical config 0 (trace config told) ≡ true → (i : ℕ) → i < length config.lines → every i ≡ true → critical config i (trace config told) ≡ true
+            only t zero less is = t
+            only t (suc i) less is = absurd (omega (arith, one, less))
 
     tracks : Track config 0 n0 t0 most pace is_urgent (seen_at setup p schedule)
     tracks =
@@ -320,7 +270,9 @@ module _ (setup : Setup) (law : IsLawful setup.server) (fine : IsSetup setup) (p
         ]
 
     pub soon-behind : (has_begun config (seen_at setup p schedule) ≡ false)
-        ⊎ (clock (seen_at setup p schedule) ≤ clock (begun config (seen_at setup p schedule)) + pace.delay + pace.delay)
+        ⊎ (clock (seen_at setup p schedule) ≤ clock (begun config (seen_at setup p schedule)) + pace.delay)
+        ⊎ (IsGone config 0 (begun config (seen_at setup p schedule))
+        × (clock (seen_at setup p schedule) < clock (begun config (seen_at setup p schedule)) + pace.delay + pace.delay))
     soon-behind =
         let prompt = keeps.prompt schedule (front-self schedule) front in
         elim tracks [
@@ -328,9 +280,11 @@ module _ (setup : Setup) (law : IsLawful setup.server) (fine : IsSetup setup) (p
           | inr (inl w) ↦
               let in_time = prompt w.last (waits-outstanding 0 (seen_at setup p schedule) w.last w.waits) in
               let before = w.before in
-              inr (omega (arith, in_time, before))
+              inr (inl (omega (arith, in_time, before)))
           | inr (inr a) ↦
               let in_time = prompt a.last (waits-outstanding 0 (seen_at setup p schedule) a.last a.waits) in
-              let promptly = a.promptly in
-              inr (omega (arith, in_time, promptly))
+              elim a.promptly [
+                | inl le ↦ inr (inl (omega (arith, in_time, le)))
+                | inr late ↦ let lt = late.1 in inr (inr (late.0, omega (arith, in_time, lt)))
+              ]
         ]

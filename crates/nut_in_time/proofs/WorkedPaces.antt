@@ -53,11 +53,8 @@ skip-fails : IsFailing alone skipping 0 is_low all start (leaps ++ start)
 skip-fails = record {
   front = front-append leaps start;
   steady = steady-holds alone skipping 0 start leaps skips-steady-is;
-  one = 0;
-  one_there = omega arith;
-  one_low = refl;
+  needs = record { one = 0; there = omega arith; passes = refl; short = omega arith };
   lines = by;
-  short = omega arith;
 }
   where
     by : (i : ℕ) → i < 1 → all i ≡ true → IsWatched alone skipping 0 i is_low start (leaps ++ start)
@@ -68,11 +65,8 @@ late-fails : IsFailing alone sluggish 0 is_low all on_its_way (comes_at_last ++ 
 late-fails = record {
   front = front-append comes_at_last on_its_way;
   steady = steady-holds alone sluggish 0 on_its_way comes_at_last late-steady-is;
-  one = 0;
-  one_there = omega arith;
-  one_low = refl;
+  needs = record { one = 0; there = omega arith; passes = refl; short = omega arith };
   lines = by;
-  short = omega arith;
 }
   where
     by : (i : ℕ) → i < 1 → all i ≡ true → IsWatched alone sluggish 0 i is_low on_its_way (comes_at_last ++ on_its_way)
@@ -89,11 +83,8 @@ first-fails =
     record {
       front = front-append reads_first first_low;
       steady = steady-holds needs_both pace 0 first_low reads_first first-steady-is;
-      one = 0;
-      one_there = omega arith;
-      one_low = refl;
+      needs = record { one = 0; there = omega arith; passes = refl; short = omega arith };
       lines = λ i within is. subst (λ k. IsWatched needs_both pace 0 k is_low first_low (reads_first ++ first_low)) (sym (only-first i is)) watched;
-      short = omega arith;
     }
 
 pub pace-examples : PaceExamples
@@ -106,7 +97,7 @@ pace-examples = record {
   late_by = refl;
   late_not_begun = refl;
   late_begun = refl;
-  setup_of_both = ((spoken true, (spoken-too, tt)), tt);
+  setup_of_both = ((spoken true, (spoken-too true, tt)), tt);
   first_fails = first-fails;
   first_by = refl;
   first_not_begun = refl;

@@ -14,11 +14,11 @@ is_together setup drift p m x y early =
     nat_le (clock (seen_at setup p early) + x) (clock (seen_at setup m early) + y)
     && nat_le (clock (seen_at setup m early) + y) (clock (seen_at setup p early) + x + drift)
 
--- machine m keeps step as `KeepsStep` says
-abbrev pub keeps_step : Setup → Pace → ℕ → ℕ → ℕ → ℕ → ℕ → List Step → List Step → Bool
-keeps_step setup pace drift p m x y start newest =
+-- machine m keeps step over its link i, as `KeepsStep` and `KeepsStepWith` say
+abbrev pub keeps_step : Setup → Pace → ℕ → ℕ → ℕ → ℕ → ℕ → ℕ → List Step → List Step → Bool
+keeps_step setup pace drift p m i x y start newest =
     is_steady setup pace m start newest
-    && (each_since (keeps_pace setup pace m 0) start newest && (each_since (λ early. is_open setup (world setup early) m 0) start newest
+    && (each_since (keeps_pace setup pace m i) start newest && (each_since (λ early. is_open setup (world setup early) m i) start newest
     && each_since (is_together setup drift p m x y) start newest))
 
 -- the UPS is shown at this time, and on a low battery if nobody has forced its shutdown

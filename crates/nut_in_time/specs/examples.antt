@@ -1,3 +1,6 @@
 pub mod Examples
 pub mod PaceExamples
 pub mod RoomExamples
+pub mod RoomPaceExamples
+pub mod CutOffExamples
+pub mod SeveralExamples

@@ -5,6 +5,7 @@ pub mod Rules
 pub mod Forms
 pub mod Lines
 pub mod Requests
+pub mod PlainQueries
 pub mod Replies
 pub mod DriverAsks
 pub mod Descriptions

@@ -11,6 +11,7 @@ pub mod Reloaded
 pub mod Renumbered
 pub mod Reports
 pub mod Pieces
+pub mod PlainLines
 pub mod Places
 pub mod Orderly
 pub mod Searching
@@ -18,6 +19,7 @@ mod Remembered
 pub mod Entries
 pub mod Acting
 pub mod Quiet
+pub mod QuietQueries
 pub mod Closing
 pub mod Deciding
 pub mod Saying

@@ -17,6 +17,7 @@ mod effect;
 mod limits;
 mod lists;
 mod numbering;
+mod plain;
 mod queries;
 mod reloading;
 mod scene;

@@ -20,7 +20,7 @@ fn list_upses<'a>(scene: &'a Scene<'_>) -> Answer<'a>
 }
 
 /// Answers `LIST VAR`: the variables of a UPS.
-fn list_variables<'a>(scene: &'a Scene<'_>, ups: &'a [u8]) -> Result<Answer<'a>, Refusal>
+pub fn list_variables<'a>(scene: &'a Scene<'_>, ups: &'a [u8]) -> Result<Answer<'a>, Refusal>
     ensures { outcome result ≡ list_answer scene.now (queries.Var ups.now) }
 {
     let device = scene.device_named(ups)?;

@@ -187,7 +187,7 @@ impl Server {
             Arrival::DriverBytes(u, piece) => self.driver_bytes(u, piece),
             Arrival::DriverTook(u, n) => self.driver_took(u, n),
             Arrival::DriverDown(u) => self.driver_down(u),
-            Arrival::Reload(config) => self.reload(Box::into_inner(config)),
+            Arrival::Reload(config) => self.reload_boxed(config),
         }
     }
 

@@ -7,7 +7,7 @@ ghost use Rattle.nut_state.specs.Change.{set_info, del_info, add_enum, del_enum,
 ghost use Rattle.nut_state.specs.inside.Adding.{may_add};
 ghost use Rattle.std.specs.Option.{option_map_or};
 ghost use Rattle.nut_state.specs.laws.Holds.{Holds, IsWithinLimits};
-ghost use Rattle.nut_state.specs.Sorted.{IsAscending};
+ghost use Rattle.nut_state.specs.Sorted.{IsAscending, IsFree};
 ghost use Rattle.nut_state.specs.Text.{is_name};
 ghost use Rattle.std.specs.List.{All, insert};
 ghost use Rattle.std.specs.Result.{is_ok};
@@ -68,7 +68,7 @@ fn insert_variable(
     value: &[u8],
 ) -> Result<(), AllocError>
     requires place { place ≤ length variables.old.items }
-    requires name { length name.now ≤ NAME_MAX }
+    requires name { is_name name.now ≡ true }
     requires value { length value.now ≤ VALUE_MAX }
     ensures { variables.new.items ≡ (if is_ok result then insert variables.old.items place (fresh name.now value.now) else variables.old.items) }
 {
@@ -88,28 +88,39 @@ fn insert_command(commands: &mut Vec<Name>, place: usize, name: &[u8]) -> Result
 
 /// Each function here does what one kind of line asks for, if the table accepts it. Otherwise it changes nothing.
 impl UpsState {
+    /// SETINFO of a variable that isn't there, but would be at this place.
+    fn add_variable(&mut self, place: usize, name: &[u8], value: &[u8]) -> Result<(), AllocError>
+        requires free { IsFree (λ v. v.name) name.now self.old.variables place }
+        requires value { length value.now ≤ VALUE_MAX }
+        ensures ok { OnOk result (self.new ≡ after self.old (set_info name.now value.now)) }
+        ensures err { OnErr result (self.new ≡ self.old) }
+        ensures succeeds { adds self.old (set_info name.now value.now) ≡ false → IsOk result }
+    {
+        if !is_name(name) {
+            return Ok(());
+        }
+        if self.variables.len() >= VARIABLES_MAX {
+            return Ok(());
+        }
+        insert_variable(&mut self.variables, self.alloc, place, name, value)
+    }
+
     /// SETINFO: gives a variable a value. Adds the variable if there is none with this name.
     fn set_info(&mut self, name: &[u8], value: &[u8]) -> Result<(), AllocError>
         ensures ok { OnOk result (self.new ≡ after self.old (set_info name.now value.now)) }
         ensures err { OnErr result (self.new ≡ self.old) }
         ensures succeeds { adds self.old (set_info name.now value.now) ≡ false → IsOk result }
     {
-        if !is_name(name) || value.len() > VALUE_MAX {
+        if value.len() > VALUE_MAX {
             return Ok(());
         }
         match place_of_variable(&self.variables, name) {
+            // a name that is listed is a name
             Ok(place) => {
                 self.variables[place].set_value(value);
                 Ok(())
             }
-            Err(place) if self.variables.len() < VARIABLES_MAX => insert_variable(
-                &mut self.variables,
-                self.alloc,
-                place,
-                name,
-                value,
-            ),
-            Err(_) => Ok(()),
+            Err(place) => self.add_variable(place, name, value),
         }
     }
 

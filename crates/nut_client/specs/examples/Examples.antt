@@ -75,6 +75,8 @@ pub record RunExamples : Type 0 where
   pub bytes_behind : run_of value_of_v (codes "VAR u v \"1 2\"\nERR DATA-STALE\nVA") ≡ record { queries = codes "GET VAR u v\n"; standing = Printed (codes "1 2\n") }
   pub refused : run_of value_of_v (codes "ERR DATA-STALE\nVAR u v 1\n") ≡ record { queries = codes "GET VAR u v\n"; standing = Failed (failures.Refused (codes "DATA-STALE")) }
   pub of_another : run_of value_of_v (codes "VAR u w 1\nVAR u v 1\n") ≡ record { queries = codes "GET VAR u v\n"; standing = Failed failures.BadAnswer }
+  pub longest : ending (run_of value_of_v (times 2048 (codes "a"))).standing ≡ Err failures.ConnectionLost
+  pub too_long : run_of value_of_v (times 2049 (codes "a")) ≡ record { queries = codes "GET VAR u v\n"; standing = Failed failures.BadAnswer }
   pub unfinished : ending (run_of value_of_v (codes "VAR u v 1")).standing ≡ Err failures.ConnectionLost
   pub unwritable : run_of (script (codes "u") (wanteds.Value (codes "a\nb"))) (codes "VAR u v 1\n") ≡ record { queries = []; standing = Failed failures.BadQuery }
   pub listed : run_of (script (codes "u") wanteds.Variables) (codes "BEGIN LIST VAR u\nVAR u v \"1 2\"\nVAR u w 3\nEND LIST VAR u\n") ≡ record { queries = codes "LIST VAR u\n"; standing = Printed (codes "v: 1 2\nw: 3\n") }

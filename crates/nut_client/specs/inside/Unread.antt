@@ -1,7 +1,6 @@
 -- The next part of what was read, up to its first line feed.
-use Rattle.std.specs.Prelude.{◌≡◌, ℕ, List, [], ◌∷◌, ◌++◌, ◌⊎◌}
+use Rattle.std.specs.Prelude.{◌≡◌, ℕ, Bool, true, false, List, [], ◌∷◌, ◌++◌}
 use Rattle.nut_words.specs.Lines.{parts}
-use Rattle.nut_words.specs.Quoting.{Begins}
 
 -- bytes without a line feed
 abbrev pub IsUnbroken : List ℕ → Type 0
@@ -11,6 +10,7 @@ IsUnbroken bytes = parts bytes ≡ bytes ∷ []
 abbrev pub IsWhole : List ℕ → Type 0
 IsWhole part = (text : List ℕ) × IsUnbroken text × (part ≡ text ++ 10 ∷ [])
 
--- The part begins these bytes, and has no line feed except perhaps as its last byte.
-abbrev pub IsLinePart : List ℕ → List ℕ → Type 0
-IsLinePart bytes part = Begins part bytes × (IsUnbroken part ⊎ IsWhole part)
+-- whether this part ends its line
+abbrev pub IsEnded : Bool → List ℕ → Type 0
+IsEnded true part = IsWhole part
+IsEnded false part = IsUnbroken part

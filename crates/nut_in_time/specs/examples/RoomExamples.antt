@@ -6,7 +6,9 @@ use Rattle.nut_fleet.specs.World.{Setup, monitor_of}
 use Rattle.nut_fleet.specs.Fleet.{IsSetup}
 use Rattle.nut_fleet.specs.examples.Examples.{pair, primary, secondary, live, rounds, says}
 use Rattle.nut_in_time.specs.Pace.{Pace, seen_at}
-use Rattle.nut_in_time.specs.Room.{IsRoom, IsReady, IsStopping, forced_in, host_sync_for, is_forced, is_stopped, other_halted_in, primary_halted_in}
+use Rattle.nut_in_time.specs.InTime.{halted_in, is_stopped}
+use Rattle.nut_in_time.specs.Room.{Follows, IsReady, IsRoom, IsStopping, forced_in, host_sync_for, is_forced, other_halted_in}
+use Rattle.nut_in_time.specs.examples.Examples.{all}
 
 -- a query is answered in the second in which it is put
 abbrev pub at_once : Pace
@@ -15,7 +17,8 @@ at_once = record { delay = 0; skip = 0 }
 -- A primary and another machine, both with POLLFREQ 1 and FINALDELAY 1; the primary has this HOSTSYNC.
 abbrev pub room : ℕ → Setup
 room host_sync = record pair {
-  monitors = record primary { poll_freq = 1; final_delay = 1; host_sync = host_sync } ∷ record secondary { poll_freq = 1; final_delay = 1 } ∷ [];
+  monitors = record primary { poll_freq = 1; final_delay = 1; host_sync = host_sync }
+      ∷ record secondary { poll_freq = 1; final_delay = 1 } ∷ [];
 }
 
 -- Both are logged in. The clock of the other machine is a second ahead. Then the battery is low.
@@ -44,12 +47,13 @@ over = reverse (MonitorClock 1 6 ∷ MonitorClock 0 5 ∷ []) ++ in_time
 pub record RoomExamples : Type 0 where
   -- both rooms fulfil the premises of the law
   pub setups : IsSetup (room 1) × IsSetup (room 2)
-  pub rooms : IsRoom (room 1) (codes "su700") 0 0 × IsRoom (room 2) (codes "su700") 0 0
-  pub ready : IsReady (room 1) 0 0 low × IsReady (room 2) 0 0 low
-  pub stopping_early : IsStopping (room 1) at_once 1 (codes "su700") 0 0 low (too_early ++ low)
-  pub stopping : IsStopping (room 2) at_once 1 (codes "su700") 0 0 low (over ++ low)
+  pub rooms : IsRoom (room 1) all (λ i. 0) 0 × IsRoom (room 2) all (λ i. 0) 0
+  pub following : Follows (room 1) 0 1 × Follows (room 2) 0 1
+  pub ready : IsReady (room 1) (λ i. 0) 0 low × IsReady (room 2) (λ i. 0) 0 low
+  pub stopping_early : IsStopping (room 1) (λ m. at_once) 1 all (λ i. 0) 0 low (too_early ++ low)
+  pub stopping : IsStopping (room 2) (λ m. at_once) 1 all (λ i. 0) 0 low (over ++ low)
   -- HOSTSYNC has to be 2: with a second less the primary leaves Forcing before the other machine is in Halted
-  pub needed : host_sync_for (monitor_of (room 2) 1) at_once 1 ≡ 2
+  pub needed : host_sync_for (monitor_of (room 2) 0) at_once false (monitor_of (room 2) 1) at_once 1 ≡ 2
   pub goes_early : has_ended (monitor_of (room 1) 0) (seen_at (room 1) 0 (too_early ++ low)) ≡ true
   pub still_up : is_stopped (room 1) 1 (too_early ++ low) ≡ false
   pub goes_in_time : has_ended (monitor_of (room 2) 0) (seen_at (room 2) 0 (in_time ++ low)) ≡ true
@@ -58,11 +62,11 @@ pub record RoomExamples : Type 0 where
   pub forced_by : forced_in (monitor_of (room 2) 0) at_once ≡ 1
   pub not_yet_forced : is_forced (room 2) 0 (unforced ++ low) ≡ false
   pub at_that_time : clock (seen_at (room 2) 0 (unforced ++ low)) ≡ 1
-  pub other_by : other_halted_in (monitor_of (room 2) 0) (monitor_of (room 2) 1) at_once 1 ≡ 4
+  pub other_by : other_halted_in (monitor_of (room 2) 0) at_once (monitor_of (room 2) 1) at_once 1 ≡ 4
   pub other_started : clock (seen_at (room 2) 1 low) ≡ 1
   pub other_up : is_stopped (room 2) 1 (known ++ low) ≡ false
   pub other_at : clock (seen_at (room 2) 1 (known ++ low)) ≡ 4
-  pub primary_by : primary_halted_in (monitor_of (room 2) 0) at_once ≡ 5
+  pub primary_by : halted_in (monitor_of (room 2) 0) at_once ≡ 5
   pub primary_up : is_stopped (room 2) 0 (in_time ++ low) ≡ false
   pub primary_at : clock (seen_at (room 2) 0 (in_time ++ low)) ≡ 4
   pub all_down : is_stopped (room 2) 0 (over ++ low) ≡ true

@@ -1,12 +1,14 @@
 //! Handles the lines of clients: decides on each, queues its answer and applies its effect.
 
 ghost use Rattle.std.specs.Prelude.{◌≡◌, ◌<◌, ℕ, Some, Ok, Err, false, IfErr, IsTrue, OnOk, OnErr, length, slice_get};
+ghost use Rattle.std.specs.Prelude.{not, ◌||◌, true};
+ghost use Rattle.nut_proto.specs.PlainQueries.{request_of};
 ghost use Rattle.nut_words.specs.Cutter.{line_of};
 ghost use Rattle.nut_words.specs.Reader.{with_backslash};
 ghost use Rattle.nut_words.specs.declared.words.WordFault.TheVariants.{Memory};
 ghost use Rattle.nut_server_spec.specs.Acceptance.{line_feeds, session_of};
 ghost use Rattle.nut_server_spec.specs.Answer.{answer};
-ghost use Rattle.nut_server_spec.specs.Command.{asked, command_in, command_of};
+ghost use Rattle.nut_server_spec.specs.Command.{Asks, asked, command_in, command_of};
 ghost use Rattle.nut_server_spec.specs.Content.{Session};
 ghost use Rattle.nut_server_spec.specs.machine.Machine.{answer_in, bytes_heard, caller_of, scene_of};
 ghost use Rattle.nut_server_spec.specs.Outcome.{is_blank, line_takes};
@@ -16,10 +18,12 @@ ghost use Rattle.nut_server.specs.inside.Lines.{line_heard_by};
 ghost use Rattle.nut_server.specs.inside.Place.{Stands};
 
 use crate::decision::{Decision, decide};
+use crate::effect::Effect;
+use crate::plain::write_answer;
 use crate::scene::Scene;
 use crate::server::Server;
 use crate::text::put_answer;
-use nut_proto::{Refusal, Request, read};
+use nut_proto::{PlainQuery, Refusal, Request, read, read_plain};
 use nut_words::{HearLine, Line, WordFault, Words, hear_lines, split};
 use std::alloc::{AllocError, Global};
 
@@ -98,6 +102,46 @@ impl Server {
         if self.connections.at(at).has_logged_out() {
             return Ok(());
         }
+        if let Line::Text(text) = line
+            && let Some(query) = read_plain(text)
+        {
+            return self.hear_query(at, query);
+        }
+        self.hear_spelled(at, line)
+    }
+
+    /// Answers a query of the connection at this place. If memory cannot be allocated, nothing changes.
+    fn hear_query(&mut self, at: usize, query: PlainQuery<'_>) -> Result<(), AllocError>
+        requires { at < length self.old.sessions }
+        ensures ok { (c : ℕ) (k : Session) → Stands c self.old.sessions at → slice_get self.old.sessions at ≡ Some k
+            → OnOk result (self.new ≡ answered_by c (Asks (request_of query.entry))
+            (answer (scene_of self.old) (caller_of k) (Asks (request_of query.entry))) self.old) }
+        ensures err { OnErr result (self.new ≡ self.old) }
+    {
+        let scene = Scene {
+            config: &self.config,
+            numbers: self.numbers.as_slice(),
+            clock: self.clock,
+            given: self.given,
+            devices: self.devices.as_slice(),
+            connections: &self.connections,
+        };
+        write_answer(&mut self.scratch, &scene, query)?;
+        self.connections
+            .answer(at, self.scratch.as_slice(), &Effect::Nothing)?;
+        Ok(())
+    }
+
+    /// Handles a line of the connection at this place, whose client hasn't logged out, whatever its form. If memory cannot
+    /// be allocated, nothing changes.
+    fn hear_spelled(&mut self, at: usize, line: Line<'_>) -> Result<(), AllocError>
+        requires { at < length self.old.sessions }
+        ensures ok { (c : ℕ) (k : Session) → Stands c self.old.sessions at → slice_get self.old.sessions at ≡ Some k
+            → k.logged_out ≡ false → OnOk result (self.new ≡ answered_by c (command_of (line_of line.entry))
+            (answer_in self.old (command_of (line_of line.entry)) k) self.old) }
+        ensures err { OnErr result (self.new ≡ self.old) }
+        ensures memory { OnErr result (not (is_blank (command_of (line_of line.entry))) || with_backslash (line_of line.entry) ≡ true) }
+    {
         match &words_of(self.alloc, line) {
             Ok(words) => self.hear_words(at, words),
             Err(WordFault::Memory) => Err(AllocError),

@@ -65,8 +65,17 @@ impl Server {
         }
     }
 
+    /// Puts a new configuration in force, as [`reload`](Self::reload) does. It stands apart, so that no other arrival pays for
+    /// the place of a configuration.
+    pub(super) fn reload_boxed(&mut self, config: Box<Config>) -> Result<(), Refused>
+        ensures answered { Answers self.old (Reload config.value) result }
+        ensures content { self.new ≡ content_after result self.old (Reload config.value) }
+    {
+        self.reload(Box::into_inner(config))
+    }
+
     /// Puts a new configuration in force. Allocates memory only if it has more UPSes than there are places.
-    pub(super) fn reload(&mut self, config: Config) -> Result<(), Refused>
+    fn reload(&mut self, config: Config) -> Result<(), Refused>
         ensures answered { Answers self.old (Reload config) result }
         ensures content { self.new ≡ content_after result self.old (Reload config) }
     {

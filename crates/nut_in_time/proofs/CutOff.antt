@@ -1,0 +1,263 @@
+-- Machines that hear nothing of their UPSes any more.
+use Rattle.std.proofs.Common.{codes, ◌≡◌, ℕ, suc, ◌+◌, ◌<◌, ◌≤◌, ◌&&◌, ◌||◌, ◌==◌, inl, inr, List, [], ◌∷◌, length, Bool, true, false, not, take, Option, Some, None, is_some, refl, sym, ◌∙◌, ap, subst, arith}
+use Rattle.std.specs.Prelude.{nat_lt, option_map}
+use Rattle.std.proofs.lemmas.Bool.{cases_Bool, and_parts, eqb-true, lt-ltb, ltb-false, ltb-true, not-true}
+use Rattle.nut_words.specs.Lines.{LineText}
+use Rattle.nut_monitor_spec.specs.declared.MonitorFault.TheVariants.{WrongLinkState}
+use Rattle.nut_monitor_spec.specs.Acceptance.{IsAccepted, Accepts, bytes_refusal, watch_at}
+use Rattle.nut_monitor_spec.specs.Acceptance as tests
+use Rattle.nut_monitor_spec.specs.Configuration.{Configuration, line_in}
+use Rattle.nut_monitor_spec.specs.Content.{Content, Watch, content}
+use Rattle.nut_monitor_spec.specs.Decision.{is_critical, is_past, power_where}
+use Rattle.nut_monitor_spec.specs.Event.{Event, Moment, Linked, LinkBytes, LinkLost, LinkTook, OutOfMemory, NoticeTaken}
+use Rattle.nut_monitor_spec.specs.Query.{has, flags_of, status_in}
+use Rattle.nut_monitor_spec.specs.Trace.{Answer, Entry, all_taken, answer_of, answer_to, brought, first_answer, outstanding, at_status, begun, calm, clock, critical, entry_of, gives_status, has_begun, is_any, is_short, linked, newest_answer, notices_waiting, polled, status, status_of_answer, supply, trace}
+use Rattle.nut_monitor_spec.proofs.Answering.{linked-made}
+use Rattle.nut_fleet.specs.Schedule.{Step, IsFront}
+use Rattle.nut_fleet.specs.World.{Setup, informed, monitor_of, world}
+use Rattle.nut_fleet.specs.Fleet.{IsSetup}
+use Rattle.nut_fleet.proofs.Fronts.{front-older, front-self}
+use Rattle.nut_fleet.proofs.Sound.{IsLawful}
+use Rattle.nut_fleet.proofs.Worlds.{sound}
+use Rattle.nut_in_time.specs.Pace.{Pace, IsSteady, Says, seen_at}
+use Rattle.nut_in_time.specs.InTime.{BeginsBy, has_fsd}
+use Rattle.nut_in_time.specs.CutOff.{CutOffStop, HearsNothing, NoneBeginsOnLine, NothingIsHeard, is_on_battery, is_on_line}
+use Rattle.nut_in_time.proofs.Asking.{to-is}
+use Rattle.nut_in_time.proofs.Beginning.{low-begun, power-less}
+use Rattle.nut_in_time.proofs.Climbing.{back, climb, forth, front-of}
+use Rattle.nut_in_time.proofs.Ending.{clock-entry, clock-taken, earliest-now, earliest-sooner, earliest-stays, halted-by_then, or-right}
+use Rattle.nut_in_time.proofs.Lasting.{Chosen}
+use Rattle.nut_in_time.proofs.Polling.{status-unread}
+
+-- ---- an event that brings no status
+
+pub same-unread : (configuration : Configuration) (i : ℕ) (past : List Entry) (event : Event) → gives_status i (answer_of configuration past event) ≡ false →
+    at_status i (entry_of configuration past event ∷ past) ≡ at_status i past
+same-unread configuration i past event unread =
+    status-unread configuration i 0 0 0 (record { delay = 0; skip = 0 }) (λ words. true) past event unread
+
+-- ---- on battery
+
+-- a UPS on battery is critical once DEADTIME is over
+dead-true : (fsd low gone battery : Bool) → battery ≡ true → gone ≡ true → (fsd || (low || (battery && gone))) ≡ true
+dead-true fsd low gone battery a b = rw (a, b) (or-both fsd low)
+  where
+    or-both : (x y : Bool) → (x || (y || true)) ≡ true
+    or-both true y = refl
+    or-both false y = or-right y
+
+dead-critical : (configuration : Configuration) (i : ℕ) (past : List Entry) → Says is_on_battery (status i past) →
+    polled i past + configuration.dead_time < clock past → critical configuration i past ≡ true
+dead-critical configuration i past says late =
+    let line = line_in configuration.lines i in
+    let words = says.0 in
+    ap (λ o. is_critical configuration line (clock past) (calm i past) (polled i past) (option_map flags_of o)) says.1
+    ∙ dead-true (has (codes "FSD") words)
+    ((has (codes "OB") words && (has (codes "LB") words && not (has (codes "CAL") words))) && (line.primary || is_past configuration.host_sync (clock past) (calm i past)))
+    (is_past configuration.dead_time (clock past) (polled i past)) (has (codes "OB") words) says.2
+    (lt-ltb (polled i past + configuration.dead_time) (clock past) late)
+
+any-status : (i : ℕ) (past : List Entry) → Says is_on_battery (status i past) → is_any past ≡ true
+any-status i [] says = let bad : None ≡ Some says.0 = says.1 in cc
+any-status i (entry ∷ past) says = refl
+
+-- ---- over a schedule
+
+module _ (setup : Setup) (m : ℕ) (cut : ℕ → Bool) (start schedule : List Step) (front : IsFront start schedule)
+    (silent : Chosen (monitor_of setup m) cut (λ i. HearsNothing setup m start schedule i)) where
+  abbrev config : Configuration
+  config = monitor_of setup m
+
+  -- nothing was heard of these lines by the end of these events
+  abbrev Quiet : List Event → Type 0
+  Quiet told = Chosen (monitor_of setup m) cut (λ i. at_status i (trace (monitor_of setup m) told) ≡ at_status i (seen_at setup m start))
+
+  quiet-before : (told : List Event) → Quiet (NoticeTaken ∷ told) → Quiet told
+  quiet-before told q i within is = sym (same-unread config i (trace config told) NoticeTaken refl) ∙ q i within is
+
+  quiet-at : (early : List Step) → IsFront early schedule → IsFront start early → Quiet ((world setup early).monitor m)
+  quiet-at early within since i less is = silent i less is early within since
+
+  -- event by event, the taking of each notice included
+  each-event : (pace : Pace) (P : List Event → Type 0) → IsSteady setup pace m start schedule → P ((world setup start).monitor m) →
+      ((told : List Event) (event : Event) → Quiet told → Quiet (event ∷ told) →
+      clock (trace (monitor_of setup m) (event ∷ told)) ≤ clock (trace (monitor_of setup m) told) + suc pace.skip → P told → P (event ∷ told)) →
+      P ((world setup schedule).monitor m)
+  each-event pace P steady base on =
+      climb setup m start schedule P front base
+      (λ step earlier event within since is before.
+      let told = (world setup earlier).monitor m in
+      let notices = notices_waiting (trace config (event ∷ told)) in
+      let same = clock-taken config notices (event ∷ told) in
+      let given : clock (seen_at setup m (step ∷ earlier)) ≤ clock (seen_at setup m earlier) + suc pace.skip = steady step earlier within since in
+      let moved : clock (seen_at setup m (step ∷ earlier)) ≡ clock (trace config (informed config told event)) = ap (λ t. clock (trace config t)) is in
+      let now : Quiet (informed config told event) = subst Quiet is (quiet-at (step ∷ earlier) within (inr since)) in
+      let here : Quiet (event ∷ told) = back Quiet quiet-before notices (event ∷ told) now in
+      forth P Quiet quiet-before
+      (λ t p q. on t NoticeTaken (quiet-before t q) q (let e = clock-entry config (trace config t) NoticeTaken in omega (arith, e)) p) notices (event ∷ told)
+      (on told event (quiet-at earlier (front-older step earlier schedule within) since) here (omega (arith, same, given, moved)) before) now)
+
+  -- ---- on battery
+
+  module _ (one : ℕ) (one_there : one < length (monitor_of setup m).lines) (one_cut : cut one ≡ true)
+      (known : Chosen (monitor_of setup m) cut (λ i. Says is_on_battery (status i (seen_at setup m start))))
+      (last : ℕ) (read : (i : ℕ) → i < length (monitor_of setup m).lines → cut i ≡ true → polled i (seen_at setup m start) ≤ last)
+      (short : power_where (λ i. not (cut i)) (monitor_of setup m).lines < (monitor_of setup m).min_supplies) where
+    gone-begun : (told : List Event) → Quiet told → last + (monitor_of setup m).dead_time < clock (trace (monitor_of setup m) told) →
+        has_begun (monitor_of setup m) (trace (monitor_of setup m) told) ≡ true
+    gone-begun told quiet late =
+        let past = trace config told in
+        let says : Chosen config cut (λ i. Says is_on_battery (status i past)) =
+        λ i within is. subst (λ f. Says is_on_battery (status_of_answer (newest_answer f))) (sym (quiet i within is)) (known i within is) in
+        low-begun config cut past (any-status one past (says one one_there one_cut)) short
+        (λ i within is.
+        let at : polled i past ≡ polled i (seen_at setup m start) = ap clock (quiet i within is) in
+        let sooner = read i within is in
+        dead-critical config i past (says i within is) (omega (arith, at, sooner, late)))
+
+    abbrev InTime : Pace → List Event → Type 0
+    InTime pace told = has_begun (monitor_of setup m) (trace (monitor_of setup m) told) ≡ true →
+        clock (begun (monitor_of setup m) (trace (monitor_of setup m) told)) ≤ last + (monitor_of setup m).dead_time + suc pace.skip
+
+    gone-next : (pace : Pace) (told : List Event) (event : Event) → Quiet told → Quiet (event ∷ told) →
+        clock (trace (monitor_of setup m) (event ∷ told)) ≤ clock (trace (monitor_of setup m) told) + suc pace.skip → InTime pace told → InTime pace (event ∷ told)
+    gone-next pace told event before now steady p any =
+        let past = trace config told in
+        let entry = entry_of config past event in
+        elim (cases_Bool (has_begun config past)) [
+          | inl was ↦ let at = ap clock (earliest-stays (is_short config) entry past was) in let le = p was in omega (arith, at, le)
+          | inr was_not ↦
+              let at : clock (begun config (entry ∷ past)) ≡ clock (entry ∷ past) = ap clock (earliest-now (is_short config) entry past was_not any).0 in
+              elim (cases_Bool (nat_lt (last + config.dead_time) (clock past))) [
+                | inl late ↦
+                    let began = gone-begun told before (ltb-true (last + config.dead_time) (clock past) late) in
+                    let bad : false ≡ true = sym was_not ∙ began in cc
+                | inr early ↦ let le = ltb-false (last + config.dead_time) (clock past) early in omega (arith, at, le, steady)
+              ]
+        ]
+
+  -- ---- on line power
+
+  module _ (known : (i : ℕ) → i < length (monitor_of setup m).lines → cut i ≡ true → (words : List (List ℕ)) → status i (seen_at setup m start) ≡ Some words → is_on_line words ≡ true)
+      (enough : (monitor_of setup m).min_supplies ≤ power_where cut (monitor_of setup m).lines) where
+    tame-line : (told : List Event) → Quiet told → (i : ℕ) → i < length (monitor_of setup m).lines → cut i ≡ true → critical (monitor_of setup m) i (trace (monitor_of setup m) told) ≡ false
+    tame-line told quiet i within is = by (status i (trace config told)) refl
+      where
+        none : (fsd battery low late gone : Bool) → fsd ≡ false → battery ≡ false → (fsd || (((battery && low) && late) || (battery && gone))) ≡ false
+        none fsd battery low late gone a b = rw (a, b) refl
+
+        by : (o : Option (List (List ℕ))) → status i (trace config told) ≡ o → critical config i (trace config told) ≡ false
+        by None e = ap (λ o. is_critical config (line_in config.lines i) (clock (trace config told)) (calm i (trace config told)) (polled i (trace config told)) (option_map flags_of o)) e
+        by (Some words) e =
+            let past = trace config told in
+            let line = line_in config.lines i in
+            let first : status i (seen_at setup m start) ≡ Some words = sym (ap (λ f. status_of_answer (newest_answer f)) (quiet i within is)) ∙ e in
+            let parts = and_parts (not (has_fsd words)) (not (is_on_battery words)) (known i within is words first) in
+            ap (λ o. is_critical config line (clock past) (calm i past) (polled i past) (option_map flags_of o)) e
+            ∙ none (has (codes "FSD") words) (has (codes "OB") words) (has (codes "LB") words && not (has (codes "CAL") words)) (line.primary || is_past config.host_sync (clock past) (calm i past))
+            (is_past config.dead_time (clock past) (polled i past)) (not-true (has_fsd words) parts.0) (not-true (is_on_battery words) parts.1)
+
+    tame-next : (told : List Event) (event : Event) → Quiet (event ∷ told) → has_begun (monitor_of setup m) (trace (monitor_of setup m) told) ≡ false →
+        has_begun (monitor_of setup m) (trace (monitor_of setup m) (event ∷ told)) ≡ false
+    tame-next told event now not_begun = elim (cases_Bool (has_begun config (trace config (event ∷ told)))) [
+      | inr f ↦ f
+      | inl any ↦
+          let past = trace config told in
+          let next = entry_of config past event ∷ past in
+          let short = ltb-true (supply config next) config.min_supplies ((earliest-now (is_short config) (entry_of config past event) past not_begun any).1) in
+          let less : power_where cut config.lines ≤ supply config next =
+          power-less cut (λ i. not (critical config i next)) config.lines (λ i within is. let f = tame-line (event ∷ told) now i within is in rw f refl) in
+          absurd (omega (arith, short, less, enough))
+    ]
+
+-- ---- as laws
+
+pub cut_off-stop : (setup : Setup) (schedule : List Step) → CutOffStop setup schedule
+cut_off-stop setup schedule pace m cut last start middle within c steady =
+    let sooner = earliest-sooner (is_short (monitor_of setup m)) (seen_at setup m start) in
+    let young = c.young in
+    let n = c.needs in
+    let begins : BeginsBy (monitor_of setup m) (last + (monitor_of setup m).dead_time) (last + (monitor_of setup m).dead_time + suc pace.skip) (seen_at setup m middle) = record {
+      begins = gone-begun setup m cut start middle c.front c.silent n.one n.there n.passes c.known last c.read n.short ((world setup middle).monitor m)
+          (quiet-at setup m cut start middle c.front c.silent middle (front-self middle) c.front);
+      began = each-event setup m cut start middle c.front c.silent pace
+          (InTime setup m cut start middle c.front c.silent n.one n.there n.passes c.known last c.read n.short pace)
+          (λ step early inside since. steady step early (front-of (step ∷ early) middle schedule inside within) since) (λ any. omega (arith, sooner, young))
+          (gone-next setup m cut start middle c.front c.silent n.one n.there n.passes c.known last c.read n.short pace);
+    } in (
+      begins,
+      λ over again late.
+          let began : has_begun (monitor_of setup m) (seen_at setup m middle) ≡ true =
+          elim (cases_Bool (has_begun (monitor_of setup m) (seen_at setup m middle))) [ inl t ↦ t | inr f ↦ begins.begins (over f) ] in
+          halted-by_then setup schedule pace m start middle (last + (monitor_of setup m).dead_time + suc pace.skip) c.front within (omega (arith, young)) began
+          (begins.began began) steady late,
+    )
+
+pub none-begins_on_line : (setup : Setup) (schedule : List Step) → NoneBeginsOnLine setup schedule
+none-begins_on_line setup schedule m cut start front silent known enough not_begun =
+    climb setup m start schedule (λ told. has_begun (monitor_of setup m) (trace (monitor_of setup m) told) ≡ false) front not_begun
+    (λ step earlier event within since is before.
+    let config = monitor_of setup m in
+    let told = (world setup earlier).monitor m in
+    let notices = notices_waiting (trace config (event ∷ told)) in
+    let Q = Quiet setup m cut start schedule front silent in
+    let older = quiet-before setup m cut start schedule front silent in
+    let on = tame-next setup m cut start schedule front silent known enough in
+    let now : Q (informed config told event) = subst Q is (quiet-at setup m cut start schedule front silent (step ∷ earlier) within (inr since)) in
+    forth (λ t. has_begun config (trace config t) ≡ false) Q older (λ t p q. on t NoticeTaken q p) notices (event ∷ told)
+    (on told event (back Q older notices (event ∷ told) now) before) now)
+
+-- ---- a link that is down
+
+refused-down : (s : Content) (piece : List ℕ) (o : Option Watch) → tests.is_linked o ≡ false → bytes_refusal s piece o ≡ None → ⊥
+refused-down s piece None down none = cc
+refused-down s piece (Some w) down none = let bad : Some WrongLinkState ≡ None = rw down at none in cc
+
+-- an answer on another link
+other-link : (configuration : Configuration) (past : List Entry) (i j : ℕ) (texts : List LineText) → (j == i) ≡ false →
+    gives_status i (first_answer configuration past j texts) ≡ false
+other-link configuration past i j [] other = refl
+other-link configuration past i j (text ∷ texts) other =
+    by (answer_to (line_in configuration.lines j) j (outstanding j past) (all_taken configuration j past) text) refl
+  where
+    by : (o : Option Answer) → answer_to (line_in configuration.lines j) j (outstanding j past) (all_taken configuration j past) text ≡ o → gives_status i o ≡ false
+    by None is = refl
+    by (Some a) is =
+        let link = (to-is (line_in configuration.lines j) j (outstanding j past) (all_taken configuration j past) text a is).0 in
+        ap (λ k. (k == i) && is_some (status_in a.asked.query a.outcome)) link ∙ rw other refl
+
+unheard : (configuration : Configuration) (told : List Event) (i : ℕ) (event : Event) → i < length configuration.lines → Accepts (content configuration told) event →
+    linked i (trace configuration told) ≡ false → gives_status i (answer_of configuration (trace configuration told) event) ≡ false
+unheard configuration told i (LinkBytes j piece) within accepted down = elim (cases_Bool (j == i)) [
+  | inl t ↦
+      let none : bytes_refusal (content configuration told) piece (watch_at i (content configuration told).watches) ≡ None =
+      subst (λ k. bytes_refusal (content configuration told) piece (watch_at k (content configuration told).watches) ≡ None) (eqb-true j i t) accepted.0 in
+      absurd (refused-down (content configuration told) piece (watch_at i (content configuration told).watches) (linked-made configuration told i within ∙ down) none)
+  | inr f ↦ other-link configuration (trace configuration told) i j (brought j (trace configuration told) piece) f
+]
+unheard configuration told i (OutOfMemory j piece k) within accepted down = elim (cases_Bool (j == i)) [
+  | inl t ↦
+      let none : bytes_refusal (content configuration told) piece (watch_at i (content configuration told).watches) ≡ None =
+      subst (λ k. bytes_refusal (content configuration told) piece (watch_at k (content configuration told).watches) ≡ None) (eqb-true j i t) accepted.0 in
+      absurd (refused-down (content configuration told) piece (watch_at i (content configuration told).watches) (linked-made configuration told i within ∙ down) none)
+  | inr f ↦ other-link configuration (trace configuration told) i j (take k (brought j (trace configuration told) piece)) f
+]
+unheard configuration told i (Moment t) within accepted down = refl
+unheard configuration told i (Linked j) within accepted down = refl
+unheard configuration told i (LinkLost j) within accepted down = refl
+unheard configuration told i (LinkTook j n) within accepted down = refl
+unheard configuration told i NoticeTaken within accepted down = refl
+
+pub nothing-heard : (setup : Setup) → IsLawful setup.server → IsSetup setup → (schedule : List Step) → NothingIsHeard setup schedule
+nothing-heard setup law fine schedule m i start less front down early inside since =
+    let config = monitor_of setup m in
+    climb setup m start early (λ told. at_status i (trace config told) ≡ at_status i (seen_at setup m start)) since refl
+    (λ step earlier event within from is before.
+    let told = (world setup earlier).monitor m in
+    let notices = notices_waiting (trace config (event ∷ told)) in
+    let all : IsAccepted config (informed config told event) = subst (IsAccepted config) is ((sound setup law fine (step ∷ earlier)).monitors m).accepted in
+    let here : IsAccepted config (event ∷ told) = back (IsAccepted config) (λ t q. q.0) notices (event ∷ told) all in
+    let low : linked i (trace config told) ≡ false = down earlier (front-older step earlier schedule (front-of (step ∷ earlier) early schedule within inside)) from in
+    forth (λ t. at_status i (trace config t) ≡ at_status i (seen_at setup m start)) (λ t. Unit {0}) (λ t q. tt)
+    (λ t p q. same-unread config i (trace config t) NoticeTaken refl ∙ p) notices (event ∷ told)
+    (same-unread config i (trace config told) event (unheard config told i event less here.1 low) ∙ before) tt)

@@ -1,0 +1,57 @@
+-- The test that a machine hears nothing proves it.
+use Rattle.std.proofs.Common.{◌≡◌, ◌⊎◌, ℕ, ◌<◌, ◌≤◌, inl, inr, List, ◌∷◌, ◌++◌, length, true, refl, ◌∙◌, ap, arith}
+use Rattle.std.proofs.lemmas.Bool.{cases_Bool, eqb-true}
+use Rattle.nut_monitor_spec.specs.Event.{Event, NoticeTaken}
+use Rattle.nut_monitor_spec.specs.Trace.{answer_of, at_status, entry_of, gives_status, notices_waiting, trace}
+use Rattle.nut_fleet.specs.Schedule.{Step}
+use Rattle.nut_fleet.specs.World.{Setup, monitor_of, world}
+use Rattle.nut_in_time.specs.Pace.{seen_at}
+use Rattle.nut_in_time.specs.CutOff.{HearsNothing}
+use Rattle.nut_in_time.specs.Tests.{each_since, hears_nothing}
+use Rattle.nut_in_time.proofs.Climbing.{climb, forth}
+use Rattle.nut_in_time.proofs.CutOff.{same-unread}
+use Rattle.nut_in_time.proofs.Polling.{status-read}
+use Rattle.nut_in_time.proofs.RoomSteps.{latest-shorter}
+use Rattle.nut_in_time.proofs.Testing.{each-holds}
+
+-- ---- the last status is the same if its event has the same number
+
+pub silent-holds : (setup : Setup) (m i : ℕ) (start newest : List Step) → each_since (hears_nothing setup m i start) start newest ≡ true →
+    HearsNothing setup m start (newest ++ start) i
+silent-holds setup m i start newest is early inside since =
+    let same = eqb-true (length (at_status i (seen_at setup m early))) (length (at_status i (seen_at setup m start)))
+    (each-holds (hears_nothing setup m i start) start newest is early inside since) in
+    elim (climb setup m start early P since (inl refl, omega arith)
+    (λ step earlier event within from moved before.
+    let told = (world setup earlier).monitor m in
+    forth P (λ t. Unit {0}) (λ t q. tt) (λ t p q. on t NoticeTaken p) (notices_waiting (trace (monitor_of setup m) (event ∷ told))) (event ∷ told) (on told event before) tt)).0 [
+      | inl equal ↦ equal
+      | inr more ↦ absurd (omega (arith, same, more))
+    ]
+  where
+    P : List Event → Type 0
+    P told =
+        ((at_status i (trace (monitor_of setup m) told) ≡ at_status i (seen_at setup m start))
+        ⊎ (length (at_status i (seen_at setup m start)) < length (at_status i (trace (monitor_of setup m) told))))
+        × (length (seen_at setup m start) ≤ length (trace (monitor_of setup m) told))
+
+    on : (told : List Event) (event : Event) → P told → P (event ∷ told)
+    on told event p =
+        let config = monitor_of setup m in
+        let past = trace config told in
+        let next = entry_of config past event ∷ past in
+        let long = p.1 in (
+          elim (cases_Bool (gives_status i (answer_of config past event))) [
+            | inl read ↦
+                let front = ap length (status-read config i 0 0 0 (record { delay = 0; skip = 0 }) (λ words. true) past event read) in
+                let short : length (at_status i (seen_at setup m start)) ≤ length (seen_at setup m start) = latest-shorter _ (seen_at setup m start) in
+                inr (omega (arith, front, short, long))
+            | inr unread ↦
+                let same = same-unread config i past event unread in
+                elim p.0 [
+                  | inl equal ↦ inl (same ∙ equal)
+                  | inr more ↦ let at = ap length same in inr (omega (arith, at, more))
+                ]
+          ],
+          omega (arith, long),
+        )

@@ -1,0 +1,156 @@
+-- What proofs about rooms need of a step at which a shutdown is forced, of phases, and of links that are polled.
+use Rattle.std.proofs.Common.{◌≡◌, ℕ, zero, suc, ◌≤◌, inl, inr, List, [], ◌∷◌, length, Bool, true, false, Option, Some, None, is_some, refl, sym, ◌∙◌, ap, arith, Contains}
+use Rattle.std.specs.Prelude.{if◌then◌else◌}
+use Rattle.std.proofs.lemmas.Bool.{cases_Bool}
+use Rattle.nut_server_spec.specs.Content.{past as happened}
+use Rattle.nut_server_spec.specs.Trace.{forced}
+use Rattle.nut_monitor_spec.specs.declared.LastQuery.{LastQuery}
+use Rattle.nut_monitor_spec.specs.declared.Phase.{Phase}
+use Rattle.nut_monitor_spec.specs.declared.Phase.TheVariants.{Watching, Forcing, Halted}
+use Rattle.nut_monitor_spec.specs.declared.Query.TheVariants.{Status}
+use Rattle.nut_monitor_spec.specs.Configuration.{Configuration, Line, has_primary, line_in}
+use Rattle.nut_monitor_spec.specs.Decision.{is_halted, phase_at}
+use Rattle.nut_monitor_spec.specs.Event.{Event, NoticeTaken}
+use Rattle.nut_monitor_spec.specs.Trace.{Asked, Entry, clock, moment_of, latest, earliest, is_any, last_in, queries, phase, begun, has_begun, is_short, ended, has_ended, is_over_at, notices_waiting, entry_of, trace}
+use Rattle.nut_fleet.specs.Schedule.{Step, IsFront}
+use Rattle.nut_fleet.specs.World.{Setup, World, Deed, Skip, Rest, Tell, Inform, Join, after, deed, monitor_of, world}
+use Rattle.nut_in_time.specs.Pace.{Pace, IsPolled, seen_at}
+use Rattle.nut_in_time.specs.Room.{is_forced}
+use Rattle.nut_in_time.proofs.Climbing.{climb, forth}
+use Rattle.nut_in_time.proofs.Ending.{clock-entry, clock-grows, earliest-now, earliest-stays, empty-any, ended-begun}
+use Rattle.nut_in_time.proofs.Polling.{Polls}
+
+-- ---- a step at which a shutdown is forced
+
+-- it is a step of the server, so the monitors' clocks don't move
+pub deed-server : (setup : Setup) (u m : ℕ) (w : World) (d : Deed) → forced setup.server u (happened setup.server w.server) ≡ false →
+    forced setup.server u (happened setup.server (after setup w d).server) ≡ true → (after setup w d).monitor m ≡ w.monitor m
+deed-server setup u m w Skip none now = refl
+deed-server setup u m w Rest none now = refl
+deed-server setup u m w (Tell event) none now = refl
+deed-server setup u m w (Inform k event) none now = let bad : false ≡ true = sym none ∙ now in cc
+deed-server setup u m w (Join k i) none now = let bad : false ≡ true = sym none ∙ now in cc
+
+pub stood : (setup : Setup) (u m : ℕ) (step : Step) (early : List Step) → is_forced setup u early ≡ false → is_forced setup u (step ∷ early) ≡ true →
+    clock (seen_at setup m (step ∷ early)) ≡ clock (seen_at setup m early)
+stood setup u m step early none now =
+    ap (λ told. clock (trace (monitor_of setup m) told)) (deed-server setup u m (world setup early) (deed setup (world setup early) step) none now)
+
+-- ---- phases
+
+pub is-halted : (now : Phase) (flag : Bool) → now ≡ Halted flag → is_halted now ≡ true
+is-halted now flag is = ap is_halted is
+
+pub not-ended : (configuration : Configuration) (past : List Entry) → has_ended configuration past ≡ false → is_halted (phase configuration past) ≡ false
+not-ended configuration past none =
+    ap (λ front. is_halted (phase_at configuration (clock past) (moment_of (begun configuration past)) (moment_of front))) (empty-any (ended configuration past) none)
+    ∙ by (moment_of (begun configuration past))
+  where
+    by : (o : Option ℕ) → is_halted (if is_some o then Forcing else Watching) ≡ false
+    by None = refl
+    by (Some moment) = refl
+
+pub none-primary : (lines : List Line) → length lines ≡ 1 → (line_in lines 0).primary ≡ false → has_primary lines ≡ false
+none-primary [] one is = cc
+none-primary (line ∷ []) one is = rw is refl
+none-primary (line ∷ other ∷ lines) one is = absurd (omega (arith, one))
+
+-- the shutdown began at the same time by the past of Final
+pub begun-ending : (configuration : Configuration) (past : List Entry) → has_ended configuration past ≡ true →
+    begun configuration (ended configuration past) ≡ begun configuration past
+begun-ending configuration [] any = cc
+begun-ending configuration (e ∷ p) any = elim (cases_Bool (has_ended configuration p)) [
+  | inl before ↦
+      ap (begun configuration) (earliest-stays (is_over_at configuration) e p before)
+      ∙ begun-ending configuration p before
+      ∙ sym (earliest-stays (is_short configuration) e p (ended-begun configuration p before))
+  | inr not_before ↦ ap (begun configuration) (earliest-now (is_over_at configuration) e p not_before any).0
+]
+
+-- what has ended stays ended
+pub ended-stays : (setup : Setup) (m : ℕ) (early late : List Step) → IsFront early late → has_ended (monitor_of setup m) (seen_at setup m early) ≡ true →
+    ended (monitor_of setup m) (seen_at setup m late) ≡ ended (monitor_of setup m) (seen_at setup m early)
+ended-stays setup m early late front any =
+    let config = monitor_of setup m in
+    climb setup m early late (λ told. ended config (trace config told) ≡ ended config (seen_at setup m early)) front refl
+    (λ step earlier event within since is before.
+    let told = (world setup earlier).monitor m in
+    forth (λ t. ended config (trace config t) ≡ ended config (seen_at setup m early)) (λ t. Unit {0}) (λ t q. tt)
+    (λ t same q. on (trace config t) (entry_of config (trace config t) NoticeTaken) same)
+    (notices_waiting (trace config (event ∷ told))) (event ∷ told) (on (trace config told) (entry_of config (trace config told) event) before) tt)
+  where
+    on : (past : List Entry) (entry : Entry) → ended (monitor_of setup m) past ≡ ended (monitor_of setup m) (seen_at setup m early) →
+        ended (monitor_of setup m) (entry ∷ past) ≡ ended (monitor_of setup m) (seen_at setup m early)
+    on past entry same = earliest-stays (is_over_at (monitor_of setup m)) entry past (ap is_any same ∙ any) ∙ same
+
+-- a shutdown that hadn't begun at a time begins no earlier than that
+pub begins-later : (setup : Setup) (m : ℕ) (early late : List Step) → IsFront early late → has_begun (monitor_of setup m) (seen_at setup m early) ≡ false →
+    has_begun (monitor_of setup m) (seen_at setup m late) ≡ true → clock (seen_at setup m early) ≤ clock (begun (monitor_of setup m) (seen_at setup m late))
+begins-later setup m early late front none any =
+    (climb setup m early late P front (omega arith, λ is. let bad : false ≡ true = sym none ∙ is in cc)
+    (λ step earlier event within since is before.
+    let told = (world setup earlier).monitor m in
+    forth P (λ t. Unit {0}) (λ t q. tt) (λ t x q. on t NoticeTaken x) (notices_waiting (trace (monitor_of setup m) (event ∷ told))) (event ∷ told) (on told event before) tt)).1 any
+  where
+    P : List Event → Type 0
+    P told = (clock (seen_at setup m early) ≤ clock (trace (monitor_of setup m) told))
+        × (has_begun (monitor_of setup m) (trace (monitor_of setup m) told) ≡ true → clock (seen_at setup m early) ≤ clock (begun (monitor_of setup m) (trace (monitor_of setup m) told)))
+
+    on : (told : List Event) (event : Event) → P told → P (event ∷ told)
+    on told event x =
+        let config = monitor_of setup m in
+        let past = trace config told in
+        let entry = entry_of config past event in
+        let time = clock-entry config past event in
+        let grows = clock-grows event (clock past) in
+        let le = x.0 in (
+          omega (arith, time, grows, le),
+          λ is. elim (cases_Bool (has_begun config past)) [
+            | inl was ↦ let same = ap clock (earliest-stays (is_short config) entry past was) in let before = x.1 was in omega (arith, same, before)
+            | inr was_not ↦ let same = ap clock (earliest-now (is_short config) entry past was_not is).0 in omega (arith, same, time, grows, le)
+          ],
+        )
+
+pub latest-shorter : (test : Entry → List Entry → Bool) (past : List Entry) → length (latest test past) ≤ length past
+latest-shorter test [] = omega arith
+latest-shorter test (e ∷ past) = elim (cases_Bool (test e past)) [
+  | inl t ↦ rw t (omega arith)
+  | inr f ↦ let rest = latest-shorter test past in rw f (omega (arith, rest))
+]
+
+pub earliest-shorter : (test : List Entry → Bool) (past : List Entry) → length (earliest test past) ≤ length past
+earliest-shorter test [] = omega arith
+earliest-shorter test (e ∷ past) = elim (cases_Bool (is_any (earliest test past))) [
+  | inl t ↦ let rest = earliest-shorter test past in let same = ap length (earliest-stays test e past t) in omega (arith, rest, same)
+  | inr f ↦ elim (cases_Bool (is_any (earliest test (e ∷ past)))) [
+    | inl t ↦ let same = ap length (earliest-now test e past f t).0 in omega (arith, same)
+    | inr g ↦ let none = ap length (empty-any (earliest test (e ∷ past)) g) in omega (arith, none)
+  ]
+]
+
+-- two members of a list of at most one are equal
+pub same-one : (xs : List ℕ) (one other : ℕ) → length xs ≤ 1 → Contains xs one → Contains xs other → other ≡ one
+same-one [] one other le a b = absurd (let lt = a.1 in omega (arith, lt))
+same-one (x ∷ []) one other le (zero, lt, e) (zero, lt', e') = sym e' ∙ e
+same-one (x ∷ []) one other le (suc k, lt, e) b = absurd (omega (arith, lt))
+same-one (x ∷ []) one other le (zero, lt, e) (suc k, lt', e') = absurd (omega (arith, lt'))
+same-one (x ∷ y ∷ xs) one other le a b = absurd (omega (arith, le))
+
+-- ---- a link on which the last query was for the status
+
+pub status-last : (i : ℕ) (past : List Entry) (last : Asked) (older : List Asked) → queries i past ≡ last ∷ older → last.query ≡ Status → IsPolled i past
+status-last i past last older is status =
+    (last.moment, ap last_in is ∙ ap (λ q. Some (let x : LastQuery = record { query = q; moment = last.moment } in x)) status)
+
+pub polls-polled : (configuration : Configuration) (i n0 t0 most : ℕ) (pace : Pace) (Words : List (List ℕ) → Bool) (past : List Entry) →
+    Polls configuration i n0 t0 most pace Words past → IsPolled i past
+polls-polled configuration i n0 t0 most pace Words past (inl old) = elim old.stage [
+  | inl w ↦ status-last i past old.last w.older w.queries_are old.is_status
+  | inr r ↦ let rests = r.0 in status-last i past old.last rests.older rests.queries_are old.is_status
+]
+polls-polled configuration i n0 t0 most pace Words past (inr (inl first)) =
+    let w = first.waits in status-last i past first.last w.older w.queries_are first.is_status
+polls-polled configuration i n0 t0 most pace Words past (inr (inr c)) = elim c.stage [
+  | inl w ↦ let waits = w.0 in status-last i past c.last waits.older waits.queries_are c.is_status
+  | inr r ↦ let rests = r.0 in status-last i past c.last rests.older rests.queries_are c.is_status
+]

@@ -1,0 +1,11 @@
+-- The request that each plain query is.
+use Rattle.nut_proto.specs.declared.plain.PlainQuery.{PlainQuery}
+use Rattle.nut_proto.specs.declared.plain.PlainQuery.TheVariants.{GetVar, GetUpsDesc, ListVar}
+use Rattle.nut_proto.specs.declared.request.Request.{Request}
+use Rattle.nut_proto.specs.declared.request.Request.TheVariants as requests
+use Rattle.nut_proto.specs.declared.request.ListQuery.TheVariants as queries
+
+abbrev pub request_of : PlainQuery → Request
+request_of (GetVar ups variable) = requests.GetVar ups.now variable.now
+request_of (GetUpsDesc ups) = requests.GetUpsDesc ups.now
+request_of (ListVar ups) = requests.List (queries.Var ups.now)

@@ -1,0 +1,83 @@
+"""What happens to each machine in a run."""
+
+import dataclasses
+import math
+
+from nutroom_modules.bounds import goes_on
+from nutroom_modules.faults import Fault
+from nutroom_modules.network import FINAL, HALTED
+from nutroom_modules.plans import Plan
+
+
+@dataclasses.dataclass
+class Story:
+    """What happened to a machine in a run. Times count from the zero of the description; clocks are the machine's own."""
+
+    begun: int = None
+    begun_clock: int = None
+    final: int = None
+    halted: int = None
+    halted_clock: int = None
+    # each phase and each notice with its time, a notice also with its UPS, and what happened to the network
+    phases: list = dataclasses.field(default_factory=list)
+    notices: list = dataclasses.field(default_factory=list)
+    marks: list = dataclasses.field(default_factory=list)
+    # whether the premises of what the theorem says about the machine held, and whether what it says was violated
+    keeps_pace: bool = False
+    is_wrong: bool = False
+
+    def take_phase(self, time, clock, phase):
+        self.phases.append((time, phase))
+        if self.begun is None:
+            self.begun, self.begun_clock = time, clock
+        if self.final is None and phase in (FINAL, HALTED):
+            self.final = time
+        if phase == HALTED:
+            self.halted, self.halted_clock = time, clock
+
+    def judge(self, plan, host, bound):
+        """Tests the story against the theorem. A bound counts in whole seconds of the machine's clock; its premise is that
+        the links of its lines keep pace until the shutdown begins."""
+        if bound is None:
+            self.keeps_pace = goes_on(plan.room, host.machine) and not host.cuts and not any(line.ups in plan.forced for line in host.machine.rules.lines)
+            self.is_wrong = self.keeps_pace and self.begun is not None
+            return
+        if bound.start not in plan.scenes:
+            # all were halted before
+            self.keeps_pace = True
+            return
+        clock, broken = plan.scenes[bound.start][host.number]
+        end = math.inf if self.begun is None else self.begun
+        self.keeps_pace = not any(broken[i] for i in bound.lines) and not any(bound.start <= cut <= end for cut in host.cuts)
+        is_late = self.halted is None or self.halted_clock > clock + bound.halts or self.begun_clock > clock + bound.begins
+        self.is_wrong = self.keeps_pace and is_late
+
+
+def settled(room, nutsim, seed):
+    """Returns a plan that was made with what nutsim tells for it, and that. Each plan is right up to one more phase than the
+    one before it, and a machine has three of them, so few plans are needed."""
+    known, last, told = {}, None, []
+    for _ in range(3 * len(room.machines) + 2):
+        plan = Plan(room, seed, known)
+        if last is not None and last.steps[: len(plan.steps)] == plan.steps:
+            return plan, told
+        last, told = plan, nutsim.play(room, plan.steps)
+        known = {plan.events[step - 1]: words[3] for step, words in told if words[0] == "monitor" and words[2] == "phase"}
+    raise Fault("nutsim tells of the same steps now this and now that")
+
+
+def play_run(room, nutsim, seed, number):
+    """Plays a run. Returns its plan and the story of each machine."""
+    plan, told = settled(room, nutsim, f"{seed} {number}")
+    stories = [Story() for _ in room.machines]
+    for step, words in told:
+        if step <= len(plan.steps) and words[0] == "monitor":
+            story, time, event = stories[int(words[1])], plan.times[step - 1], plan.events[step - 1]
+            if words[2] == "phase":
+                story.take_phase(time, event[-1], words[3])
+            else:
+                story.notices.append((time, words[3], room.upses.index(words[4].partition("@")[0]) if len(words) > 4 else None))
+    for story, host, bound in zip(stories, plan.hosts, room.bounds):
+        story.marks = host.marks
+        story.judge(plan, host, bound)
+    return plan, stories
