@@ -131,7 +131,7 @@ def run_programs(count):
 
 
 def run_tried(count, folder):
-    """Runs the tests on programs that were built without proof, as many at a time as there are processors, since most wait."""
+    """Runs the tests on programs that were built without proof, one more at a time than there are processors, since most wait."""
 
     def run(command):
         began, said = time.monotonic(), tempfile.TemporaryFile("w+", errors="replace")
@@ -140,7 +140,7 @@ def run_tried(count, folder):
         said.seek(0)
         return command, process, said, time.monotonic() - began
 
-    with futures.ThreadPoolExecutor(max(2, len(os.sched_getaffinity(0)))) as pool:
+    with futures.ThreadPoolExecutor(len(os.sched_getaffinity(0)) + 1) as pool:
         for done in futures.as_completed([pool.submit(run, command) for command in commands_of_tests(folder)]):
             command, process, said, seconds = done.result()
             print(f"== {command[2]}, {seconds:.0f} s")

@@ -291,6 +291,7 @@ class Tests:
         ensure("  nobody: 2 of 2" in online, online)
 
     def test_host_sync_that_is_too_short(self):
+        needs_proved_build("what takes many runs or long ones")
         files = {**FILES, "m1.conf": Rules([Watched(b"su700", "primary")], host_sync=5)}
         path = self.room("machine m1 m1.conf delay 0 1\nmachine m2 m2.conf delay 0 1\nmachine m3 m2.conf delay 0 3\n" + LOW, files=files)
         lines = self.printed("-n", "40", "-s", "1", path).splitlines()
@@ -300,6 +301,7 @@ class Tests:
 
     def test_host_sync_that_is_enough(self):
         """With the HOSTSYNC that is called enough, the primary never stops first. With two seconds less it sometimes does."""
+        needs_proved_build("what takes many runs or long ones")
         for sync, is_enough in ((4, True), (2, False)):
             files = {name: Rules(it.lines, poll_freq=1, final_delay=0, host_sync=sync) for name, it in FILES.items()}
             path = self.room("machine m1 m1.conf delay 1 1\nmachine m2 m2.conf delay 1 1\nat 3 su700 OB LB\n", files=files)
@@ -364,7 +366,10 @@ class Tests:
         texts = [it.text for it in cut.iter(f"{SVG}text")]
         ensure(any("cut" in it for it in texts) and any("COMMBAD" in it for it in texts), f"the cut isn't shown: {texts}")
         ensure(not any("by 43" in it for it in texts), "a bound is shown that doesn't hold")
-        # very many UPSes and machines, long outages and long names
+
+    def test_pictures_of_much(self):
+        """Very many UPSes and machines, long outages and long names."""
+        needs_proved_build("what takes many runs or long ones")
         many = "".join(f"machine a-long-name-of-a-machine-{m:04} both.conf delay 0 1\n" for m in range(8))
         self.picture(self.room(f"{many}battery su700 5000\nat 1 su700 OB\nat 4000.5 su700 OB LB\nat 4010 su800 OB LB\n"))
         self.picture(self.room(f"{PAIR}at 86400 su700 OB\n"))
@@ -416,6 +421,7 @@ class Tests:
         expect(done.stderr, b"", "what is told")
 
     def test_the_page_shows_what_is_printed(self):
+        needs_proved_build("what takes many runs or long ones")
         with open(PAGE) as file:
             page = file.read()
         found = re.findall(r"```console\n\$ nutroom (.*)\n((?:.*\n)*?)```", page)

@@ -16,7 +16,7 @@ import tempfile
 import threading
 import time
 
-from tests.support.harness import Failed, Missing, apart, cannot_read, expect, patience, processor_time, run_tests
+from tests.support.harness import Failed, Missing, apart, built_without_proof, cannot_read, expect, patience, processor_time, run_tests
 from tests.support.room import Client, DEVICE, Lines, NOT_CONNECTED, ONLINE, Room, SOON, STATUS, VERSION
 from tests.support.room import accepted, connected, family_of, first_lines, free_port, give_address, has_ipv6, heed_modes, raise_loopback
 from tests.support.room import said, until
@@ -135,7 +135,7 @@ class Tests:
                 for _ in range(200):
                     expect(client.ask(STATUS), ONLINE, "beside a client that never reads")
                 took = time.monotonic() - begun
-                if took > patience(SOON):
+                if took > SOON and not built_without_proof():
                     raise Failed(f"200 requests took {took:.2f} s beside a client that never reads")
                 time.sleep(1)
                 used = processor_time(upsd.pid) - used
