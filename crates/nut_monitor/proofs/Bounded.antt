@@ -29,9 +29,6 @@ use Rattle.nut_monitor.specs.Bounds.{AreLinksBounded, IsLinkBounded}
 
 -- ---- one link
 
-pub made_bounded : (w : Watch) → IsLinkBounded (made w).link
-made_bounded w = bounds_stay.begun
-
 pub took_bounded : (n : ℕ) (w : Watch) → IsLinkBounded w.link → IsLinkBounded (took n w).link
 took_bounded n w h = by_link w.link h where
   by_link : (o : Option LinkValue) → IsLinkBounded o → IsLinkBounded (link_took n o)

@@ -16,14 +16,6 @@ suc_is n = omega arith
 
 -- ---- power and counts
 
-pub supply_none : (c : Configuration) (k : ℕ) (ls : List Line) → supply_of c k ls [] ≡ 0
-supply_none c k [] = refl
-supply_none c k (l ∷ ls) = refl
-
-pub alone_none : (ls : List Line) → all_alone ls [] ≡ true
-alone_none [] = refl
-alone_none (l ∷ ls) = refl
-
 pub alone_step : (i : ℕ) (ms : List Monitored) (ws : List Watch) (m : Monitored) (w : Watch) → i < length ms → i < length ws → m ≡ slice_index_or ms i m → w ≡ slice_index_or ws i w
     → all_alone (map line_of (drop i ms)) (drop i ws) ≡ (lets_halt (line_of m) w.known && all_alone (map line_of (drop (suc i) ms)) (drop (suc i) ws))
 alone_step i [] ws m w lm lw im iw = absurd (omega arith)

@@ -67,10 +67,6 @@ asked-law configuration time phase (line ∷ lines) f =
 
 -- ---- pasts
 
-pub is_none_moment : (past : List Entry) → is_none (moment_of past) ≡ not (is_any past)
-is_none_moment [] = refl
-is_none_moment (entry ∷ past) = refl
-
 -- whether something begins with the newest entry
 abbrev pub begins_now : (List Entry → Bool) → List Entry → Entry → Bool
 begins_now test past entry = is_none (moment_of (earliest test past)) && test (entry ∷ past)
@@ -124,7 +120,3 @@ number-none n (x ∷ xs) few =
 
 pub number-head : {X : Type 0} (n : ℕ) (x : X) (xs : List X) → length xs ≡ n → number n (x ∷ xs) ≡ Some x
 number-head n x xs is = let test : eqb (length xs) n ≡ true = eq-eqb (length xs) n is in rw test refl
-
-pub when-append : (notices : List Notice) (b : Bool) (notice : Notice) → (if b then notices ++ notice ∷ [] else notices) ≡ notices ++ when b notice
-when-append notices true notice = refl
-when-append notices false notice = sym (append-nil notices)
