@@ -176,7 +176,8 @@ impl<'r, 'e, R: Net + Clock + Processes, H: Herald> MonWorld for MioMonWorld<'r,
         ensures ok { IfOk result (λ w. untold_watch ≡ tells_write w i bytes.now untold_watch) }
         ensures err { OnErr result (untold_watch ≡ untold_watch) }
         ensures within { IfOk result (λ w. IsWithin w (length bytes.now)) }
-        ensures late { IfOk result (λ w. (j : ℕ) → is_noted self.new.late.items j ≡ late_after w i (is_noted self.old.late.items) j) }
+        ensures late { IfOk result (λ w. (j : ℕ)
+            → is_noted self.new.late.items j ≡ late_after w i (is_noted self.old.late.items) j) }
     {
         let reports = &mut self.services.reports;
         let written = self.links.offer(monitor, i, bytes, reports);
