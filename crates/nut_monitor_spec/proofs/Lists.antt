@@ -1,11 +1,10 @@
 -- Lists with an element for each MONITOR line, and pasts: what they are after one more element.
-use Rattle.std.proofs.Common.{◌≡◌, ℕ, zero, suc, ◌+◌, ◌<◌, ◌≤◌, Bool, true, false, not, ◌&&◌, ◌||◌, eqb, List, [], ◌∷◌, ◌++◌, length, refl, sym, ◌∙◌, ap, arith, Some, None, is_none, if◌then◌else◌, append-nil}
+use Rattle.std.proofs.Common.{◌≡◌, ℕ, zero, suc, ◌+◌, ◌<◌, ◌≤◌, Bool, true, false, not, ◌&&◌, ◌||◌, eqb, List, [], ◌∷◌, length, refl, sym, ◌∙◌, ap, arith, Some, None, is_none, if◌then◌else◌}
 use Rattle.std.specs.Prelude.{slice_get}
 use Rattle.std.proofs.lemmas.Bool.{ne_eqb, eq-eqb, eqb-false}
-use Rattle.nut_monitor_spec.specs.declared.Notice.{Notice}
 use Rattle.nut_monitor_spec.specs.declared.Phase.{Phase}
 use Rattle.nut_monitor_spec.specs.Configuration.{Line, Configuration, line_in}
-use Rattle.nut_monitor_spec.specs.Decision.{is_critical, power_where, each_primary, is_alone, when}
+use Rattle.nut_monitor_spec.specs.Decision.{is_critical, power_where, each_primary, is_alone}
 use Rattle.nut_monitor_spec.specs.Trace.{Entry, or_else, earliest, is_any, number, moment_of, clock}
 use Rattle.nut_monitor_spec.specs.Content.{Watch, for_each_line}
 use Rattle.nut_monitor_spec.specs.machine.Machine.{update, supply_of, all_alone, all_asked, asked_next}
