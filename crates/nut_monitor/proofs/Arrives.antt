@@ -1,5 +1,5 @@
 -- The history and the content after an event, and after the oldest notice was asked for.
-use Rattle.std.proofs.Common.{◌≡◌, ℕ, Bool, refl, sym, ap, subst, ◌∙◌, List, [], ◌∷◌, length, drop, slice_get, Option, Some, None, Result, Ok, arith}
+use Rattle.std.proofs.Common.{◌≡◌, ◌<◌, ℕ, Bool, refl, sym, ap, subst, ◌∙◌, List, [], ◌∷◌, length, drop, slice_get, Option, Some, None, Result, Ok, arith}
 use Rattle.std.proofs.lemmas.Bool.{lt-ltb}
 use Rattle.nut_monitor_spec.specs.Acceptance.{Tells, answer_on, is_linked, waiting_on, watch_at}
 use Rattle.nut_monitor_spec.specs.Configuration.{Configuration}
@@ -14,7 +14,7 @@ use Rattle.nut_monitor_spec.specs.declared.MonitorFault.{MonitorFault}
 use Rattle.nut_monitor_spec.specs.declared.Notice.{Notice}
 use Rattle.nut_monitor.specs.inside.Inside.{IsOrderly}
 use Rattle.nut_monitor.specs.Bounds.{KeepsLittle}
-use Rattle.nut_monitor_spec.proofs.Answering.{answers-keep}
+use Rattle.nut_monitor_spec.proofs.Answering.{answers-keep, answers-told}
 use Rattle.nut_monitor_spec.proofs.Told.{links-told}
 
 pub stands_after : (old new : Content) (e : Event) (r : Result (Unit {0}) MonitorFault) → IsAnswer old e r → new ≡ content_after r old e
@@ -52,9 +52,9 @@ waiting_told s i bytes is configuration events told =
     is ∙ ap (λ (x : Content). waiting_on (watch_at i x.watches)) told.1 ∙ links-told.left configuration events i told.0
 
 pub answer_told : (s : Content) (i : ℕ) (answer : Option LastAnswer) → answer ≡ answer_on (watch_at i s.watches)
-    → (configuration : Configuration) (events : List Event) → Tells configuration events s → answer ≡ last_answer i (trace configuration events)
-answer_told s i answer is configuration events told =
-    is ∙ ap (λ (x : Content). answer_on (watch_at i x.watches)) told.1 ∙ links-told.said configuration events i told.0
+    → (configuration : Configuration) (events : List Event) → Tells configuration events s → i < length configuration.lines → answer ≡ last_answer i (trace configuration events)
+answer_told s i answer is configuration events told less =
+    is ∙ ap (λ (x : Content). answer_on (watch_at i x.watches)) told.1 ∙ answers-told configuration events i less
 
 -- an orderly monitor keeps little
 pub orderly_little : (s : Content) → IsOrderly s → KeepsLittle s

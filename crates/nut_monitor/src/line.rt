@@ -14,8 +14,8 @@ ghost use Rattle.nut_monitor.specs.inside.Hearing.{HearsPiece, IsFed};
 ghost use Rattle.nut_monitor.specs.inside.Inside.{to_lose, unwatched};
 ghost use Rattle.nut_monitor.specs.inside.Sound.{IsCountAfter, IsSound};
 
-use crate::answer::{Scene, disturbed, hear, on_line, tell_disturbed};
-use crate::notices::Notices;
+use crate::answer::{Scene, hear, on_line, tell_loss, with_loss};
+use crate::notices::{ANSWER_NOTICES_MAX, Notices};
 use crate::query::{next_query, request};
 use crate::time::{is_over, is_past};
 use nut_conf::{Monitored, Notice as Kind, UpsmonConf};
@@ -49,7 +49,9 @@ impl Model for MonitorLine {
 fn ask_on(link: &mut Link, line: &Monitored, query: Query) -> bool
     requires { link.old.exchange.fault ≡ None }
     ensures put { result ≡ is_idle link.old.exchange.stage }
-    ensures link { link.new ≡ (if result then with_exchange (record link.old.exchange { stage = stages.Asked (query_of (request_of (line_of line.now) query)) }) link.old else link.old) }
+    ensures link { link.new ≡ (if result
+        then with_exchange (record link.old.exchange { stage = stages.Asked (query_of (request_of (line_of line.now) query)) }) link.old
+        else link.old) }
 {
     link.ask(&request(line, query)).is_ok()
 }
@@ -88,11 +90,12 @@ fn hear_answer(
     outcome: &Option<Outcome>,
     notices: &mut Notices,
 ) -> Known
-    requires few { length notices.old ≤ 8 }
+    requires room { length notices.old + ANSWER_NOTICES_MAX < NOTICES_MAX }
     requires count { IsCountAfter last outcome.now }
-    ensures few { length notices.new ≤ length notices.old + 7 }
+    ensures few { length notices.new ≤ length notices.old + ANSWER_NOTICES_MAX }
     ensures known { result ≡ known_after (configuration_of config.now) scene.clock scene.watching last outcome.now known }
-    ensures told { notices.new ≡ notices.old ++ (if scene.watching then answer_told (configuration_of config.now) scene.clock scene.line last outcome.now known else []) }
+    ensures told { notices.new ≡ notices.old ++ (if scene.watching
+        then answer_told (configuration_of config.now) scene.clock scene.line last outcome.now known else []) }
 {
     let Some(last) = last else {
         return known;
@@ -211,8 +214,8 @@ impl MonitorLine {
         ensures told { notices.new ≡ notices.old ++ (if scene.watching then loss_told scene.line self.old else []) }
         ensures few { length notices.new + to_lose self.new ≤ length notices.old + to_lose self.old }
     {
-        tell_disturbed(scene, self.known, notices);
-        self.known = disturbed(self.known);
+        tell_loss(scene, self.known, notices);
+        self.known = with_loss(self.known);
         // dropped by a call, which keeps the proof of this function short
         drop(self.link.take());
     }
@@ -235,16 +238,17 @@ impl MonitorLine {
         piece: &[u8],
         notices: &mut Notices,
     ) -> (usize, Result<(), LinkFault>)
-        requires { length notices.old ≤ 8 }
-        ensures few { length notices.new ≤ length notices.old + 8 }
-        ensures hears { (v : LinkValue) → self.old.link ≡ Some v → HearsPiece (configuration_of config.now) scene piece.now v self.old notices.old result self.new notices.new }
+        requires room { length notices.old + ANSWER_NOTICES_MAX < NOTICES_MAX }
+        ensures few { length notices.new ≤ length notices.old + ANSWER_NOTICES_MAX + 1 }
+        ensures hears { (v : LinkValue) → self.old.link ≡ Some v
+            → HearsPiece (configuration_of config.now) scene piece.now v self.old notices.old result self.new notices.new }
     {
         let (done, heard, outcome) = feed(&mut self.link, self.last, piece);
         self.known = hear_answer(config, scene, self.known, self.last, &outcome, notices);
         keep_answer(self.last, outcome, &mut self.answer);
         if heard.is_err() {
-            tell_disturbed(scene, self.known, notices);
-            self.known = disturbed(self.known);
+            tell_loss(scene, self.known, notices);
+            self.known = with_loss(self.known);
         }
         (done, heard)
     }
@@ -261,7 +265,8 @@ impl MonitorLine {
         requires { length notices.old < NOTICES_MAX }
         ensures line { self.new ≡ silent (configuration_of config.now) clock self.old }
         ensures few { length notices.new ≤ length notices.old + 1 }
-        ensures told { notices.new ≡ notices.old ++ when (is_silent (configuration_of config.now) clock self.old) (told_of kinds.Nocomm line) }
+        ensures told { notices.new
+            ≡ notices.old ++ when (is_silent (configuration_of config.now) clock self.old) (told_of kinds.Nocomm line) }
     {
         if tell_silence(config, clock, line, self.known, notices) {
             self.known.silence_told = Some(clock);

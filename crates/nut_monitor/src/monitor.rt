@@ -151,9 +151,9 @@ impl Monitor {
     pub fn last_answer(&self, i: usize) -> Option<&LastAnswer>
         ensures value { option_map (λ a. a.now) result ≡ answer_on (watch_at i self.now.content.watches) }
 
-        // The same by the history, for every history that leads to this content.
+        // The same by the history, for every history that leads to this content and every line.
         ensures told { (configuration : Configuration) (events : List Events) → Tells configuration events self.now.content
-            → option_map (λ a. a.now) result ≡ last_answer i (trace configuration events) }
+            → i < length configuration.lines → option_map (λ a. a.now) result ≡ last_answer i (trace configuration events) }
     {
         self.state.last_answer(i)
     }
@@ -175,7 +175,8 @@ impl Monitor {
     /// Removes and returns the oldest waiting notice, if one waits.
     pub fn take_notice(&mut self) -> Option<Notice>
         ensures taken { result ≡ slice_get self.old.content.notices 0 }
-        ensures left { self.new ≡ record { config = self.old.config; content = record self.old.content { notices = drop 1 self.old.content.notices } } }
+        ensures left { self.new
+            ≡ record { config = self.old.config; content = record self.old.content { notices = drop 1 self.old.content.notices } } }
 
         // The content is then that of the history with the notice's taking as its newest event, if there was a notice.
         ensures stands { (configuration : Configuration) (events : List Events) → Tells configuration events self.old.content
@@ -207,7 +208,8 @@ impl Monitor {
     /// Those of `arrive`.
     pub fn step(&mut self, event: Event<'_>) -> Result<(), MonitorFault>
         ensures answered { IsAnswer self.old.content (event_of event.entry) result }
-        ensures content { self.new ≡ record { config = self.old.config; content = content_after result self.old.content (event_of event.entry) } }
+        ensures content { self.new
+            ≡ record { config = self.old.config; content = content_after result self.old.content (event_of event.entry) } }
     {
         match event {
             Event::Moment(t) => self.state.moment(&self.config, t),

@@ -15,7 +15,7 @@ use crate::answer::Scene;
 use crate::event::Event;
 use crate::line::MonitorLine;
 use crate::notices::Notices;
-use crate::shutdown::{is_alone, is_forced, is_short, phase};
+use crate::shutdown::{is_alone, is_over_by, is_short, phase};
 use nut_conf::{Monitored, Notice as Kind, UpsmonConf};
 use nut_link::LinkFault;
 use nut_monitor_spec::{Known, LastAnswer, LastQuery, MonitorFault, NOTICES_MAX, Notice, Phase};
@@ -85,7 +85,8 @@ fn tell_silences(
 /// Puts the next query on each link on which one may be put.
 fn ask_all(config: &UpsmonConf, clock: u64, phase: Phase, watches: &mut Vec<MonitorLine>)
     requires { length watches.old.items ≡ length (configuration_of config.now).lines }
-    ensures { watches.new.items ≡ all_asked (configuration_of config.now) clock phase (configuration_of config.now).lines watches.old.items }
+    ensures { watches.new.items
+        ≡ all_asked (configuration_of config.now) clock phase (configuration_of config.now).lines watches.old.items }
 {
     let monitors = &config.monitors;
     let lines = monitors.lines.as_slice();
@@ -138,8 +139,10 @@ impl State {
     /// Begins the shutdown if power is short and none has begun.
     fn judge_shutdown(&mut self, config: &UpsmonConf)
         requires { length self.old.watches.items ≡ length (configuration_of config.now).lines }
-        ensures content { content_in (configuration_of config.now) self.new ≡ shutdown_judged (content_in (configuration_of config.now) self.old) }
-        ensures orderly { IsOrderly (content_in (configuration_of config.now) self.old) → IsOrderly (content_in (configuration_of config.now) self.new) }
+        ensures content { content_in (configuration_of config.now) self.new
+            ≡ shutdown_judged (content_in (configuration_of config.now) self.old) }
+        ensures orderly { IsOrderly (content_in (configuration_of config.now) self.old)
+            → IsOrderly (content_in (configuration_of config.now) self.new) }
     {
         let short = is_short(config, self.clock, self.watches.as_slice());
         if self.begun.is_none() && short {
@@ -151,11 +154,13 @@ impl State {
     fn move_phase(&mut self, config: &UpsmonConf)
         requires all { length self.old.watches.items ≡ length (configuration_of config.now).lines }
         requires few { length self.old.notices < NOTICES_MAX }
-        ensures content { content_in (configuration_of config.now) self.new ≡ phase_moved (content_in (configuration_of config.now) self.old) }
-        ensures orderly { IsOrderly (content_in (configuration_of config.now) self.old) → IsOrderly (content_in (configuration_of config.now) self.new) }
+        ensures content { content_in (configuration_of config.now) self.new
+            ≡ phase_moved (content_in (configuration_of config.now) self.old) }
+        ensures orderly { IsOrderly (content_in (configuration_of config.now) self.old)
+            → IsOrderly (content_in (configuration_of config.now) self.new) }
     {
         let alone = is_alone(config, self.watches.as_slice());
-        let over = is_forced(config, self.clock, alone, self.begun);
+        let over = is_over_by(config, self.clock, alone, self.begun);
         if self.ended.is_none() && over {
             self.ended = Some(self.clock);
             self.notices.tell_when(
@@ -260,7 +265,8 @@ impl State {
     fn tick(&mut self, config: &UpsmonConf, t: u64)
         requires orderly { IsOrderly (content_in (configuration_of config.now) self.old) }
         requires free { length self.old.notices ≡ 0 }
-        ensures content { content_in (configuration_of config.now) self.new ≡ silences_heard (clock_set t (content_in (configuration_of config.now) self.old)) }
+        ensures content { content_in (configuration_of config.now) self.new
+            ≡ silences_heard (clock_set t (content_in (configuration_of config.now) self.old)) }
         ensures orderly { IsOrderly (content_in (configuration_of config.now) self.new) }
     {
         self.clock = self.clock.max(t);

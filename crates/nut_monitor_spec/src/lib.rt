@@ -4,7 +4,7 @@
 
 ghost use Rattle.nut_monitor_spec.specs.machine.Machine.{KeepsContent};
 ghost use Rattle.nut_monitor_spec.specs.machine.MachineOutcome.{AnswersKeepContent};
-ghost use Rattle.nut_monitor_spec.specs.laws.Laws.{AnswersComeInTurn, CutsDoNotMatter, LinkedIsMade, LinksAreBounded, LinksAreTold, LoginsFollowFsd, NoticesAreFew, NoticesComeInOrder, OthersStay, QueriesComeAlone, SentAndWaitingIsDue, ShutdownStays, WaitingIsLeft};
+ghost use Rattle.nut_monitor_spec.specs.laws.Laws.{AnswersAreTold, AnswersComeInTurn, CutsDoNotMatter, LinkedIsMade, LinksAreBounded, LinksAreTold, LoginsFollowFsd, NoticesAreFew, NoticesComeInOrder, OthersStay, QueriesComeAlone, SentAndWaitingIsDue, ShutdownStays, WaitingIsLeft};
 ghost use Rattle.nut_monitor_spec.specs.examples.Examples.{CommunicationExamples, EdgeExamples, OrderExamples, PrimaryExamples, RefusalExamples, RoomExamples, SecondaryExamples};
 
 mod limits;
@@ -171,10 +171,15 @@ pub fn waiting_is_left()
 {}
 
 /// States a law and does nothing when called: `linked_is_made` and `waiting_is_left` for every number, also for one
-/// that no MONITOR line has, after every history of accepted events. And the last answer of each number in the content is
-/// the newest answer since its link was made.
+/// that no MONITOR line has, after every history of accepted events.
 pub fn links_are_told()
     ensures { LinksAreTold }
+{}
+
+/// States a law and does nothing when called: the last answer that the content has of a MONITOR line is the newest on its
+/// link since it was made.
+pub fn answers_are_told()
+    ensures { AnswersAreTold }
 {}
 
 /// States a law and does nothing when called: on a link that is up, the bytes that the server took, followed by those

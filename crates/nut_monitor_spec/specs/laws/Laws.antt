@@ -35,7 +35,7 @@ WaitingIsLeft =
     waiting_on (watch_at i (content configuration events).watches) ≡ waits configuration i (trace configuration events)
 
 -- `LinkedIsMade` and `WaitingIsLeft` for every number, also for one that no MONITOR line has, after every history of
--- accepted events. And the last answer in the content is that of the history.
+-- accepted events.
 pub record LinksAreTold : Type 0 where
   pub there :
       (configuration : Configuration) (events : List Event) (i : ℕ) → IsAccepted configuration events →
@@ -43,9 +43,12 @@ pub record LinksAreTold : Type 0 where
   pub left :
       (configuration : Configuration) (events : List Event) (i : ℕ) → IsAccepted configuration events →
       waiting_on (watch_at i (content configuration events).watches) ≡ waits configuration i (trace configuration events)
-  pub said :
-      (configuration : Configuration) (events : List Event) (i : ℕ) → IsAccepted configuration events →
-      answer_on (watch_at i (content configuration events).watches) ≡ last_answer i (trace configuration events)
+
+-- The last answer that the content has of a MONITOR line is the newest on its link since it was made.
+abbrev pub AnswersAreTold : Type 0
+AnswersAreTold =
+    (configuration : Configuration) (events : List Event) (i : ℕ) → i < length configuration.lines →
+    answer_on (watch_at i (content configuration events).watches) ≡ last_answer i (trace configuration events)
 
 -- On a link that is up, the bytes that the server took, followed by those that wait, are the queries put on it since it
 -- was made, joined.
@@ -99,7 +102,8 @@ LoginsFollowFsd =
 -- newest may have none.
 abbrev pub AnswersComeInTurn : Type 0
 AnswersComeInTurn =
-    (configuration : Configuration) (events : List Event) (i : ℕ) → IsAccepted configuration events → linked i (trace configuration events) ≡ true →
+    (configuration : Configuration) (events : List Event) (i : ℕ) → IsAccepted configuration events →
+    linked i (trace configuration events) ≡ true →
     IsInTurn (queries i (trace configuration events)) (map (λ a. a.asked) (answers i (trace configuration events)))
 
 -- the number of the link that an event concerns

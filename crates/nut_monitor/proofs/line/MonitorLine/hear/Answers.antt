@@ -23,11 +23,11 @@ returns-then-is_err-clause-hears c = λ v is.
       link = fed.link;
       feeds = fed.feeds;
       watch =
-          ap₂ (λ a k. record { link = c.feed-done.new.link; last = c.self.inside.last; answer = a; known = k }) c.keep_answer.ensures c.disturbed-self-inside.ensures
+          ap₂ (λ a k. record { link = c.feed-done.new.link; last = c.self.inside.last; answer = a; known = k }) c.keep_answer.ensures c.with_loss-self-inside.ensures
           ∙ watch_failed configuration scene.clock scene.watching fed.link w c.feed-done.result.2 c.feed-done.new.link c.hear_answer-self-inside.result fault fed.answer fed.stands c.hear_answer-self-inside.ensures.known
           ∙ ap (λ w. watch_heard configuration scene.clock scene.watching fed.link w) c.self.view_is;
-      tells = told_failed configuration scene.clock scene.line scene.watching fed.link w c.feed-done.result.2 c.hear_answer-self-inside.result c.args.notices.now c.hear_answer-self-inside.new.notices c.tell_disturbed.new.notices fault fed.answer
-          c.hear_answer-self-inside.ensures.known c.hear_answer-self-inside.ensures.told c.tell_disturbed.ensures.told
+      tells = told_failed configuration scene.clock scene.line scene.watching fed.link w c.feed-done.result.2 c.hear_answer-self-inside.result c.args.notices.now c.hear_answer-self-inside.new.notices c.tell_loss.new.notices fault fed.answer
+          c.hear_answer-self-inside.ensures.known c.hear_answer-self-inside.ensures.told c.tell_loss.ensures.told
           ∙ ap (λ w. c.args.notices.now ++ (if scene.watching then told_heard configuration scene.clock scene.line scene.watching fed.link w else [])) c.self.view_is;
     }
 
