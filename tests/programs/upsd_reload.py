@@ -16,7 +16,7 @@ import threading
 import time
 from concurrent import futures
 
-from tests.support.harness import apart, ensure, expect, Failed, Missing, needed, patience, processor_time, refusal, run_tests, Shimmed
+from tests.support.harness import apart, ensure, expect, Failed, fewer, Missing, needed, patience, processor_time, refusal, run_tests, Shimmed
 from tests.support.room import Client, DEVICE, Lines, NOT_CONNECTED, ONLINE, Room, SOON, STATUS, USERS, VERSION
 from tests.support.room import accepted, first_lines, stopped, until
 
@@ -325,7 +325,7 @@ class Tests(Shimmed):
                 expect(logged_in.ask(b"GET NUMLOGINS su700\n"), b"NUMLOGINS su700 1\n", "a client that is logged in")
                 for i in range(20_000):
                     expect(busy.line(), ONLINE, f"answer {i} of many")
-            ensure(poller.stop() > 100, "a client that asks all the time was hardly served")
+            ensure(poller.stop() > fewer(100), "a client that asks all the time was hardly served")
 
     def test_reloads_under_load(self):
         with self.room(ups=TWO) as room:
@@ -338,7 +338,7 @@ class Tests(Shimmed):
             for turn in range(10):
                 room.reload(TWO if turn % 2 else ONE, f"upsd: reloaded: UPS old {'added' if turn % 2 else 'removed'}")
             for poller in pollers:
-                ensure(poller.stop() > 100, "a client was hardly served")
+                ensure(poller.stop() > fewer(100), "a client was hardly served")
 
     def test_tools_of_nut_under_load(self):
         upsc = needed("upsc", "nut-client")

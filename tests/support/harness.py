@@ -77,7 +77,7 @@ def patience(seconds):
 
 
 def fewer(count):
-    """Returns how many random runs are played, of so many on a proved build."""
+    """Returns how many random runs are played, or requests answered in a time, of so many on a proved build."""
     return count // 10 if built_without_proof() else count
 
 
