@@ -477,6 +477,7 @@ class Tests:
         for law in ("primary", "secondary", "forced"):
             ensure(counts[f"halts within the {law} bound"] > 0, f"no {law} bound was there")
             ensure(counts[f"halts at the {law} bound"] > 0, f"no run reaches the {law} bound")
+        ensure(counts["halts within the bound of a machine that is cut off"] > 0, "no machine was cut off on battery for good")
         ensure(counts["machines that went on as promised"] > 0 and counts["HOSTSYNC that was just enough"] > 0, f"not all was played: {counts}")
 
 
