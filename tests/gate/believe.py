@@ -45,7 +45,7 @@ PROMISES = (
         ("nut_monitor_spec", None, (
             "cuts_do_not_matter", "notices_are_few", "links_are_bounded", "notices_come_in_order", "linked_is_made", "waiting_is_left",
             "links_are_told", "sent_and_waiting_is_due", "queries_come_alone", "answers_come_in_turn", "logins_follow_fsd",
-            "others_stay", "shutdown_stays")),)),
+            "others_stay", "shutdown_stays", "answers_are_told")),)),
     ("The monitor's loop", "what a world gives and takes is what a monitor is told and asks", (
         ("nut_monitor_loop", "watching.rt", ("watch",)), ("nut_monitor_loop", "world.rt", ("MonWorld.*",)),
         ("nut_monitor_loop", None, ("watch_memory",)))),
@@ -71,7 +71,7 @@ PROMISES = (
         ("nut_in_time", None, (
             "links_open_in_time", "statuses_come_in_time", "shutdowns_begin_in_time", "machines_halt_in_time", "shutdowns_go_on",
             "hostsync_suffices", "nobody_halts_in_vain", "the_last_ups_counts", "forced_is_shown", "room_stops_in_time",
-            "cut_off_machines_stop")),
+            "cut_off_machines_stop", "links_come_back?")),
         ("nut_upsmon", None, ("stops_within",)))),
     ("Links that keep a pace", "how a link is seen to keep pace", (
         ("nut_in_time", None, ("quiet_links_keep_pace", "rounds_keep_pace")),)),
@@ -95,9 +95,9 @@ HEAD = """# What has to be believed
 
 Whoever believes the definitions below believes what the clauses of these calls and laws say (docs/proved.md; a law's definition has its
 name). Each section lists what it adds to those before it, by crate, with the number of its lines, and by file, in the order in which
-definitions rest on each other: **Lines** of `nut_words` is `crates/nut_words/specs/Lines.antt`, where comments say what they mean.
+definitions rest on each other: Lines of `nut_words` is `crates/nut_words/specs/Lines.antt`, where comments say what they mean.
 All that a section leads to by itself is printed by `python3 -m tests.gate.believe 'A monitor'`. Lines are those of a definition with its
-comment. Types and constants of the code that definitions name are counted apart, and words of the toolchain's library aren't listed.
+comment. Types and constants of the code that definitions name stand at the end, and words of the toolchain's library aren't listed.
 
 Two files are second forms of shorter ones, and are listed since the clauses cite them. Whoever believes `nut_words: Spelling` needn't
 believe `nut_words: Reader`, except `has_backslash`, `with_backslash` and `Gives` (law `spelled_is_meant`). Whoever believes
@@ -270,7 +270,7 @@ def rows(library, found):
             names = [name for name in where.definitions if (crate, module, name) in found]
             if it == crate and names:
                 lines += sum(where.definitions[name].lines for name in names)
-                files.append(f"**{module}** `{' '.join(names)}`")
+                files.append(f"{module} `{' '.join(names)}`")
         if files:
             yield f"- `{crate}` {lines}: {'; '.join(files)}"
 
@@ -282,11 +282,16 @@ def section(library, title, about, called, found, before):
     added = library.sums(new)[0]
     what_is_new = f", {added:,} of them new" if before else ""
     out = [f"## {title}\n", f"Of {called}: {about}. {lines:,} lines{what_is_new}, and {code_lines:,} of code.\n"]
-    out += rows(library, new)
-    code = {crate: sorted(name for it, module, name in new if module == CODE and it == crate) for crate in library.order}
-    listed = "; ".join(f"`{crate}` `{' '.join(names)}`" for crate, names in code.items() if names)
-    if listed:
-        out.append(f"- Types and constants of the code {library.sums(new)[1]}: {listed}")
+    return "\n".join(out + list(rows(library, new))) + "\n"
+
+
+def code_of(library, found):
+    """Returns the text of the section that lists the types and constants of the code among these."""
+    out = ["## Types and constants of the code\n"]
+    for crate in library.order:
+        names = sorted(name for it, module, name in found if module == CODE and it == crate)
+        if names:
+            out.append(f"- `{crate}` {sum(library.item(crate, name) for name in names)}: `{' '.join(names)}`")
     return "\n".join(out) + "\n"
 
 
@@ -300,7 +305,7 @@ def page(library):
     for title, about, calls, found in promises.sections:
         out.append(section(library, title, about, calls_of(promises, calls), found, before))
         before |= found
-    return "\n".join(out)
+    return "\n".join([*out, code_of(library, everything)])
 
 
 class Tests:
@@ -348,7 +353,7 @@ def main(words):
         promises = Promises(library)
         for title, about, calls, found in promises.sections:
             if title == words[0]:
-                print(section(library, title, about, calls_of(promises, calls), found, set()))
+                print(section(library, title, about, calls_of(promises, calls), found, set()), code_of(library, found), sep="\n")
                 return 0
         print(f"no section {words[0]}; there are {', '.join(it[0] for it in PROMISES)}")
         return 2

@@ -32,7 +32,7 @@ from tests.support.terminal import run_on_terminal
 TOOLS = os.path.join(ROOT, "tools")
 sys.path.append(TOOLS)
 
-from nutroom_modules.bounds import PATIENCE_ON_BATTERY, is_forced, needed_host_sync
+from nutroom_modules.bounds import PATIENCE_ON_BATTERY, halts_when_cut_off, is_forced, needed_host_sync
 from nutroom_modules.nutsim import Nutsim
 from nutroom_modules.picture import width_of
 from nutroom_modules.reading import read_room
@@ -285,6 +285,7 @@ class Tests:
             ensure(f"HOSTSYNC 15 of m1 {line}; in brackets what is enough" in lines, lines)
         cut = self.printed("-n", "4", self.room(f"{PAIR}{LOW}at 15 m2 cut\n")).splitlines()
         ensure("  m2  halted by 20 + delay 2 + HOSTSYNC 15 + 1 + FINALDELAY 5 = 43; doesn't hold, since its link was cut" in cut, cut)
+        ensure("      cut off on battery: halted within DEADTIME 15 + 1 + FINALDELAY 5 = 21 s of its last status" in cut, cut)
         online = self.printed("-n", "2", self.room(f"{PAIR}at 5 su700 OB\nat 15 m2 cut\nat 8 su700 OL\n")).splitlines()
         ensure("  m1  goes on: its UPSes are neither low nor forced, and DEADTIME is long enough" in online and "  m2  nothing is said of it" in online, online)
         ensure("  nobody: 2 of 2" in online, online)
@@ -586,6 +587,9 @@ def play_rooms(program, folder, seeds):
 
 def seen_of(plan, machine, host, story, bound):
     """Returns how a machine did by its bound."""
+    if story.last_read is not None:
+        latest = story.last_read + halts_when_cut_off(machine)
+        return ["halts within the bound of a machine that is cut off"] + ["halts at that bound"] * (story.halted_clock == latest)
     if not story.keeps_pace:
         return []
     if bound is None:
@@ -595,8 +599,8 @@ def seen_of(plan, machine, host, story, bound):
     clock = plan.scenes[bound.start][host.number][0]
     # by the room's clock it isn't later either
     ensure(story.halted <= bound.end, f"{machine.name} is halted at {story.halted}, past {bound}")
-    is_forced = all(is_forced(plan.room.last_status(machine.rules.lines[i].ups, bound.start)) for i in bound.lines)
-    law = "forced" if is_forced else "primary" if all(machine.rules.lines[i].is_primary for i in bound.lines) else "secondary"
+    were_forced = all(is_forced(plan.room.last_status(machine.rules.lines[i].ups, bound.start)) for i in bound.lines)
+    law = "forced" if were_forced else "primary" if all(machine.rules.lines[i].is_primary for i in bound.lines) else "secondary"
     return [f"halts within the {law} bound"] + [f"halts at the {law} bound"] * (story.halted_clock == clock + bound.halts)
 
 

@@ -29,6 +29,7 @@ ANSWERS = {
     b"LIST VAR su700": b'BEGIN LIST VAR su700\nVAR su700 battery.charge "100"\nVAR su700 ups.mfr "a \\"b\\" \\\\c"\n'
     b'VAR su700 ups.status "OL"\nEND LIST VAR su700\n',
     b"GET VAR su700 ups.status": b'VAR su700 ups.status "OL"\n',
+    b"GET VAR su700 ups.mfr": b'VAR su700 ups.mfr "a \\"b\\" \\\\c"\n',
     b"LIST UPS": b'BEGIN LIST UPS\nUPS su700 "Server room"\nUPS b ""\nEND LIST UPS\n',
     b"LIST CLIENT su700": b"BEGIN LIST CLIENT su700\nCLIENT su700 ::1\nCLIENT su700 10.0.0.1\nEND LIST CLIENT su700\n",
     b"LIST VAR stale": b"ERR DATA-STALE\n",
@@ -88,7 +89,7 @@ COMMANDS = b"load.off - Turn off the load\nload.on - Turn on the load\n"
 OUTPUT_FAILED = b"Error: output failed\n"
 # what stands below the line of a command line that is no combination
 USAGES = {
-    "upsc": b"Usage: upsc [-j] NAME\n       upsc NAME VAR\n       upsc -l | -L [HOST[:PORT]]\n       upsc -c NAME\n",
+    "upsc": b"Usage: upsc [-j] NAME [VAR]\n       upsc -l | -L [HOST[:PORT]]\n       upsc -c NAME\n",
     "upsrw": b"Usage: upsrw NAME\n       upsrw [-w] -s VAR=VALUE -u USER -p PASS NAME\n",
     "upscmd": b"Usage: upscmd -l NAME\n       upscmd [-w] -u USER -p PASS NAME CMD [PARAM]\n",
 }
@@ -106,6 +107,7 @@ GOOD = [
     ("upsc", ["none@AT"], [b"LIST VAR none"], b""),
     ("upsc", ["-j", "su700@AT"], [b"LIST VAR su700"], OBJECT),
     ("upsc", ["-j", "none@AT"], [b"LIST VAR none"], b"{}\n"),
+    ("upsc", ["-j", "su700@AT", "ups.mfr"], [b"GET VAR su700 ups.mfr"], b'{"ups.mfr": "a \\"b\\" \\\\c"}\n'),
     (
         "upsrw",
         ["su700@AT"],
@@ -162,7 +164,7 @@ BAD = [
     ("upsc", [], None, b"bad arguments", 2),
     ("upsc", ["-l", "-L"], None, b"bad arguments", 2),
     ("upsc", ["-j"], None, b"bad arguments", 2),
-    ("upsc", ["-j", "su700@AT", "ups.status"], None, b"bad arguments", 2),
+    ("upsc", ["-jl", "AT", "ups.status"], None, b"bad arguments", 2),
     ("upsc", ["-j", "-c", "su700@AT"], None, b"bad arguments", 2),
     ("upsc", ["-jl", "AT"], None, b"bad arguments", 2),
     ("upsc", ["-j", "stale@AT"], [b"LIST VAR stale"], b"DATA-STALE", 1),

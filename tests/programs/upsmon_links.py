@@ -39,6 +39,8 @@ from tests.support.room import STATUS, Room, has_ipv6, raise_loopback, until
 
 # how long a server may take for an answer while a UPS is on battery and while none is, and for a connection, in seconds
 SHORT, LONG, PATIENCE = 5, 10, 5
+# for how many seconds after its start upsmon doesn't tell that a UPS without a status is lost
+FIRST = 15
 # how many hosts the dead name server is asked for, and a host that is found without it
 HOSTS = 30
 KNOWN = "ups.example"
@@ -290,6 +292,7 @@ class Tests(Shimmed):
         with Slow() as server, self.watch(f"MONITOR {server.target} 1 mon m1 primary\nPOLLFREQ 1\n", "-q") as watch:
             for count in (1, 2):
                 until(lambda: len(server.slow) >= 2 * count, "two slow answers", 40)
+                until(lambda: len(warnings_of(watch)) >= count, "that is told", 40)
                 expect(warnings_of(watch), [LATE % server.target] * count, "what is told")
                 expect(watch.lines().count(LOST % server.target), count - 1, "the link stays until the server drops it")
                 server.drop()
@@ -399,6 +402,51 @@ class Tests(Shimmed):
             watch.until_printed(ESTABLISHED % server.target)
             until(lambda: reports_of(watch, server.target)[-1] == "server connected", "that it is back is reported")
             expect(reports_of(watch, server.target)[:2], ["server connected", lost], "reports")
+
+    def test_driver_that_comes_late(self):
+        """At a boot the server is there before the driver is: nothing is told of a loss, and the first status at once."""
+        with self.room() as room:
+            target = f"su700@127.0.0.1:{room.port}"
+            room.upsd()
+            with self.watch(f"MONITOR {target} 1 mon m1 primary\nPOLLFREQ 1\n") as watch:
+                until(lambda: any("status refused" in line for line in reports_of(watch, target)), "the status is refused")
+                time.sleep(2)
+                room.dummy(b"ups.status: OB\n", "dev")
+                watch.until_printed(ON_BATTERY % target)
+                expect(watch.lines(), [ON_BATTERY % target], "what is told")
+
+    def test_first_seconds(self):
+        """That UPSes without a status are lost is told after the first seconds, and that of one which had a status at once."""
+        with Moody(status=b"ERR DATA-STALE\n") as stale, Closing() as closing, Moody() as heard:
+            servers = (stale, closing, heard)
+            lines = "".join(f"MONITOR {it.target} 1 mon m1 secondary\n" for it in servers)
+            begun = time.monotonic()
+            with self.watch(f"{lines}POLLFREQ 1\n") as watch:
+                until(lambda: heard.asked.count(STATUS) >= 2 and stale.asked.count(STATUS) >= 2, "the statuses are asked for")
+                heard.drop()
+                watch.until_printed(LOST % heard.target, FIRST - 3)
+                watch.until_printed(ESTABLISHED % heard.target, 5)
+                told = [LOST % heard.target, ESTABLISHED % heard.target]
+                expect(watch.lines(), told, "what is told in the first seconds")
+                for server in (stale, closing):
+                    watch.until_printed(LOST % server.target, FIRST + 5)
+                passed = time.monotonic() - begun
+                ensure(FIRST - 1 <= passed <= FIRST + 3, f"the losses are told after {FIRST} s: {passed:.1f}")
+                expect(sorted(watch.lines()[2:]), sorted(LOST % it.target for it in (stale, closing)), "what is told then")
+                stale.statuses[b"su700"] = b"OL"
+                watch.until_printed(ESTABLISHED % stale.target)
+                heard.is_silent = True
+                heard.drop()
+                until(lambda: watch.lines().count(LOST % heard.target) == 2, "a later loss is told at once", 3)
+
+    def test_losses_are_told_before_a_shutdown(self):
+        with Moody(status=b"ERR DATA-STALE\n") as stale, Moody() as other:
+            conf = f"MINSUPPLIES 1\nMONITOR {stale.target} 0 mon m1 secondary\nMONITOR {other.target} 1 mon m1 secondary\n{QUICK}"
+            with self.watch(conf) as watch:
+                until(lambda: stale.asked.count(STATUS) >= 2 and other.asked.count(STATUS) >= 2, "the statuses are asked for")
+                other.statuses[b"su700"] = b"OB FSD"
+                expect(watch.status(), 0, "status")
+                expect(watch.lines()[-2:], [LOST % stale.target, SHUTDOWN], "what is told last")
 
     def test_urgent_data(self):
         """A second of the monitor's clock lasts a minute here: bytes behind urgent data are read without waiting for the

@@ -38,6 +38,11 @@ def halts_within(machine):
     return (machine.rules.host_sync + 1 if machine.rules.has_primary else 0) + machine.rules.final_delay
 
 
+def halts_when_cut_off(machine):
+    """Returns the most seconds from the last status that a machine read to its halt, if it is cut off on battery."""
+    return machine.rules.dead_time + 1 + halts_within(machine)
+
+
 @dataclasses.dataclass(frozen=True)
 class Bound:
     """From `start` on, the UPSes of these lines of a machine are shown as a reason to stop. So its shutdown begins within

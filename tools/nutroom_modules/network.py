@@ -29,8 +29,9 @@ class Link:
         self.is_outstanding = False
         self.landed = 0
         self.is_fsd_taken = False
-        # the status that is on its way, and the last that arrived
+        # the status that is on its way, and the last that arrived, with the machine's clock then
         self.coming = self.status = ""
+        self.read_at = 0
         # whether no status was asked for since the machine was last cut off: the theorem counts from that query on
         self.is_broken = True
         self.call_at = 0
@@ -83,6 +84,11 @@ class Host:
     def ready(self):
         """Returns the latest time at which it has read a first status."""
         return self.starts + 6 * self.machine.greatest + (self.machine.rules.poll_freq + 1) * SECOND
+
+    def last_read(self):
+        """Returns the machine's clock as it read its last status, if it is cut off on battery for good, or None."""
+        is_dark = self.is_cut and self.machine.rules.min_supplies > 0 and all("OB" in link.status.split() for link in self.links)
+        return max(link.read_at for link in self.links) if is_dark else None
 
     def patience(self):
         """Returns for how many seconds upsmon leaves a query open."""

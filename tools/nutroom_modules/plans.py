@@ -204,7 +204,7 @@ class Plan:
         link.is_outstanding = False
         link.landed += 1
         if link.query == "status":
-            link.status = link.coming
+            link.status, link.read_at = link.coming, host.clock
         link.is_fsd_taken = link.is_fsd_taken or link.query == "fsd"
         self.tell(host, f"land {host.number} {link.number} 512", "land", host.number, link.number, link.landed)
 

@@ -3,7 +3,7 @@
 import dataclasses
 import math
 
-from nutroom_modules.bounds import goes_on
+from nutroom_modules.bounds import goes_on, halts_when_cut_off
 from nutroom_modules.faults import Fault
 from nutroom_modules.network import FINAL, HALTED
 from nutroom_modules.plans import Plan
@@ -22,6 +22,8 @@ class Story:
     phases: list = dataclasses.field(default_factory=list)
     notices: list = dataclasses.field(default_factory=list)
     marks: list = dataclasses.field(default_factory=list)
+    # the machine's clock as it read its last status, if it was cut off on battery for good
+    last_read: int = None
     # whether the premises of what the theorem says about the machine held, and whether what it says was violated
     keeps_pace: bool = False
     is_wrong: bool = False
@@ -36,8 +38,15 @@ class Story:
             self.halted, self.halted_clock = time, clock
 
     def judge(self, plan, host, bound):
-        """Tests the story against the theorem. A bound counts in whole seconds of the machine's clock; its premise is that
-        the links of its lines keep pace until the shutdown begins."""
+        """Tests the story against the theorem."""
+        self.last_read = host.last_read()
+        self.judge_bound(plan, host, bound)
+        if self.last_read is not None:
+            self.is_wrong |= self.halted is None or self.halted_clock > self.last_read + halts_when_cut_off(host.machine)
+
+    def judge_bound(self, plan, host, bound):
+        """Tests the story against a bound. It counts in whole seconds of the machine's clock; its premise is that the links of
+        its lines keep pace until the shutdown begins."""
         if bound is None:
             self.keeps_pace = goes_on(plan.room, host.machine) and not host.cuts and not any(line.ups in plan.forced for line in host.machine.rules.lines)
             self.is_wrong = self.keeps_pace and self.begun is not None

@@ -4,7 +4,7 @@ import collections
 import math
 import statistics
 
-from nutroom_modules.bounds import is_low, needed_host_sync
+from nutroom_modules.bounds import halt_terms, halts_when_cut_off, is_low, needed_host_sync
 from nutroom_modules.times import seconds, short_seconds
 
 
@@ -97,6 +97,9 @@ class Summary:
                 why = "its link was cut" if bound is not None else "its link was cut, or its UPSes were forced"
                 text += f"; holds in {kept} of {self.count} runs, and in the others {why}"
             yield f"  {machine.name:<{width}}  {text}"
+            if any(story.last_read is not None for story in stories):
+                sum_of = f"DEADTIME {machine.rules.dead_time} + 1 + {halt_terms(machine)} = {halts_when_cut_off(machine)}"
+                yield f"  {'':<{width}}  cut off on battery: halted within {sum_of} s of its last status"
 
     def sync_lines(self):
         """Yields whether each primary waits long enough for the others."""

@@ -144,7 +144,7 @@ impl MonWorld for Odd {
         Ok(next)
     }
 
-    fn write(&mut self, i: usize, bytes: &[u8]) -> Result<Written, Fault> {
+    fn write(&mut self, _monitor: &Monitor, i: usize, bytes: &[u8]) -> Result<Written, Fault> {
         if i == 0 {
             self.writes = self.writes.wrapping_add(1);
             let is_put_off = self.mode == Mode::Reluctant && self.writes % 2 == 1;
@@ -166,7 +166,7 @@ impl MonWorld for Odd {
         Ok(Written::Took(n))
     }
 
-    fn close(&mut self, i: usize) -> Result<(), Fault> {
+    fn close(&mut self, _monitor: &Monitor, i: usize) -> Result<(), Fault> {
         if self.mode == Mode::FaultAtClose {
             self.faults += 1;
             return Err(Fault);

@@ -37,9 +37,15 @@ command name rules = fold with_rule (on_top (λ s. record s { has_version = true
 
 -- the command of each tool
 unfoldable pub command_of : Tool → App
-command_of Upsc = command (codes "upsc") (flag (codes "names") 108 ∷ flag (codes "descriptions") 76 ∷ flag (codes "clients") 99 ∷ flag (codes "json") 106 ∷ argument (codes "name") ∷ argument (codes "variable") ∷ [])
-command_of Upsrw = command (codes "upsrw") (valued (codes "setting") 115 ∷ flag (codes "wait") 119 ∷ valued (codes "user") 117 ∷ valued (codes "password") 112 ∷ argument (codes "name") ∷ [])
-command_of Upscmd = command (codes "upscmd") (flag (codes "list") 108 ∷ flag (codes "wait") 119 ∷ valued (codes "user") 117 ∷ valued (codes "password") 112 ∷ argument (codes "name") ∷ argument (codes "command") ∷ argument (codes "parameter") ∷ [])
+command_of Upsc =
+    command (codes "upsc") (flag (codes "names") 108 ∷ flag (codes "descriptions") 76 ∷ flag (codes "clients") 99 ∷ flag (codes "json") 106
+    ∷ argument (codes "name") ∷ argument (codes "variable") ∷ [])
+command_of Upsrw =
+    command (codes "upsrw") (valued (codes "setting") 115 ∷ flag (codes "wait") 119 ∷ valued (codes "user") 117
+    ∷ valued (codes "password") 112 ∷ argument (codes "name") ∷ [])
+command_of Upscmd =
+    command (codes "upscmd") (flag (codes "list") 108 ∷ flag (codes "wait") 119 ∷ valued (codes "user") 117
+    ∷ valued (codes "password") 112 ∷ argument (codes "name") ∷ argument (codes "command") ∷ argument (codes "parameter") ∷ [])
 
 -- what a command line asks for: this, of the UPS of this name, at this host and port
 pub record Options : Type 0 where
@@ -80,7 +86,7 @@ options_of (Some wanted) name =
 abbrev pub is_given : List ℕ → List Row → Bool
 is_given id rows = option_map_or (λ v. bytes_eq v (codes "true")) (first_of id rows) false
 
--- The flags for names, descriptions, clients and an object exclude each other, and each of them excludes a variable.
+-- The flags for names, descriptions, clients and an object exclude each other, and all but the last exclude a variable.
 abbrev pub upsc_wanted : Bool → Bool → Bool → Bool → Option (List ℕ) → Option Wanted
 upsc_wanted false false false false None = Some wanteds.Variables
 upsc_wanted false false false false (Some variable) = Some (wanteds.Value variable)
@@ -88,6 +94,7 @@ upsc_wanted true false false false None = Some wanteds.Names
 upsc_wanted false true false false None = Some wanteds.Descriptions
 upsc_wanted false false true false None = Some wanteds.Clients
 upsc_wanted false false false true None = Some wanteds.Object
+upsc_wanted false false false true (Some variable) = Some (wanteds.Member variable)
 upsc_wanted names descriptions clients json variable = None
 
 -- how long a tool stays, by whether the flag to wait was given
@@ -99,21 +106,29 @@ until false = untils.Accepted
 -- setting.
 abbrev pub upsrw_wanted : Option (List ℕ) → Bool → Option (List ℕ) → Option (List ℕ) → Option Wanted
 upsrw_wanted None false None None = Some wanteds.Settings
-upsrw_wanted (Some setting) wait (Some user) (Some password) = option_map (λ p. wanteds.Does user password (deeds.Set p.0 p.1) (until wait)) (parted 61 setting)
+upsrw_wanted (Some setting) wait (Some user) (Some password) =
+    option_map (λ p. wanteds.Does user password (deeds.Set p.0 p.1) (until wait)) (parted 61 setting)
 upsrw_wanted setting wait user password = None
 
 -- A list takes neither a command nor a user nor the flag to wait, and a command, with a parameter or without one, needs
 -- a user and a password.
 abbrev pub upscmd_wanted : Bool → Bool → Option (List ℕ) → Option (List ℕ) → Option (List ℕ) → Option (List ℕ) → Option Wanted
 upscmd_wanted true false None None None None = Some wanteds.Commands
-upscmd_wanted false wait (Some command) parameter (Some user) (Some password) = Some (wanteds.Does user password (deeds.Command command parameter) (until wait))
+upscmd_wanted false wait (Some command) parameter (Some user) (Some password) =
+    Some (wanteds.Does user password (deeds.Command command parameter) (until wait))
 upscmd_wanted list wait command parameter user password = None
 
 -- what its options and arguments ask of each tool
 abbrev pub wanted_of : Tool → List Row → Option Wanted
-wanted_of Upsc rows = upsc_wanted (is_given (codes "names") rows) (is_given (codes "descriptions") rows) (is_given (codes "clients") rows) (is_given (codes "json") rows) (first_of (codes "variable") rows)
-wanted_of Upsrw rows = upsrw_wanted (first_of (codes "setting") rows) (is_given (codes "wait") rows) (first_of (codes "user") rows) (first_of (codes "password") rows)
-wanted_of Upscmd rows = upscmd_wanted (is_given (codes "list") rows) (is_given (codes "wait") rows) (first_of (codes "command") rows) (first_of (codes "parameter") rows) (first_of (codes "user") rows) (first_of (codes "password") rows)
+wanted_of Upsc rows =
+    upsc_wanted (is_given (codes "names") rows) (is_given (codes "descriptions") rows) (is_given (codes "clients") rows)
+    (is_given (codes "json") rows) (first_of (codes "variable") rows)
+wanted_of Upsrw rows =
+    upsrw_wanted (first_of (codes "setting") rows) (is_given (codes "wait") rows) (first_of (codes "user") rows)
+    (first_of (codes "password") rows)
+wanted_of Upscmd rows =
+    upscmd_wanted (is_given (codes "list") rows) (is_given (codes "wait") rows) (first_of (codes "command") rows)
+    (first_of (codes "parameter") rows) (first_of (codes "user") rows) (first_of (codes "password") rows)
 
 -- what clap's matches ask of a tool, if clap finds no fault
 abbrev pub line_by : Tool → List Row → Kinds → CommandLine

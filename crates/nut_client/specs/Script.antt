@@ -92,13 +92,16 @@ values_of kind = if has_word (codes "ENUM") kind then values.Enum else (if has_w
 
 -- Asks which values a variable may have, and continues with the text and these.
 abbrev pub with_values : List ℕ → List ℕ → Values → List ℕ → (List ℕ → Script) → Script
-with_values ups variable values.Enum text next = Asks (requests.List (queries.Enum ups variable)) (on_rows (λ rows. next (text ++ row_lines Options rows)))
-with_values ups variable values.Range text next = Asks (requests.List (queries.Range ups variable)) (on_rows (λ rows. next (text ++ row_lines Ranges rows)))
+with_values ups variable values.Enum text next =
+    Asks (requests.List (queries.Enum ups variable)) (on_rows (λ rows. next (text ++ row_lines Options rows)))
+with_values ups variable values.Range text next =
+    Asks (requests.List (queries.Range ups variable)) (on_rows (λ rows. next (text ++ row_lines Ranges rows)))
 with_values ups variable values.Free text next = next text
 
 -- what is shown above the values that a variable may have: its name, its type, its value
 abbrev pub with_heading : List (List ℕ) → List (List ℕ) → List ℕ → List ℕ
-with_heading row kind text = text ++ line (codes "[" ∷ word 0 row ∷ codes "]" ∷ []) ++ type_line kind ++ line (codes "Value: " ∷ word 1 row ∷ [])
+with_heading row kind text =
+    text ++ line (codes "[" ∷ word 0 row ∷ codes "]" ∷ []) ++ type_line kind ++ line (codes "Value: " ∷ word 1 row ∷ [])
 
 -- Appends each writable variable to the text.
 abbrev pub settings : List ℕ → List ℕ → List (List (List ℕ)) → Script
@@ -165,6 +168,8 @@ abbrev pub script : List ℕ → Wanted → Script
 script ups wanteds.Variables = lists (requests.List (queries.Var ups)) Pairs
 script ups wanteds.Object = Asks (requests.List (queries.Var ups)) (on_rows (λ rows. Prints (json_object rows)))
 script ups (wanteds.Value variable) = Asks (requests.GetVar ups variable) (on_words (λ words. Prints (line (word 0 words ∷ []))))
+script ups (wanteds.Member variable) =
+    Asks (requests.GetVar ups variable) (on_words (λ words. Prints (json_object ((variable ∷ word 0 words ∷ []) ∷ []))))
 script ups wanteds.Names = lists (requests.List queries.Ups) Firsts
 script ups wanteds.Descriptions = lists (requests.List queries.Ups) Pairs
 script ups wanteds.Clients = lists (requests.List (queries.Client ups)) Firsts

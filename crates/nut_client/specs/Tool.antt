@@ -143,7 +143,8 @@ WasWritten (Err failure) written queries = WasWrittenBy failure written queries
 
 -- A tool ends as its run over the bytes that it heard, unless memory could not be allocated. Of a connection whose
 -- bytes are known, it heard the first, perhaps left some unheard that were read with them, and wrote its queries.
-pub record Ends (script : Script) (result : Result (List ℕ) Failure) (input left : Option (List ℕ)) (before after : Option (List ℕ)) : Type 0 where
+pub record Ends (script : Script) (result : Result (List ℕ) Failure) (input left : Option (List ℕ))
+    (before after : Option (List ℕ)) : Type 0 where
   pub heard : List ℕ
   pub unheard : List ℕ
   pub written : List ℕ
@@ -153,7 +154,8 @@ pub record Ends (script : Script) (result : Result (List ℕ) Failure) (input le
   pub ended : (result ≡ Err failures.Memory) ⊎ (result ≡ ending (run_of script heard).standing)
   pub queries : WasWritten result written (run_of script heard).queries
   -- If the connection was lost, all that was read was heard, or a query was sent only in part.
-  pub lost : IfErr result (λ failure. failure ≡ failures.ConnectionLost → (unheard ≡ []) ⊎ (length written < length (run_of script heard).queries))
+  pub lost : IfErr result (λ failure. failure ≡ failures.ConnectionLost
+      → (unheard ≡ []) ⊎ (length written < length (run_of script heard).queries))
 
 -- why the words of a command line are not available, by the kind of error with which their reading ended
 abbrev pub words_failure : IoErrorKind → Failure
@@ -198,7 +200,9 @@ Reports failure status err = (status ≡ status_of failure) × HasText (error_te
 -- of the text was written there, and that is reported. A failure is reported, and then nothing is written to the
 -- output.
 abbrev pub Tells : Result (List ℕ) Failure → ℕ → Written → Written → Type 0
-Tells (Ok text) status out err = ((status ≡ 0) × HasAll text out × IsUntouched err) ⊎ (IsCutShort text out × Reports failures.OutputFailed status err)
+Tells (Ok text) status out err =
+    ((status ≡ 0) × HasAll text out × IsUntouched err)
+    ⊎ (IsCutShort text out × Reports failures.OutputFailed status err)
 Tells (Err failure) status out err = IsUntouched out × Reports failure status err
 
 -- The text that clap has for an error of this kind is printed as an output is, if it was asked for; else it is written
@@ -238,9 +242,10 @@ IsUnused None back = ⊤
 -- How a program ends. It did what its command line asks for, and tells the result. Or memory could not be allocated, or
 -- its words are no such command line, and it tells that. Or clap finds a fault in the words, and its text is printed.
 -- If nothing was asked, the connection isn't used.
-pub data RunsAs (line : CommandLine) (ends : Script → Result (List ℕ) Failure → Type 0) (unused : Type 0) (status : ℕ) (out err : Written) : Type 0 where
-  asks : (options : Options) → line ≡ Ok (Ok options) → (result : Result (List ℕ) Failure) → ends (script options.ups options.wanted) result
-      → Tells result status out err → RunsAs line ends unused status out err
+pub data RunsAs (line : CommandLine) (ends : Script → Result (List ℕ) Failure → Type 0) (unused : Type 0)
+    (status : ℕ) (out err : Written) : Type 0 where
+  asks : (options : Options) → line ≡ Ok (Ok options) → (result : Result (List ℕ) Failure)
+      → ends (script options.ups options.wanted) result → Tells result status out err → RunsAs line ends unused status out err
   refuses : (failure : Failure) → (failure ≡ failures.Memory) ⊎ (line ≡ Ok (Err failure)) → unused
       → Tells (Err failure) status out err → RunsAs line ends unused status out err
   explains : (faults : Kinds) (kind : ErrorKind) → line ≡ Err faults → IsAmong kind faults → unused

@@ -164,7 +164,8 @@ pub(crate) fn tell_refusal<O: Output, E: Output>(
     out: &mut O,
     err: &mut E,
 ) -> u8
-    ensures { TellsRefusal refusal result (written O.contents O.has_failed out.old out.new) (written E.contents E.has_failed err.old err.new) }
+    ensures { TellsRefusal refusal result
+        (written O.contents O.has_failed out.old out.new) (written E.contents E.has_failed err.old err.new) }
 {
     match refusal {
         Refusal::Failed(failure) => tell(rt, Err(failure), out, err),
@@ -191,8 +192,8 @@ fn tell_fault<E: Output>(rt: &impl Wait, text: &Text, err: &mut E) -> u8
     2
 }
 
-/// Writes clap's text for the tool of this name: the help and the version to `out`, as a tool's output is written, and a fault to `err`, with
-/// status 2. If memory for the text cannot be allocated, writes that to `err`, with status 1.
+/// Writes clap's text for the tool of this name: the help and the version to `out`, as a tool's output is written, and a
+/// fault to `err`, with status 2. If memory for the text cannot be allocated, writes that to `err`, with status 1.
 fn tell_usage<O: Output, E: Output>(
     rt: &impl Wait,
     alloc: Global,
@@ -201,8 +202,10 @@ fn tell_usage<O: Output, E: Output>(
     out: &mut O,
     err: &mut E,
 ) -> u8
-    ensures { Explains (asked_for (kind_of error.now)) result (written O.contents O.has_failed out.old out.new) (written E.contents E.has_failed err.old err.new)
-        ⊎ Tells (Err Memory) result (written O.contents O.has_failed out.old out.new) (written E.contents E.has_failed err.old err.new) }
+    ensures { Explains (asked_for (kind_of error.now)) result
+        (written O.contents O.has_failed out.old out.new) (written E.contents E.has_failed err.old err.new)
+        ⊎ Tells (Err Memory) result
+        (written O.contents O.has_failed out.old out.new) (written E.contents E.has_failed err.old err.new) }
 {
     let Ok(text) = clap_text(alloc, name, error) else {
         return tell(rt, Err(Failure::Memory), out, err);

@@ -33,7 +33,8 @@ pub fn force_shutdown<S: Stream>(
 ) -> Result<(), Failure>
     ensures ends { Ends (in_turn (forcing_queries ups.entry user.entry password.entry)) (without_text result)
         (S.remaining stream.old) (S.remaining stream.new) (S.taken stream.old) (S.taken stream.new) }
-    ensures asked { IfOk result (λ _. S.taken stream.new ≡ append_known (S.taken stream.old) (query_lines (forcing_queries ups.entry user.entry password.entry))) }
+    ensures asked { IfOk result (λ _. S.taken stream.new
+        ≡ append_known (S.taken stream.old) (query_lines (forcing_queries ups.entry user.entry password.entry))) }
     ensures lost { IfErr result (λ failure. failure ≡ ConnectionLost → S.has_ended stream.new) }
 {
     let mut conversation = Conversation::new(alloc);

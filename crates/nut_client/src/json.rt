@@ -1,5 +1,5 @@
 //! Rows as a JSON text (RFC 8259).
-ghost use Rattle.std.specs.Prelude.{◌≡◌, ◌<◌, ◌++◌, OnOk, codes};
+ghost use Rattle.std.specs.Prelude.{◌≡◌, ◌<◌, ◌++◌, ◌∷◌, [], OnOk, codes};
 ghost use Rattle.std.specs.List.{flat_map};
 ghost use Rattle.nut_client.specs.Json.{escaped, hex_digit as hex_digit_of, json_object, json_string, member, members};
 
@@ -51,13 +51,20 @@ fn put_string(out: &mut Vec<u8>, text: &[u8]) -> Result<(), AllocError>
     out.extend_from_slice(b"\"")
 }
 
+/// Appends a name and its value.
+fn put_pair(out: &mut Vec<u8>, name: &[u8], value: &[u8]) -> Result<(), AllocError>
+    ensures { OnOk result (out.new.items ≡ out.old.items ++ member (name.now ∷ value.now ∷ [])) }
+{
+    put_string(out, name)?;
+    out.extend_from_slice(b": ")?;
+    put_string(out, value)
+}
+
 /// Appends the name and the value of a row.
 fn put_member(out: &mut Vec<u8>, row: &Fields) -> Result<(), AllocError>
     ensures { OnOk result (out.new.items ≡ out.old.items ++ member row.now) }
 {
-    put_string(out, row.get(0))?;
-    out.extend_from_slice(b": ")?;
-    put_string(out, row.get(1))
+    put_pair(out, row.get(0), row.get(1))
 }
 
 /// Appends further members, each after a comma.
@@ -90,5 +97,18 @@ pub(crate) fn put_object(out: &mut Vec<u8>, rows: &[Fields]) -> Result<(), Alloc
 {
     out.extend_from_slice(b"{")?;
     put_members(out, rows)?;
+    out.extend_from_slice(b"}\n")
+}
+
+/// Appends an object of one member and a line feed.
+pub(crate) fn put_object_of_one(
+    out: &mut Vec<u8>,
+    name: &[u8],
+    value: &[u8],
+) -> Result<(), AllocError>
+    ensures { OnOk result (out.new.items ≡ out.old.items ++ json_object ((name.now ∷ value.now ∷ []) ∷ [])) }
+{
+    out.extend_from_slice(b"{")?;
+    put_pair(out, name, value)?;
     out.extend_from_slice(b"}\n")
 }

@@ -9,7 +9,7 @@ ghost use Rattle.nut_client.specs.declared.task.Step.TheVariants.{Done};
 ghost use Rattle.nut_client.specs.inside.Task.{GivesNumber, GivesRows, GivesWords, GoesOn, IsDone, Leads, Says, ShowsRow, answered, first_query, first_question, left_at, left_of, row_query, showing, showing_of};
 
 use crate::failure::Failure;
-use crate::json::put_object;
+use crate::json::{put_object, put_object_of_one};
 use crate::printing::{Form, Values, put_heading, put_line, put_rows, values_of};
 use crate::wanted::{Deed, Until, Wanted};
 use nut_link::{Fields, Outcome, Rows, Text};
@@ -129,7 +129,7 @@ fn first_query<'t>(ups: &'t Word<'t>, wanted: &'t Wanted<'t>) -> Request<'t>
 {
     match wanted {
         Wanted::Variables | Wanted::Object => Request::List(ListQuery::Var { ups: ups.copy() }),
-        Wanted::Value(variable) => Request::GetVar {
+        Wanted::Value(variable) | Wanted::Member(variable) => Request::GetVar {
             ups: ups.copy(),
             variable: variable.copy(),
         },
@@ -240,6 +240,21 @@ fn print_word<'a>(alloc: Global, outcome: Outcome) -> Result<Step<'a>, Failure>
     done_by(text, put)
 }
 
+/// Prints the first of the words that answer a query, as the value of this variable in a JSON object.
+fn print_member<'a>(
+    alloc: Global,
+    variable: Word<'_>,
+    outcome: Outcome,
+) -> Result<Step<'a>, Failure>
+    ensures { (ups : List ℕ)
+        → Leads ups (on_words (λ words. Prints (json_object ((variable.entry ∷ word 0 words ∷ []) ∷ []))) outcome) result }
+{
+    let words = words_of(outcome)?;
+    let mut text = Vec::new(alloc);
+    let put = put_object_of_one(&mut text, variable.as_bytes(), words.get(0));
+    done_by(text, put)
+}
+
 /// Begins to show the rows that answer a LIST, each by further queries.
 fn show_rows<'a>(alloc: Global, question: Question, outcome: Outcome) -> Result<Step<'a>, Failure>
     ensures { (ups : List ℕ) → Leads ups (on_rows (showing ups question []) outcome) result }
@@ -264,6 +279,7 @@ fn hear_first<'a>(alloc: Global, wanted: Wanted<'a>, outcome: Outcome) -> Result
         Wanted::Descriptions => print_rows(alloc, Form::Pairs, outcome),
         Wanted::Clients => print_rows(alloc, Form::Firsts, outcome),
         Wanted::Value(_) => print_word(alloc, outcome),
+        Wanted::Member(variable) => print_member(alloc, variable, outcome),
         Wanted::Settings => show_rows(alloc, Question::Kind, outcome),
         Wanted::Commands => show_rows(alloc, Question::Description, outcome),
         Wanted::Does(_, password, deed, until) => {
@@ -345,7 +361,8 @@ fn hear_status<'a>(
     pauses: u32,
     outcome: Outcome,
 ) -> Result<Step<'a>, Failure>
-    ensures { (ups : List ℕ) → Leads ups (on_words (λ words. by_status (if_pending number pauses) (tracking_status (word 0 words))) outcome) result }
+    ensures { (ups : List ℕ)
+        → Leads ups (on_words (λ words. by_status (if_pending number pauses) (tracking_status (word 0 words))) outcome) result }
 {
     let words = words_of(outcome)?;
     match tracking_status(words.get(0)) {
@@ -382,7 +399,8 @@ fn put_answer(
     row: &Fields,
     outcome: Outcome,
 ) -> Result<Option<Question>, Failure>
-    ensures { (ups : List ℕ) (rows : List (List (List ℕ))) → ShowsRow ups question text.old.items row.now rows outcome text.new.items result }
+    ensures { (ups : List ℕ) (rows : List (List (List ℕ)))
+        → ShowsRow ups question text.old.items row.now rows outcome text.new.items result }
 {
     match question {
         Question::Kind => {

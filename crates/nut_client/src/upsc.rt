@@ -85,13 +85,16 @@ fn wanted_by<'a>(
         (false, true, false, false, None) => Some(Wanted::Descriptions),
         (false, false, true, false, None) => Some(Wanted::Clients),
         (false, false, false, true, None) => Some(Wanted::Object),
+        (false, false, false, true, Some(variable)) => {
+            Some(Wanted::Member(Word::new(variable.as_bytes())))
+        }
         _ => None,
     }
 }
 
 /// The command lines that the tool knows.
 pub(crate) const USAGE: &str =
-    "upsc [-j] NAME\n       upsc NAME VAR\n       upsc -l | -L [HOST[:PORT]]\n       upsc -c NAME";
+    "upsc [-j] NAME [VAR]\n       upsc -l | -L [HOST[:PORT]]\n       upsc -c NAME";
 
 /// What the command line may hold.
 const PARAMETERS: [Parameter; 6] = [

@@ -76,7 +76,8 @@ fn wanted_by<'a>(
     user: Option<&'a str>,
     password: Option<&'a str>,
 ) -> Option<Wanted<'a>>
-    ensures { result ≡ upscmd_wanted list wait (option_map (λ s. s.now) command.entry) (option_map (λ s. s.now) parameter.entry) (option_map (λ s. s.now) user.entry) (option_map (λ s. s.now) password.entry) }
+    ensures { result ≡ upscmd_wanted list wait (option_map (λ s. s.now) command.entry) (option_map (λ s. s.now) parameter.entry)
+        (option_map (λ s. s.now) user.entry) (option_map (λ s. s.now) password.entry) }
 {
     match (list, wait, command, parameter, user, password) {
         (true, false, None, None, None, None) => Some(Wanted::Commands),

@@ -68,7 +68,8 @@ fn wanted_by<'a>(
     user: Option<&'a str>,
     password: Option<&'a str>,
 ) -> Option<Wanted<'a>>
-    ensures { result ≡ upsrw_wanted (option_map (λ s. s.now) setting.entry) wait (option_map (λ s. s.now) user.entry) (option_map (λ s. s.now) password.entry) }
+    ensures { result ≡ upsrw_wanted (option_map (λ s. s.now) setting.entry) wait
+        (option_map (λ s. s.now) user.entry) (option_map (λ s. s.now) password.entry) }
 {
     match (setting, wait, user, password) {
         (None, false, None, None) => Some(Wanted::Settings),

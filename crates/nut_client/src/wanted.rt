@@ -10,6 +10,8 @@ pub enum Wanted<'a> {
     Object,
     /// The value of one variable: `upsc NAME VAR`.
     Value(Word<'a>),
+    /// The value of one variable, as a JSON object: `upsc -j NAME VAR`.
+    Member(Word<'a>),
     /// The names of the server's UPSes: `upsc -l`.
     Names,
     /// The names and descriptions of the server's UPSes: `upsc -L`.

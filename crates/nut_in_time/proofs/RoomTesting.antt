@@ -1,16 +1,15 @@
 -- The tests of a room's premises prove them.
-use Rattle.std.proofs.Common.{◌≡◌, ℕ, ◌+◌, ◌<◌, ◌≤◌, ◌&&◌, ◌||◌, nat_le, inl, inr, List, ◌++◌, length, true, false, sym, ◌∙◌, ◌∷◌, arith}
-use Rattle.std.proofs.lemmas.Bool.{and_parts, leb-true, or_cases}
+use Rattle.std.proofs.Common.{◌≡◌, ℕ, ◌+◌, ◌≤◌, ◌&&◌, nat_le, List, ◌++◌, true, ◌∷◌, arith}
+use Rattle.std.proofs.lemmas.Bool.{and_parts, leb-true}
 use Rattle.nut_monitor_spec.specs.Trace.{clock, outstanding}
 use Rattle.nut_fleet.specs.Schedule.{Step, IsFront}
 use Rattle.nut_fleet.specs.World.{Setup, is_linked, is_open, world}
-use Rattle.nut_in_time.specs.Pace.{Pace, FromOn, IsSteady, KeepsPace, seen_at, shown_at}
-use Rattle.nut_in_time.specs.InTime.{is_low}
+use Rattle.nut_in_time.specs.Pace.{Pace, FromOn, IsSteady, KeepsPace, seen_at}
 use Rattle.nut_in_time.specs.Room.{IsNoFaster}
 use Rattle.nut_in_time.specs.RoomTests.{is_together, keeps_step}
-use Rattle.nut_in_time.specs.Tests.{each_since, is_prompt, is_steady, keeps_pace, says}
+use Rattle.nut_in_time.specs.Tests.{each_since, is_prompt, is_steady, keeps_pace}
 use Rattle.nut_in_time.proofs.Climbing.{front-of}
-use Rattle.nut_in_time.proofs.Testing.{each-holds, front-append, prompt-holds, says-holds, steady-holds}
+use Rattle.nut_in_time.proofs.Testing.{each-holds, prompt-holds, steady-holds}
 
 together-holds : (setup : Setup) (drift p m x y : ℕ) (early : List Step) → is_together setup drift p m x y early ≡ true →
     (clock (seen_at setup p early) + x ≤ clock (seen_at setup m early) + y) × (clock (seen_at setup m early) + y ≤ clock (seen_at setup p early) + x + drift)

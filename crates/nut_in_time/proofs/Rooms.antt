@@ -28,7 +28,7 @@ use Rattle.nut_fleet.proofs.Steps.{some-there, spoken, zero-closed}
 use Rattle.nut_fleet.proofs.Unreloaded.{no-reload}
 use Rattle.nut_fleet.proofs.Worlds.{sound}
 use Rattle.nut_in_time.specs.Pace.{Pace, FromOn, IsSteady, IsWatched, Says, seen_at, shown_at}
-use Rattle.nut_in_time.specs.InTime.{BeginsBy, IsFailing, IsHaltedBy, Needs, halted_in, has_fsd, is_low, is_stopped, reads_in, seen_by, to_halted, turn}
+use Rattle.nut_in_time.specs.InTime.{BeginsBy, IsFailing, IsHaltedBy, halted_in, has_fsd, is_low, is_stopped, reads_in, seen_by, to_halted, turn}
 use Rattle.nut_in_time.specs.Room.{Follows, IsGrant, IsPatient, IsReady, IsRoom, IsStopping, KeepsStep, RoomStopsInTime, accepted_in, are_forced, forced_in, host_sync_for, is_forced, leads, other_halted_in}
 use Rattle.nut_in_time.proofs.Beginning.{begin-by, forced-begin_in_time, power-less}
 use Rattle.nut_in_time.proofs.Climbing.{front-of}

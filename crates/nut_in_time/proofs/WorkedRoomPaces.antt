@@ -20,7 +20,7 @@ use Rattle.nut_monitor_spec.specs.declared.Query.TheVariants.{Login, Primary}
 use Rattle.nut_fleet.specs.Schedule.{Step, IsFront}
 use Rattle.nut_fleet.specs.World.{line_of, monitor_of}
 use Rattle.nut_in_time.specs.Pace.{IsPolled, seen_at}
-use Rattle.nut_in_time.specs.Room.{IsPatient, IsReady, IsStopping, WasGranted}
+use Rattle.nut_in_time.specs.Room.{IsPatient, IsStopping, WasGranted}
 use Rattle.nut_in_time.specs.examples.RoomPaceExamples.{RoomPaceExamples, distant, five, in_time, in_time_later, known, low, low_later, paces, too_early, too_early_later, watches}
 use Rattle.nut_in_time.specs.RoomTests.{is_shown_low, keeps_step}
 use Rattle.nut_in_time.specs.Tests.{each_since, is_polled, is_steady, is_watched}

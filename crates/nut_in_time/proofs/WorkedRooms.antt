@@ -20,7 +20,7 @@ use Rattle.nut_monitor_spec.specs.declared.Query.TheVariants.{Login, Primary}
 use Rattle.nut_fleet.specs.Schedule.{Step, IsFront}
 use Rattle.nut_fleet.specs.World.{line_of, monitor_of}
 use Rattle.nut_in_time.specs.Pace.{IsPolled, seen_at}
-use Rattle.nut_in_time.specs.Room.{IsReady, IsStopping, WasGranted}
+use Rattle.nut_in_time.specs.Room.{IsStopping, WasGranted}
 use Rattle.nut_in_time.specs.examples.RoomExamples.{RoomExamples, at_once, room, low, too_early, over}
 use Rattle.nut_in_time.specs.RoomTests.{is_shown_low, keeps_step}
 use Rattle.nut_in_time.specs.Tests.{each_since, is_polled}

@@ -1,5 +1,5 @@
 -- Machines with more UPSes than they need.
-use Rattle.std.specs.Prelude.{ℕ, suc, ◌≡◌, ◌+◌, ◌<◌, ◌≤◌, true, List, length, Bool, is_some}
+use Rattle.std.specs.Prelude.{ℕ, suc, ◌≡◌, ◌+◌, ◌<◌, ◌≤◌, true, List, length, Bool}
 use Rattle.nut_monitor_spec.specs.Configuration.{Configuration, line_in}
 use Rattle.nut_fleet.specs.Schedule.{Step, IsFront}
 use Rattle.nut_fleet.specs.World.{Setup, monitor_of, line_of}

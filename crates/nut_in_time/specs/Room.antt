@@ -1,6 +1,6 @@
 -- Machines with one or several UPSes at one server, from a low battery to the last Halted: the primary of some of these
 -- UPSes, and the machines that cannot do without them.
-use Rattle.std.specs.Prelude.{ℕ, suc, ◌≡◌, ◌==◌, ◌+◌, ◌-◌, ◌<◌, ◌≤◌, ◌&&◌, max, if◌then◌else◌, Bool, true, false, List, length, Some}
+use Rattle.std.specs.Prelude.{ℕ, ◌≡◌, ◌==◌, ◌+◌, ◌-◌, ◌<◌, ◌≤◌, ◌&&◌, max, if◌then◌else◌, Bool, true, false, List, length, Some}
 use Rattle.std.specs.List.{list_any}
 use Rattle.std.specs.Str.{bytes_eq}
 use Rattle.nut_proto.specs.declared.reply.Reply.TheVariants.{Accepted}

@@ -29,11 +29,14 @@ pub fn read_piece<R: Read>(input: &mut R, piece: &mut Piece) -> io::Result<usize
     Ok(n)
 }
 
-/// Makes the piece as long as a piece can be.
+/// What a piece is filled up with.
+static FILLING: [u8; PIECE_MAX] = [0; PIECE_MAX];
+
+/// Makes the piece as long as a piece can be. The bytes that it has stay.
 fn make_room(piece: &mut Piece)
     ensures { length piece.new.items ≡ PIECE_MAX }
 {
-    *piece = Piece::from([0; PIECE_MAX]);
+    let _ = piece.try_extend_from_slice(&FILLING[piece.len()..]);
 }
 
 /// Reads once into the room, and returns how many bytes came. A read that is interrupted is tried again.

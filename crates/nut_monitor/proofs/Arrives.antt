@@ -1,19 +1,20 @@
 -- The history and the content after an event, and after the oldest notice was asked for.
-use Rattle.std.proofs.Common.{◌≡◌, ℕ, Bool, refl, sym, ap, subst, ◌∙◌, List, [], ◌∷◌, length, drop, slice_get, Option, Some, None, Result, Ok, arith}
+use Rattle.std.proofs.Common.{◌≡◌, ◌<◌, ℕ, Bool, refl, sym, ap, subst, ◌∙◌, List, [], ◌∷◌, length, drop, slice_get, Option, Some, None, Result, Ok, arith}
 use Rattle.std.proofs.lemmas.Bool.{lt-ltb}
-use Rattle.nut_monitor_spec.specs.Acceptance.{Tells, is_linked, waiting_on, watch_at}
+use Rattle.nut_monitor_spec.specs.Acceptance.{Tells, answer_on, is_linked, waiting_on, watch_at}
 use Rattle.nut_monitor_spec.specs.Configuration.{Configuration}
 use Rattle.nut_monitor_spec.specs.Content.{Content}
 use Rattle.nut_monitor_spec.specs.Event.{Event, NoticeTaken}
 use Rattle.nut_monitor_spec.specs.Handing.{after_asking}
 use Rattle.nut_monitor_spec.specs.Outcome.{IsAnswer, after}
 use Rattle.nut_monitor_spec.specs.machine.MachineOutcome.{content_after}
-use Rattle.nut_monitor_spec.specs.Trace.{linked, trace, waits}
+use Rattle.nut_monitor_spec.specs.Trace.{last_answer, linked, trace, waits}
+use Rattle.nut_monitor_spec.specs.declared.LastAnswer.{LastAnswer}
 use Rattle.nut_monitor_spec.specs.declared.MonitorFault.{MonitorFault}
 use Rattle.nut_monitor_spec.specs.declared.Notice.{Notice}
 use Rattle.nut_monitor.specs.inside.Inside.{IsOrderly}
 use Rattle.nut_monitor.specs.Bounds.{KeepsLittle}
-use Rattle.nut_monitor_spec.proofs.Answering.{answers-keep}
+use Rattle.nut_monitor_spec.proofs.Answering.{answers-keep, answers-told}
 use Rattle.nut_monitor_spec.proofs.Told.{links-told}
 
 pub stands_after : (old new : Content) (e : Event) (r : Result (Unit {0}) MonitorFault) → IsAnswer old e r → new ≡ content_after r old e
@@ -49,6 +50,11 @@ pub waiting_told : (s : Content) (i : ℕ) (bytes : List ℕ) → bytes ≡ wait
     → (configuration : Configuration) (events : List Event) → Tells configuration events s → bytes ≡ waits configuration i (trace configuration events)
 waiting_told s i bytes is configuration events told =
     is ∙ ap (λ (x : Content). waiting_on (watch_at i x.watches)) told.1 ∙ links-told.left configuration events i told.0
+
+pub answer_told : (s : Content) (i : ℕ) (answer : Option LastAnswer) → answer ≡ answer_on (watch_at i s.watches)
+    → (configuration : Configuration) (events : List Event) → Tells configuration events s → i < length configuration.lines → answer ≡ last_answer i (trace configuration events)
+answer_told s i answer is configuration events told less =
+    is ∙ ap (λ (x : Content). answer_on (watch_at i x.watches)) told.1 ∙ answers-told configuration events i less
 
 -- an orderly monitor keeps little
 pub orderly_little : (s : Content) → IsOrderly s → KeepsLittle s

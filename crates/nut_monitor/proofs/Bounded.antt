@@ -19,7 +19,7 @@ use Rattle.nut_link.proofs.Writable.{length_line}
 use Rattle.nut_link.specs.declared.limits.TheConstants.{QUERY_MAX}
 use Rattle.nut_monitor_spec.specs.Configuration.{Configuration, Line, line_of}
 use Rattle.nut_monitor_spec.specs.Content.{Watch}
-use Rattle.nut_monitor_spec.specs.machine.Machine.{all_asked, all_silent, goes_on, is_silent, link_after, link_asked, link_took, lost, made, put, silent, took, watch_answered, watch_heard}
+use Rattle.nut_monitor_spec.specs.machine.Machine.{all_asked, all_silent, goes_on, is_silent, link_after, link_asked, link_took, lost, put, silent, took, watch_answered, watch_heard}
 use Rattle.nut_monitor_spec.specs.Query.{request}
 use Rattle.nut_monitor_spec.specs.declared.Phase.{Phase}
 use Rattle.nut_monitor_spec.specs.declared.Query.{Query}
@@ -28,9 +28,6 @@ use Rattle.nut_monitor.specs.inside.Inside.{unwatched}
 use Rattle.nut_monitor.specs.Bounds.{AreLinksBounded, IsLinkBounded}
 
 -- ---- one link
-
-pub made_bounded : (w : Watch) → IsLinkBounded (made w).link
-made_bounded w = bounds_stay.begun
 
 pub took_bounded : (n : ℕ) (w : Watch) → IsLinkBounded w.link → IsLinkBounded (took n w).link
 took_bounded n w h = by_link w.link h where
@@ -92,7 +89,7 @@ at_bounded (x ∷ ws) (suc i) w lt is h = at_bounded ws i w (omega arith) is h.1
 
 silent_bounded : (c : Configuration) (k : ℕ) (w : Watch) → IsLinkBounded w.link → IsLinkBounded (silent c k w).link
 silent_bounded c k w h = by_test (is_silent c k w) where
-  by_test : (b : Bool) → IsLinkBounded (if b then record { link = w.link; last = w.last; known = record w.known { silence_told = Some k } } else w).link
+  by_test : (b : Bool) → IsLinkBounded (if b then record w { known = record w.known { silence_told = Some k } } else w).link
   by_test true = h
   by_test false = h
 

@@ -1,10 +1,10 @@
 -- What a piece changes in a monitor's content.
-use Rattle.std.proofs.Common.{◌≡◌, ℕ, ◌<◌, ◌≤◌, Bool, true, false, List, [], ◌++◌, length, refl, sym, ap, subst, ◌∙◌, Option, Some, None, is_some, is_none, Result, Ok, Err, inl, inr, slice_set, slice_index_or}
+use Rattle.std.proofs.Common.{◌≡◌, ℕ, ◌<◌, ◌≤◌, true, false, List, [], ◌++◌, length, refl, sym, ap, subst, ◌∙◌, Option, Some, None, is_some, is_none, Result, inl, inr, slice_set, slice_index_or}
 use Rattle.std.specs.Prelude.{if◌then◌else◌}
 use Rattle.std.proofs.lemmas.Bool.{false≢true}
 use Rattle.nut_words.specs.Lines.{lines_after}
-use Rattle.nut_link.specs.Hearing.{Feeds, RunsOut}
-use Rattle.nut_link.specs.Link.{LinkValue, answer_by, failed}
+use Rattle.nut_link.specs.Hearing.{RunsOut}
+use Rattle.nut_link.specs.Link.{LinkValue, answer_by}
 use Rattle.nut_link.specs.declared.fault.LinkFault.{LinkFault}
 use Rattle.nut_link.specs.declared.fault.LinkFault.TheVariants.{NotMine, BadLine, OutOfOrder, Memory, BadQuery, TooMuchTaken}
 use Rattle.nut_words.specs.declared.limits.TheConstants.{PIECE_MAX}

@@ -1,5 +1,5 @@
 -- What lines do to a link: the answer to a query for a number has one to nine digits, and no line says that memory is lacking.
-use Rattle.std.proofs.Common.{◌≡◌, ℕ, ◌+◌, ◌++◌, Bool, true, false, cond, nat_lt, List, [], ◌∷◌, length, drop, refl, sym, ap, subst, ◌∙◌, Option, Some, None, is_some, is_err, Result, Ok, Err, inl, inr, arith, leb-true}
+use Rattle.std.proofs.Common.{◌≡◌, ℕ, ◌++◌, Bool, true, false, nat_lt, List, [], ◌∷◌, length, drop, refl, sym, ap, subst, ◌∙◌, Option, Some, None, is_some, is_err, Result, Ok, Err, inl, inr}
 use Rattle.std.specs.Prelude.{◌==◌, if◌then◌else◌}
 use Rattle.std.specs.List.{list_all}
 use Rattle.nut_words.specs.Lines.{LineText, Text, TooLong, lines_after}
@@ -10,7 +10,7 @@ use Rattle.nut_proto.specs.declared.answer.Answer.TheVariants as answers
 use Rattle.nut_proto.specs.declared.answer.AnswerFault.{AnswerFault}
 use Rattle.nut_link.specs.Asking.{Asked}
 use Rattle.nut_link.specs.Hearing.{Feeds, RunsOut}
-use Rattle.nut_link.specs.Link.{LinkValue, answer_by, failed, fed, heard, left_of, lines_heard, moved, on_line, on_read, outcome_in, outcome_of, progress_of, stage_after, stage_without, taken_out, with_exchange}
+use Rattle.nut_link.specs.Link.{LinkValue, answer_by, heard, left_of, lines_heard, moved, on_line, on_read, outcome_in, outcome_of, progress_of, stage_after, stage_without, taken_out, with_exchange}
 use Rattle.nut_link.specs.Matching.{Progress, Listing, Complete, begins, first, has_more, is_heading, is_line, is_numbered, is_row, next, progress}
 use Rattle.nut_link.specs.declared.exchange.Exchange.{Exchange}
 use Rattle.nut_link.specs.declared.exchange.Stage.{Stage}
@@ -27,7 +27,7 @@ use Rattle.nut_monitor_spec.specs.declared.LastQuery.{LastQuery}
 use Rattle.nut_monitor_spec.specs.declared.Query.{Query}
 use Rattle.nut_monitor_spec.specs.declared.Query.TheVariants.{Username, Password, Login, Primary, Status, Fsd, NumLogins}
 use Rattle.nut_monitor.specs.inside.Hearing.{IsFed}
-use Rattle.nut_monitor.specs.inside.Sound.{ExpectsCount, IsCount, IsCountAfter, IsSound, IsSoundLink, IsSoundStage}
+use Rattle.nut_monitor.specs.inside.Sound.{ExpectsCount, IsCount, IsCountAfter, IsSoundLink, IsSoundStage}
 use Rattle.nut_monitor.proofs.Counts.{left_true, right_true}
 
 -- ---- counts

@@ -1,8 +1,7 @@
 -- Walks over the MONITOR lines.
-use Rattle.std.proofs.Common.{◌≡◌, ℕ, zero, suc, ◌+◌, ◌-◌, ◌<◌, ◌≤◌, Bool, true, false, ◌&&◌, ◌||◌, cond, List, [], ◌∷◌, ◌++◌, map, drop, take, length, refl, sym, ◌∙◌, ap, slice_set, slice_index_or, arith, append_assoc}
+use Rattle.std.proofs.Common.{◌≡◌, ℕ, zero, suc, ◌+◌, ◌<◌, ◌&&◌, ◌||◌, List, [], ◌∷◌, ◌++◌, map, drop, length, refl, sym, ◌∙◌, ap, slice_set, slice_index_or, arith}
 use Rattle.nut_conf.specs.declared.monitor.Monitored.{Monitored}
 use Rattle.nut_conf.specs.declared.notice.Notice.TheVariants as kinds
-use Rattle.nut_monitor_spec.specs.declared.Notice.{Notice}
 use Rattle.nut_monitor_spec.specs.declared.Phase.{Phase}
 use Rattle.std.specs.List.{list_any}
 use Rattle.nut_monitor_spec.specs.Configuration.{Configuration, Line, has_primary, line_of}
@@ -15,14 +14,6 @@ pub suc_is : (n : ℕ) → suc n ≡ n + 1
 suc_is n = omega arith
 
 -- ---- power and counts
-
-pub supply_none : (c : Configuration) (k : ℕ) (ls : List Line) → supply_of c k ls [] ≡ 0
-supply_none c k [] = refl
-supply_none c k (l ∷ ls) = refl
-
-pub alone_none : (ls : List Line) → all_alone ls [] ≡ true
-alone_none [] = refl
-alone_none (l ∷ ls) = refl
 
 pub alone_step : (i : ℕ) (ms : List Monitored) (ws : List Watch) (m : Monitored) (w : Watch) → i < length ms → i < length ws → m ≡ slice_index_or ms i m → w ≡ slice_index_or ws i w
     → all_alone (map line_of (drop i ms)) (drop i ws) ≡ (lets_halt (line_of m) w.known && all_alone (map line_of (drop (suc i) ms)) (drop (suc i) ws))

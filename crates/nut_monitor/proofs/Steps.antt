@@ -16,7 +16,7 @@ use Rattle.nut_monitor_spec.specs.Acceptance.{bytes_refusal, is_linked, linked_r
 use Rattle.nut_monitor_spec.specs.Configuration.{Configuration, Line, configuration_of, line_of}
 use Rattle.nut_monitor_spec.specs.Content.{Watch, Content, content}
 use Rattle.nut_monitor_spec.specs.Decision.{loss_notices}
-use Rattle.nut_monitor_spec.specs.machine.Machine.{all_asked, all_silent, answer_told, asked_next, bytes_heard, goes_on, heard_before, known_after, link_lost, loss_told, lost, memory_out, piece_heard, piece_out, put, told_heard, told_out, update, watch_answered, watch_heard, watch_out, with_watch}
+use Rattle.nut_monitor_spec.specs.machine.Machine.{answer_after, all_asked, all_silent, answer_told, asked_next, bytes_heard, goes_on, heard_before, known_after, link_lost, loss_told, lost, memory_out, piece_heard, piece_out, put, told_heard, told_out, update, watch_answered, watch_heard, watch_out, with_watch}
 use Rattle.nut_monitor_spec.specs.declared.Communication.TheVariants.{Bad}
 use Rattle.nut_monitor_spec.specs.declared.Known.{Known}
 use Rattle.nut_monitor_spec.specs.declared.Notice.{Notice}
@@ -214,18 +214,20 @@ module _ (v : LinkValue) (p : List ℕ) (k : ℕ) (l : LinkValue) (out : RunsOut
 
 pub watch_failed : (c : Configuration) (clock : ℕ) (b : Bool) (l : LinkValue) (w : Watch) (o : Option Outcome) (left : Option LinkValue) (known1 : Known) → is_some l.exchange.fault ≡ true → o ≡ outcome_of l.exchange
     → left ≡ (if is_some l.exchange.fault then None else Some (with_exchange (taken_out l.exchange) l)) → known1 ≡ known_after c clock b w.last o w.known
-    → record { link = left; last = w.last; known = record known1 { communication = Bad } } ≡ watch_heard c clock b l w
+    → record { link = left; last = w.last; answer = answer_after w.last o w.answer; known = record known1 { communication = Bad } } ≡ watch_heard c clock b l w
 watch_failed c clock b l w o left known1 fault answer stands known =
-    ap₂ (λ x k. record { link = x; last = w.last; known = record k { communication = Bad } })
+    ap (λ o. record { link = left; last = w.last; answer = answer_after w.last o w.answer; known = record known1 { communication = Bad } }) answer
+    ∙ ap₂ (λ x k. record { link = x; last = w.last; answer = answer_after w.last (outcome_of l.exchange) w.answer; known = record k { communication = Bad } })
     (stands ∙ ap (λ f. if f then None else Some (with_exchange (taken_out l.exchange) l)) fault)
     (known ∙ ap (λ o. known_after c clock b w.last o w.known) answer)
     ∙ sym (ap (λ f. if f then lost (watch_answered c clock b (outcome_of l.exchange) w) else goes_on l (watch_answered c clock b (outcome_of l.exchange) w)) fault)
 
 pub watch_goes_on : (c : Configuration) (clock : ℕ) (b : Bool) (l : LinkValue) (w : Watch) (o : Option Outcome) (left : Option LinkValue) (known1 : Known) → is_some l.exchange.fault ≡ false → o ≡ outcome_of l.exchange
     → left ≡ (if is_some l.exchange.fault then None else Some (with_exchange (taken_out l.exchange) l)) → known1 ≡ known_after c clock b w.last o w.known
-    → record { link = left; last = w.last; known = known1 } ≡ watch_heard c clock b l w
+    → record { link = left; last = w.last; answer = answer_after w.last o w.answer; known = known1 } ≡ watch_heard c clock b l w
 watch_goes_on c clock b l w o left known1 fault answer stands known =
-    ap₂ (λ x k. record { link = x; last = w.last; known = k })
+    ap (λ o. record { link = left; last = w.last; answer = answer_after w.last o w.answer; known = known1 }) answer
+    ∙ ap₂ (λ x k. record { link = x; last = w.last; answer = answer_after w.last (outcome_of l.exchange) w.answer; known = k })
     (stands ∙ ap (λ f. if f then None else Some (with_exchange (taken_out l.exchange) l)) fault)
     (known ∙ ap (λ o. known_after c clock b w.last o w.known) answer)
     ∙ sym (ap (λ f. if f then lost (watch_answered c clock b (outcome_of l.exchange) w) else goes_on l (watch_answered c clock b (outcome_of l.exchange) w)) fault)

@@ -1,6 +1,6 @@
 -- The texts of notices.
 use Rattle.std.specs.Prelude.{ℕ, suc, take, drop, ◌+◌, ◌==◌, ◌&&◌, Bool, false, List, [], ◌∷◌, ◌++◌, if◌then◌else◌, Option, Some, None, slice_get}
-use Rattle.std.specs.Option.{option_map, option_map_or}
+use Rattle.std.specs.Option.{option_map}
 use Rattle.nut_conf.specs.Upsmon.{message_of}
 use Rattle.nut_conf.specs.declared.notice.Notice.{Notice as Kind}
 use Rattle.nut_conf.specs.declared.notice.Notice.TheVariants as kinds

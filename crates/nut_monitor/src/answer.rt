@@ -4,14 +4,14 @@ ghost use Rattle.nut_monitor_spec.specs.declared.Query.TheVariants as queries;
 ghost use Rattle.nut_link.specs.declared.outcome.Outcome.TheVariants as outcomes;
 ghost use Rattle.nut_monitor_spec.specs.Configuration.{configuration_of};
 ghost use Rattle.nut_conf.specs.declared.notice.Notice.TheVariants as kinds;
-ghost use Rattle.nut_monitor_spec.specs.Decision.{answer_notices, had, is_bad as is_bad_now, is_new as is_new_flag, loss_notices, status_notices, tells_replace, told, when};
+ghost use Rattle.nut_monitor_spec.specs.Decision.{answer_notices, had as had_flag, is_bad as is_bad_now, is_new as is_new_flag, loss_notices, status_notices, tells_replace as replaces, told, when};
 ghost use Rattle.nut_monitor_spec.specs.machine.Machine.{known_answered, newer};
 ghost use Rattle.nut_monitor_spec.specs.Query.{is_forced, logins_in};
 ghost use Rattle.nut_monitor.specs.inside.Sound.{IsCount, with_flags};
 ghost use Rattle.nut_monitor_spec.specs.declared.Communication.TheVariants as communications;
 
 use crate::flags::{no_flags, read_flags};
-use crate::notices::Notices;
+use crate::notices::{ANSWER_NOTICES_MAX, Notices};
 use crate::time::is_over;
 use nut_conf::{Notice as Kind, Number, UpsmonConf};
 use nut_link::{Fields, Outcome};
@@ -44,12 +44,12 @@ fn is_bad(communication: Communication) -> bool
 }
 
 /// Returns the flags of the last status; none is set before the first.
-fn earlier(known: Known) -> StatusFlags
-    ensures on_line { result.on_line ≡ had (λ f. f.on_line) known.flags }
-    ensures on_battery { result.on_battery ≡ had (λ f. f.on_battery) known.flags }
-    ensures low_battery { result.low_battery ≡ had (λ f. f.low_battery) known.flags }
-    ensures forced { result.forced_shutdown ≡ had (λ f. f.forced_shutdown) known.flags }
-    ensures replace { result.replace_battery ≡ had (λ f. f.replace_battery) known.flags }
+fn had(known: Known) -> StatusFlags
+    ensures on_line { result.on_line ≡ had_flag (λ f. f.on_line) known.flags }
+    ensures on_battery { result.on_battery ≡ had_flag (λ f. f.on_battery) known.flags }
+    ensures low_battery { result.low_battery ≡ had_flag (λ f. f.low_battery) known.flags }
+    ensures forced { result.forced_shutdown ≡ had_flag (λ f. f.forced_shutdown) known.flags }
+    ensures replace { result.replace_battery ≡ had_flag (λ f. f.replace_battery) known.flags }
 {
     match known.flags {
         Some(flags) => flags,
@@ -58,12 +58,11 @@ fn earlier(known: Known) -> StatusFlags
 }
 
 /// Whether a status gives REPLBATT.
-fn is_worn(config: &UpsmonConf, clock: u64, known: Known, flags: StatusFlags) -> bool
-    ensures { result ≡ tells_replace (configuration_of config.now) clock known.replace_told known.flags flags }
+fn tells_replace(config: &UpsmonConf, clock: u64, known: Known, flags: StatusFlags) -> bool
+    ensures { result ≡ replaces (configuration_of config.now) clock known.replace_told known.flags flags }
 {
-    let earlier = earlier(known);
     flags.replace_battery
-        && (!earlier.replace_battery
+        && (!had(known).replace_battery
             || is_over(u64::from(config.rb_warn_time()), clock, known.replace_told))
 }
 
@@ -75,16 +74,23 @@ fn tell_status(
     flags: StatusFlags,
     notices: &mut Notices,
 )
-    requires { length notices.old ≤ 8 }
-    ensures few { length notices.new ≤ length notices.old + 6 }
+    requires room { length notices.old + ANSWER_NOTICES_MAX < NOTICES_MAX }
+    ensures few { length notices.new ≤ length notices.old + ANSWER_NOTICES_MAX }
     ensures told { notices.new ≡ notices.old ++ status_notices (configuration_of config.now) scene.clock scene.line known flags }
 {
-    let earlier = earlier(known);
+    let had = had(known);
     let bad = is_bad(known.communication);
     let restored = is_restored(known, flags);
-    let worn = is_worn(config, scene.clock, known, flags);
-    tell_return(scene.line, bad, restored, notices);
-    tell_trouble(scene.line, earlier, flags, worn, notices);
+    let on_battery = is_new(flags.on_battery, had.on_battery);
+    let low_battery = is_new(flags.low_battery, had.low_battery);
+    let forced = is_new(flags.forced_shutdown, had.forced_shutdown);
+    let worn = tells_replace(config, scene.clock, known, flags);
+    notices.tell_when(bad, on_line(Kind::Commok, scene.line));
+    notices.tell_when(restored, on_line(Kind::Online, scene.line));
+    notices.tell_when(on_battery, on_line(Kind::Onbatt, scene.line));
+    notices.tell_when(low_battery, on_line(Kind::Lowbatt, scene.line));
+    notices.tell_when(forced, on_line(Kind::Fsd, scene.line));
+    notices.tell_when(worn, on_line(Kind::Replbatt, scene.line));
 }
 
 /// Whether a flag is set now that wasn't before.
@@ -99,49 +105,16 @@ fn is_restored(known: Known, flags: StatusFlags) -> bool
     ensures { result ≡ (is_some known.flags && is_new_flag (λ f. f.on_line) known.flags flags) }
 {
     match known.flags {
-        Some(earlier) => is_new(flags.on_line, earlier.on_line),
+        Some(before) => is_new(flags.on_line, before.on_line),
         None => false,
     }
-}
-
-/// Queues COMMOK if communication was bad, and ONLINE if the UPS is on line again.
-fn tell_return(line: usize, bad: bool, restored: bool, notices: &mut Notices)
-    requires { length notices.old ≤ 8 }
-    ensures few { length notices.new ≤ length notices.old + 2 }
-    ensures told { notices.new ≡ notices.old ++ when bad (told kinds.Commok line) ++ when restored (told kinds.Online line) }
-{
-    notices.tell_when(bad, on_line(Kind::Commok, line));
-    notices.tell_when(restored, on_line(Kind::Online, line));
-}
-
-/// Queues ONBATT, LOWBATT and FSD for the flags that weren't set before, and REPLBATT if the battery is worn.
-fn tell_trouble(
-    line: usize,
-    earlier: StatusFlags,
-    flags: StatusFlags,
-    worn: bool,
-    notices: &mut Notices,
-)
-    requires { length notices.old ≤ 10 }
-    ensures few { length notices.new ≤ length notices.old + 4 }
-    ensures told { notices.new ≡ notices.old ++ when (flags.on_battery && not earlier.on_battery) (told kinds.Onbatt line)
-        ++ when (flags.low_battery && not earlier.low_battery) (told kinds.Lowbatt line)
-        ++ when (flags.forced_shutdown && not earlier.forced_shutdown) (told kinds.Fsd line) ++ when worn (told kinds.Replbatt line) }
-{
-    let on_battery = is_new(flags.on_battery, earlier.on_battery);
-    let low_battery = is_new(flags.low_battery, earlier.low_battery);
-    let forced = is_new(flags.forced_shutdown, earlier.forced_shutdown);
-    notices.tell_when(on_battery, on_line(Kind::Onbatt, line));
-    notices.tell_when(low_battery, on_line(Kind::Lowbatt, line));
-    notices.tell_when(forced, on_line(Kind::Fsd, line));
-    notices.tell_when(worn, on_line(Kind::Replbatt, line));
 }
 
 /// Returns what is known after a status.
 fn with_status(config: &UpsmonConf, scene: Scene, known: Known, flags: StatusFlags) -> Known
     ensures { result ≡ with_flags (configuration_of config.now) scene.clock scene.watching flags known }
 {
-    let worn = scene.watching && is_worn(config, scene.clock, known, flags);
+    let worn = scene.watching && tells_replace(config, scene.clock, known, flags);
     let calm = !(flags.on_battery && flags.low_battery);
     Known {
         flags: Some(flags),
@@ -164,7 +137,7 @@ fn with_status(config: &UpsmonConf, scene: Scene, known: Known, flags: StatusFla
 }
 
 /// Queues COMMBAD if communication wasn't bad before, and no shutdown has begun.
-pub fn tell_disturbed(scene: Scene, known: Known, notices: &mut Notices)
+pub fn tell_loss(scene: Scene, known: Known, notices: &mut Notices)
     requires { length notices.old < NOTICES_MAX }
     ensures few { length notices.new ≤ length notices.old + 1 }
     ensures told { notices.new ≡ notices.old ++ (if scene.watching then loss_notices scene.line known.communication else []) }
@@ -176,7 +149,7 @@ pub fn tell_disturbed(scene: Scene, known: Known, notices: &mut Notices)
 }
 
 /// Returns what is known once communication is bad.
-pub fn disturbed(known: Known) -> Known
+pub fn with_loss(known: Known) -> Known
     ensures { result ≡ record known { communication = communications.Bad } }
 {
     Known {
@@ -193,10 +166,12 @@ fn hear_status(
     fields: &Fields,
     notices: &mut Notices,
 ) -> Known
-    requires { length notices.old ≤ 8 }
-    ensures few { length notices.new ≤ length notices.old + 7 }
-    ensures known { result ≡ known_answered (configuration_of config.now) scene.clock scene.watching queries.Status (outcomes.Said fields.now) known }
-    ensures told { notices.new ≡ notices.old ++ (if scene.watching then answer_notices (configuration_of config.now) scene.clock scene.line known queries.Status (outcomes.Said fields.now) else []) }
+    requires room { length notices.old + ANSWER_NOTICES_MAX < NOTICES_MAX }
+    ensures few { length notices.new ≤ length notices.old + ANSWER_NOTICES_MAX }
+    ensures known { result
+        ≡ known_answered (configuration_of config.now) scene.clock scene.watching queries.Status (outcomes.Said fields.now) known }
+    ensures told { notices.new ≡ notices.old ++ (if scene.watching
+        then answer_notices (configuration_of config.now) scene.clock scene.line known queries.Status (outcomes.Said fields.now) else []) }
 {
     let Some(value) = fields.as_slice().first() else {
         return known;
@@ -230,16 +205,17 @@ fn hear_status_outcome(
     outcome: &Outcome,
     notices: &mut Notices,
 ) -> Known
-    requires { length notices.old ≤ 8 }
-    ensures few { length notices.new ≤ length notices.old + 7 }
+    requires room { length notices.old + ANSWER_NOTICES_MAX < NOTICES_MAX }
+    ensures few { length notices.new ≤ length notices.old + ANSWER_NOTICES_MAX }
     ensures known { result ≡ known_answered (configuration_of config.now) scene.clock scene.watching queries.Status outcome.now known }
-    ensures told { notices.new ≡ notices.old ++ (if scene.watching then answer_notices (configuration_of config.now) scene.clock scene.line known queries.Status outcome.now else []) }
+    ensures told { notices.new ≡ notices.old ++ (if scene.watching
+        then answer_notices (configuration_of config.now) scene.clock scene.line known queries.Status outcome.now else []) }
 {
     match outcome {
         Outcome::Said(fields) => hear_status(config, scene, known, fields, notices),
         Outcome::Refused(_) => {
-            tell_disturbed(scene, known, notices);
-            disturbed(known)
+            tell_loss(scene, known, notices);
+            with_loss(known)
         }
         Outcome::Done | Outcome::List(_) => known,
     }
@@ -272,11 +248,12 @@ pub fn hear(
     outcome: &Outcome,
     notices: &mut Notices,
 ) -> Known
-    requires few { length notices.old ≤ 8 }
+    requires room { length notices.old + ANSWER_NOTICES_MAX < NOTICES_MAX }
     requires count { IsCount query outcome.now }
-    ensures few { length notices.new ≤ length notices.old + 7 }
+    ensures few { length notices.new ≤ length notices.old + ANSWER_NOTICES_MAX }
     ensures known { result ≡ known_answered (configuration_of config.now) scene.clock scene.watching query outcome.now known }
-    ensures told { notices.new ≡ notices.old ++ (if scene.watching then answer_notices (configuration_of config.now) scene.clock scene.line known query outcome.now else []) }
+    ensures told { notices.new ≡ notices.old ++ (if scene.watching
+        then answer_notices (configuration_of config.now) scene.clock scene.line known query outcome.now else []) }
 {
     match query {
         Query::Status => hear_status_outcome(config, scene, known, outcome, notices),

@@ -16,5 +16,7 @@ mod time;
 
 pub use event::Event;
 pub use monitor::Monitor;
-pub use nut_monitor_spec::{Known, LastQuery, MonitorFault, Notice, Phase, Query, StatusFlags};
+pub use nut_monitor_spec::{
+    Known, LastAnswer, LastQuery, MonitorFault, Notice, Phase, Query, StatusFlags,
+};
 pub use shutdown::has_primary;

@@ -1,5 +1,6 @@
 //! A MONITOR line: its link, and what is known of its UPS.
 ghost use Rattle.std.specs.Prelude.{◌≡◌, ◌+◌, ◌<◌, ◌≤◌, ◌++◌, [], None, Some, if◌then◌else◌, is_some, length};
+ghost use Rattle.std.specs.Option.{option_map};
 ghost use Rattle.nut_link.specs.Link.{LinkValue, is_idle, with_exchange};
 ghost use Rattle.nut_link.specs.Asking.{query_of};
 ghost use Rattle.nut_link.specs.declared.exchange.Stage.TheVariants as stages;
@@ -8,26 +9,28 @@ ghost use Rattle.nut_conf.specs.declared.notice.Notice.TheVariants as kinds;
 ghost use Rattle.nut_monitor_spec.specs.Acceptance.{waits_on};
 ghost use Rattle.nut_monitor_spec.specs.Configuration.{configuration_of, line_of};
 ghost use Rattle.nut_monitor_spec.specs.Decision.{tells_silence, told as told_of, when};
-ghost use Rattle.nut_monitor_spec.specs.machine.Machine.{answer_told, asked_next, is_silent, known_after, loss_told, lost, made, silent, took as taken_by};
+ghost use Rattle.nut_monitor_spec.specs.machine.Machine.{answer_after, answer_told, asked_next, is_silent, known_after, loss_told, lost, made, silent, took as taken_by};
 ghost use Rattle.nut_monitor.specs.inside.Hearing.{HearsPiece, IsFed};
 ghost use Rattle.nut_monitor.specs.inside.Inside.{to_lose, unwatched};
 ghost use Rattle.nut_monitor.specs.inside.Sound.{IsCountAfter, IsSound};
 
-use crate::answer::{Scene, disturbed, hear, on_line, tell_disturbed};
-use crate::notices::Notices;
+use crate::answer::{Scene, hear, on_line, tell_loss, with_loss};
+use crate::notices::{ANSWER_NOTICES_MAX, Notices};
 use crate::query::{next_query, request};
 use crate::time::{is_over, is_past};
 use nut_conf::{Monitored, Notice as Kind, UpsmonConf};
 use nut_link::{Link, LinkFault, Outcome};
-use nut_monitor_spec::{Communication, Known, LastQuery, NOTICES_MAX, Phase, Query};
+use nut_monitor_spec::{Communication, Known, LastAnswer, LastQuery, NOTICES_MAX, Phase, Query};
 use std::alloc::Global;
 use std::marker::Model;
 
-/// A MONITOR line: its link if that is up, the last query on it, and what is known of its UPS.
+/// A MONITOR line: its link if that is up, the last query and the last answer since it was made, and what is known of its
+/// UPS.
 #[derive(Drop)]
 pub struct MonitorLine {
     link: Option<Link>,
     last: Option<LastQuery>,
+    answer: Option<LastAnswer>,
     known: Known,
 }
 
@@ -37,7 +40,7 @@ impl Model for MonitorLine {
 
     ghost Value = { Watch };
 
-    ghost view = { λ w. record { link = w.link; last = w.last; known = w.known } };
+    ghost view = { λ w. record { link = w.link; last = w.last; answer = w.answer; known = w.known } };
 
     ghost invariant = { λ w. IsSound w.last w.link };
 }
@@ -46,7 +49,9 @@ impl Model for MonitorLine {
 fn ask_on(link: &mut Link, line: &Monitored, query: Query) -> bool
     requires { link.old.exchange.fault ≡ None }
     ensures put { result ≡ is_idle link.old.exchange.stage }
-    ensures link { link.new ≡ (if result then with_exchange (record link.old.exchange { stage = stages.Asked (query_of (request_of (line_of line.now) query)) }) link.old else link.old) }
+    ensures link { link.new ≡ (if result
+        then with_exchange (record link.old.exchange { stage = stages.Asked (query_of (request_of (line_of line.now) query)) }) link.old
+        else link.old) }
 {
     link.ask(&request(line, query)).is_ok()
 }
@@ -85,11 +90,12 @@ fn hear_answer(
     outcome: &Option<Outcome>,
     notices: &mut Notices,
 ) -> Known
-    requires few { length notices.old ≤ 8 }
+    requires room { length notices.old + ANSWER_NOTICES_MAX < NOTICES_MAX }
     requires count { IsCountAfter last outcome.now }
-    ensures few { length notices.new ≤ length notices.old + 7 }
+    ensures few { length notices.new ≤ length notices.old + ANSWER_NOTICES_MAX }
     ensures known { result ≡ known_after (configuration_of config.now) scene.clock scene.watching last outcome.now known }
-    ensures told { notices.new ≡ notices.old ++ (if scene.watching then answer_told (configuration_of config.now) scene.clock scene.line last outcome.now known else []) }
+    ensures told { notices.new ≡ notices.old ++ (if scene.watching
+        then answer_told (configuration_of config.now) scene.clock scene.line last outcome.now known else []) }
 {
     let Some(last) = last else {
         return known;
@@ -97,6 +103,16 @@ fn hear_answer(
     match outcome {
         Some(outcome) => hear(config, scene, known, last.query, outcome, notices),
         None => known,
+    }
+}
+
+/// Keeps the answer to the last query, if both are there, in the place of the one before.
+fn keep_answer(last: Option<LastQuery>, outcome: Option<Outcome>, kept: &mut Option<LastAnswer>)
+    ensures { kept.new ≡ answer_after last outcome kept.old }
+{
+    match (last, outcome) {
+        (Some(asked), Some(outcome)) => *kept = Some(LastAnswer { asked, outcome }),
+        (_, outcome) => drop(outcome),
     }
 }
 
@@ -129,6 +145,7 @@ impl MonitorLine {
         MonitorLine {
             link: None,
             last: None,
+            answer: None,
             known: Known {
                 flags: None,
                 polled: 0,
@@ -173,12 +190,20 @@ impl MonitorLine {
         self.last
     }
 
+    /// Returns the last answer since its link was made.
+    pub fn last_answer(&self) -> Option<&LastAnswer>
+        ensures { option_map (λ a. a.now) result ≡ self.now.answer }
+    {
+        self.answer.as_ref()
+    }
+
     /// Makes its link.
     pub fn link(&mut self, alloc: Global)
         ensures { self.new ≡ made self.old }
     {
         self.last = None;
-        // dropped by a call, which keeps the proof of this function short
+        // dropped by calls, which keep the proof of this function short
+        drop(self.answer.take());
         drop(self.link.replace(Link::new(alloc)));
     }
 
@@ -189,8 +214,8 @@ impl MonitorLine {
         ensures told { notices.new ≡ notices.old ++ (if scene.watching then loss_told scene.line self.old else []) }
         ensures few { length notices.new + to_lose self.new ≤ length notices.old + to_lose self.old }
     {
-        tell_disturbed(scene, self.known, notices);
-        self.known = disturbed(self.known);
+        tell_loss(scene, self.known, notices);
+        self.known = with_loss(self.known);
         // dropped by a call, which keeps the proof of this function short
         drop(self.link.take());
     }
@@ -213,17 +238,17 @@ impl MonitorLine {
         piece: &[u8],
         notices: &mut Notices,
     ) -> (usize, Result<(), LinkFault>)
-        requires { length notices.old ≤ 8 }
-        ensures few { length notices.new ≤ length notices.old + 8 }
-        ensures hears { (v : LinkValue) → self.old.link ≡ Some v → HearsPiece (configuration_of config.now) scene piece.now v self.old notices.old result self.new notices.new }
+        requires room { length notices.old + ANSWER_NOTICES_MAX < NOTICES_MAX }
+        ensures few { length notices.new ≤ length notices.old + ANSWER_NOTICES_MAX + 1 }
+        ensures hears { (v : LinkValue) → self.old.link ≡ Some v
+            → HearsPiece (configuration_of config.now) scene piece.now v self.old notices.old result self.new notices.new }
     {
         let (done, heard, outcome) = feed(&mut self.link, self.last, piece);
         self.known = hear_answer(config, scene, self.known, self.last, &outcome, notices);
-        // dropped by a call, which keeps the proof of this function short
-        drop(outcome);
+        keep_answer(self.last, outcome, &mut self.answer);
         if heard.is_err() {
-            tell_disturbed(scene, self.known, notices);
-            self.known = disturbed(self.known);
+            tell_loss(scene, self.known, notices);
+            self.known = with_loss(self.known);
         }
         (done, heard)
     }
@@ -240,7 +265,8 @@ impl MonitorLine {
         requires { length notices.old < NOTICES_MAX }
         ensures line { self.new ≡ silent (configuration_of config.now) clock self.old }
         ensures few { length notices.new ≤ length notices.old + 1 }
-        ensures told { notices.new ≡ notices.old ++ when (is_silent (configuration_of config.now) clock self.old) (told_of kinds.Nocomm line) }
+        ensures told { notices.new
+            ≡ notices.old ++ when (is_silent (configuration_of config.now) clock self.old) (told_of kinds.Nocomm line) }
     {
         if tell_silence(config, clock, line, self.known, notices) {
             self.known.silence_told = Some(clock);

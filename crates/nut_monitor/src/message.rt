@@ -52,7 +52,8 @@ fn target(config: &UpsmonConf, notice: Notice) -> Option<&[u8]>
 fn put_filled(out: &mut Vec<u8>, text: &[u8], target: Option<&[u8]>) -> Result<(), AllocError>
     ensures ok { OnOk result (out.new.items ≡ out.old.items ++ filled_if (option_map (λ t. t.now) target.entry) text.now) }
     ensures err { OnErr result (take (length out.old.items) out.new.items ≡ out.old.items) }
-    ensures full { OnErr result (vec_capacity out.old < vec_len out.old + length (filled_if (option_map (λ t. t.now) target.entry) text.now)) }
+    ensures full { OnErr result (vec_capacity out.old
+        < vec_len out.old + length (filled_if (option_map (λ t. t.now) target.entry) text.now)) }
 {
     let Some(target) = target else {
         return out.extend_from_slice(text);
@@ -68,7 +69,8 @@ fn put_parts(out: &mut Vec<u8>, text: &[u8], at: usize, target: &[u8]) -> Result
     requires { at + 2 ≤ length text.now }
     ensures ok { OnOk result (out.new.items ≡ out.old.items ++ (take at text.now ++ target.now ++ drop (at + 2) text.now)) }
     ensures err { OnErr result (take (length out.old.items) out.new.items ≡ out.old.items) }
-    ensures full { OnErr result (vec_capacity out.old < vec_len out.old + length (take at text.now ++ target.now ++ drop (at + 2) text.now)) }
+    ensures full { OnErr result (vec_capacity out.old
+        < vec_len out.old + length (take at text.now ++ target.now ++ drop (at + 2) text.now)) }
 {
     out.extend_from_slice(&text[..at])?;
     out.extend_from_slice(target)?;

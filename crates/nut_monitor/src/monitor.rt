@@ -2,14 +2,14 @@
 ghost use Rattle.std.specs.Prelude.{◌≡◌, ◌++◌, List, Some, None, Err, IfOk, IfErr, OnOk, OnErr, [], drop, length, ◌<◌, ◌≤◌, ◌+◌, slice_get, vec_capacity, vec_len};
 ghost use Rattle.nut_monitor_spec.specs.declared.MonitorFault.{MonitorFault as AnyFault};
 ghost use Rattle.nut_monitor_spec.specs.declared.MonitorFault.TheVariants as faults;
-ghost use Rattle.nut_monitor_spec.specs.Acceptance.{Tells, is_linked, refusal, waiting_on, watch_at};
+ghost use Rattle.nut_monitor_spec.specs.Acceptance.{Tells, answer_on, is_linked, refusal, waiting_on, watch_at};
 ghost use Rattle.nut_monitor_spec.specs.Configuration.{Configuration, configuration_of};
 ghost use Rattle.nut_monitor_spec.specs.Content.{content, phase_of};
 ghost use Rattle.nut_monitor_spec.specs.Event.{Event as Events};
 ghost use Rattle.nut_monitor_spec.specs.Handing.{after_asking};
 ghost use Rattle.nut_monitor_spec.specs.Outcome.{IsAnswer, after};
 ghost use Rattle.nut_monitor_spec.specs.machine.MachineOutcome.{content_after};
-ghost use Rattle.nut_monitor_spec.specs.Trace.{linked as is_there, trace, waits};
+ghost use Rattle.nut_monitor_spec.specs.Trace.{last_answer, linked as is_there, trace, waits};
 ghost use Rattle.nut_monitor.specs.Events.{event_of};
 ghost use Rattle.nut_monitor.specs.Bounds.{KeepsLittle};
 ghost use Rattle.nut_monitor.specs.Texts.{text_of};
@@ -20,7 +20,7 @@ use crate::event::Event;
 use crate::message::put_text;
 use crate::state::State;
 use nut_conf::{MONITORS_MAX, UpsmonConf};
-use nut_monitor_spec::{Known, LastQuery, MonitorFault, Notice, Phase};
+use nut_monitor_spec::{Known, LastAnswer, LastQuery, MonitorFault, Notice, Phase};
 use std::alloc::{AllocError, Global};
 use std::marker::Model;
 
@@ -146,6 +146,18 @@ impl Monitor {
         self.state.last_query(i)
     }
 
+    /// Returns the last answer on the link of the MONITOR line with this number since it was last made, and the query that
+    /// it answers. `None` if there was none, or no line has the number.
+    pub fn last_answer(&self, i: usize) -> Option<&LastAnswer>
+        ensures value { option_map (λ a. a.now) result ≡ answer_on (watch_at i self.now.content.watches) }
+
+        // The same by the history, for every history that leads to this content and every line.
+        ensures told { (configuration : Configuration) (events : List Events) → Tells configuration events self.now.content
+            → i < length configuration.lines → option_map (λ a. a.now) result ≡ last_answer i (trace configuration events) }
+    {
+        self.state.last_answer(i)
+    }
+
     /// Returns how far the shutdown has come.
     pub fn phase(&self) -> Phase
         ensures { result ≡ phase_of self.now.content }
@@ -163,7 +175,8 @@ impl Monitor {
     /// Removes and returns the oldest waiting notice, if one waits.
     pub fn take_notice(&mut self) -> Option<Notice>
         ensures taken { result ≡ slice_get self.old.content.notices 0 }
-        ensures left { self.new ≡ record { config = self.old.config; content = record self.old.content { notices = drop 1 self.old.content.notices } } }
+        ensures left { self.new
+            ≡ record { config = self.old.config; content = record self.old.content { notices = drop 1 self.old.content.notices } } }
 
         // The content is then that of the history with the notice's taking as its newest event, if there was a notice.
         ensures stands { (configuration : Configuration) (events : List Events) → Tells configuration events self.old.content
@@ -195,7 +208,8 @@ impl Monitor {
     /// Those of `arrive`.
     pub fn step(&mut self, event: Event<'_>) -> Result<(), MonitorFault>
         ensures answered { IsAnswer self.old.content (event_of event.entry) result }
-        ensures content { self.new ≡ record { config = self.old.config; content = content_after result self.old.content (event_of event.entry) } }
+        ensures content { self.new
+            ≡ record { config = self.old.config; content = content_after result self.old.content (event_of event.entry) } }
     {
         match event {
             Event::Moment(t) => self.state.moment(&self.config, t),

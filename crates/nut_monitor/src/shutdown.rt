@@ -2,9 +2,9 @@
 ghost use Rattle.std.specs.Prelude.{◌≡◌, length, nat_lt};
 ghost use Rattle.std.specs.List.{list_any};
 ghost use Rattle.nut_monitor_spec.specs.Configuration.{configuration_of, has_primary as some_primary, line_of};
-ghost use Rattle.nut_monitor_spec.specs.Decision.{is_critical as critical, is_over_by, phase_at};
+ghost use Rattle.nut_monitor_spec.specs.Decision.{is_critical as critical, is_over_by as over_by, phase_at};
 ghost use Rattle.nut_monitor_spec.specs.machine.Machine.{all_alone, supply_of};
-ghost use Rattle.nut_monitor.specs.inside.Inside.{lets_halt, power_of};
+ghost use Rattle.nut_monitor.specs.inside.Inside.{lets_halt as halts, power_of};
 
 use crate::line::MonitorLine;
 use crate::query::is_primary;
@@ -39,7 +39,8 @@ fn power(config: &UpsmonConf, line: &Monitored, clock: u64, known: Known) -> u32
 /// Whether the sum of these power values is less than MINSUPPLIES.
 pub fn is_short(config: &UpsmonConf, clock: u64, watches: &[MonitorLine]) -> bool
     requires { length watches.now ≡ length (configuration_of config.now).lines }
-    ensures { result ≡ nat_lt (supply_of (configuration_of config.now) clock (configuration_of config.now).lines watches.now) (configuration_of config.now).min_supplies }
+    ensures { result ≡ nat_lt (supply_of (configuration_of config.now) clock (configuration_of config.now).lines watches.now)
+        (configuration_of config.now).min_supplies }
 {
     let monitors = &config.monitors;
     let lines = monitors.lines.as_slice();
@@ -52,8 +53,8 @@ pub fn is_short(config: &UpsmonConf, clock: u64, watches: &[MonitorLine]) -> boo
 
 /// Whether a line lets this machine halt: it isn't primary, or the last count of logins to its UPS is at most 1. A
 /// primary line without a count doesn't.
-fn is_free(line: &Monitored, known: Known) -> bool
-    ensures { result ≡ lets_halt (line_of line.now) known }
+fn lets_halt(line: &Monitored, known: Known) -> bool
+    ensures { result ≡ halts (line_of line.now) known }
 {
     let alone = match known.logins {
         Some(logins) => logins <= 1,
@@ -62,7 +63,7 @@ fn is_free(line: &Monitored, known: Known) -> bool
     !is_primary(line) || alone
 }
 
-/// Whether every line lets this machine halt, as `is_free` says.
+/// Whether every line lets this machine halt, as `lets_halt` says.
 pub fn is_alone(config: &UpsmonConf, watches: &[MonitorLine]) -> bool
     requires { length watches.now ≡ length (configuration_of config.now).lines }
     ensures { result ≡ all_alone (configuration_of config.now).lines watches.now }
@@ -70,7 +71,7 @@ pub fn is_alone(config: &UpsmonConf, watches: &[MonitorLine]) -> bool
     let monitors = &config.monitors;
     let lines = monitors.lines.as_slice();
     for i in 0..watches.len() {
-        if !is_free(&lines[i], watches[i].known()) {
+        if !lets_halt(&lines[i], watches[i].known()) {
             return false;
         }
     }
@@ -78,8 +79,8 @@ pub fn is_alone(config: &UpsmonConf, watches: &[MonitorLine]) -> bool
 }
 
 /// Whether Forcing is over: the shutdown has begun, and `alone` holds or more than HOSTSYNC seconds have passed since.
-pub fn is_forced(config: &UpsmonConf, clock: u64, alone: bool, begun: Option<u64>) -> bool
-    ensures { result ≡ is_over_by (configuration_of config.now) clock alone begun }
+pub fn is_over_by(config: &UpsmonConf, clock: u64, alone: bool, begun: Option<u64>) -> bool
+    ensures { result ≡ over_by (configuration_of config.now) clock alone begun }
 {
     match begun {
         Some(begun) => alone || is_past(u64::from(config.host_sync()), clock, begun),

@@ -1,7 +1,7 @@
 //! What a monitor knows and has decided, and how events change it.
 ghost use Rattle.std.specs.Prelude.{◌≡◌, ◌≤◌, ◌<◌, ◌+◌, ◌++◌, [], Some, IfOk, OnOk, MatchResult, is_none, length, map};
 ghost use Rattle.std.specs.Option.{option_map};
-ghost use Rattle.nut_monitor_spec.specs.Acceptance.{is_linked, waiting_on, watch_at};
+ghost use Rattle.nut_monitor_spec.specs.Acceptance.{answer_on, is_linked, waiting_on, watch_at};
 ghost use Rattle.nut_monitor_spec.specs.Configuration.{Configuration, configuration_of};
 ghost use Rattle.nut_monitor_spec.specs.Content.{content, phase_of};
 ghost use Rattle.nut_monitor_spec.specs.Event as E;
@@ -15,10 +15,10 @@ use crate::answer::Scene;
 use crate::event::Event;
 use crate::line::MonitorLine;
 use crate::notices::Notices;
-use crate::shutdown::{is_alone, is_forced, is_short, phase};
+use crate::shutdown::{is_alone, is_over_by, is_short, phase};
 use nut_conf::{Monitored, Notice as Kind, UpsmonConf};
 use nut_link::LinkFault;
-use nut_monitor_spec::{Known, LastQuery, MonitorFault, NOTICES_MAX, Notice, Phase};
+use nut_monitor_spec::{Known, LastAnswer, LastQuery, MonitorFault, NOTICES_MAX, Notice, Phase};
 use nut_words::PIECE_MAX;
 use std::alloc::{AllocError, Global};
 
@@ -85,7 +85,8 @@ fn tell_silences(
 /// Puts the next query on each link on which one may be put.
 fn ask_all(config: &UpsmonConf, clock: u64, phase: Phase, watches: &mut Vec<MonitorLine>)
     requires { length watches.old.items ≡ length (configuration_of config.now).lines }
-    ensures { watches.new.items ≡ all_asked (configuration_of config.now) clock phase (configuration_of config.now).lines watches.old.items }
+    ensures { watches.new.items
+        ≡ all_asked (configuration_of config.now) clock phase (configuration_of config.now).lines watches.old.items }
 {
     let monitors = &config.monitors;
     let lines = monitors.lines.as_slice();
@@ -138,8 +139,10 @@ impl State {
     /// Begins the shutdown if power is short and none has begun.
     fn judge_shutdown(&mut self, config: &UpsmonConf)
         requires { length self.old.watches.items ≡ length (configuration_of config.now).lines }
-        ensures content { content_in (configuration_of config.now) self.new ≡ shutdown_judged (content_in (configuration_of config.now) self.old) }
-        ensures orderly { IsOrderly (content_in (configuration_of config.now) self.old) → IsOrderly (content_in (configuration_of config.now) self.new) }
+        ensures content { content_in (configuration_of config.now) self.new
+            ≡ shutdown_judged (content_in (configuration_of config.now) self.old) }
+        ensures orderly { IsOrderly (content_in (configuration_of config.now) self.old)
+            → IsOrderly (content_in (configuration_of config.now) self.new) }
     {
         let short = is_short(config, self.clock, self.watches.as_slice());
         if self.begun.is_none() && short {
@@ -151,11 +154,13 @@ impl State {
     fn move_phase(&mut self, config: &UpsmonConf)
         requires all { length self.old.watches.items ≡ length (configuration_of config.now).lines }
         requires few { length self.old.notices < NOTICES_MAX }
-        ensures content { content_in (configuration_of config.now) self.new ≡ phase_moved (content_in (configuration_of config.now) self.old) }
-        ensures orderly { IsOrderly (content_in (configuration_of config.now) self.old) → IsOrderly (content_in (configuration_of config.now) self.new) }
+        ensures content { content_in (configuration_of config.now) self.new
+            ≡ phase_moved (content_in (configuration_of config.now) self.old) }
+        ensures orderly { IsOrderly (content_in (configuration_of config.now) self.old)
+            → IsOrderly (content_in (configuration_of config.now) self.new) }
     {
         let alone = is_alone(config, self.watches.as_slice());
-        let over = is_forced(config, self.clock, alone, self.begun);
+        let over = is_over_by(config, self.clock, alone, self.begun);
         if self.ended.is_none() && over {
             self.ended = Some(self.clock);
             self.notices.tell_when(
@@ -227,6 +232,16 @@ impl State {
         }
     }
 
+    /// Returns the last answer since the link of a line was made.
+    pub fn last_answer(&self, i: usize) -> Option<&LastAnswer>
+        ensures { option_map (λ a. a.now) result ≡ answer_on (watch_at i self.now.watches.items) }
+    {
+        match self.watch(i) {
+            Some(watch) => watch.last_answer(),
+            None => None,
+        }
+    }
+
     /// Refuses a number that no line has with `NoSuchLink`, and with `WrongLinkState` a line whose link is up though
     /// `linked` is false, or down though it is true.
     fn check(&self, i: usize, linked: bool) -> Result<(), MonitorFault>
@@ -250,7 +265,8 @@ impl State {
     fn tick(&mut self, config: &UpsmonConf, t: u64)
         requires orderly { IsOrderly (content_in (configuration_of config.now) self.old) }
         requires free { length self.old.notices ≡ 0 }
-        ensures content { content_in (configuration_of config.now) self.new ≡ silences_heard (clock_set t (content_in (configuration_of config.now) self.old)) }
+        ensures content { content_in (configuration_of config.now) self.new
+            ≡ silences_heard (clock_set t (content_in (configuration_of config.now) self.old)) }
         ensures orderly { IsOrderly (content_in (configuration_of config.now) self.new) }
     {
         self.clock = self.clock.max(t);

@@ -93,7 +93,7 @@ impl MonWorld for MemoryMonWorld {
         }
     }
 
-    fn write(&mut self, i: usize, bytes: &[u8]) -> Result<Written, Fault>
+    fn write(&mut self, _monitor: &Monitor, i: usize, bytes: &[u8]) -> Result<Written, Fault>
         requires few { self.old.faults < 2 ^ 64 - 1 }
         requires some { 0 < length bytes.now }
         ensures ok { IfOk result (λ w. Some self.new.log ≡ tells_write w i bytes.now (Some self.old.log)) }
@@ -114,7 +114,7 @@ impl MonWorld for MemoryMonWorld {
         }
     }
 
-    fn close(&mut self, i: usize) -> Result<(), Fault>
+    fn close(&mut self, _monitor: &Monitor, i: usize) -> Result<(), Fault>
         requires { self.old.faults < 2 ^ 64 - 1 }
         ensures ok { OnOk result (Some self.new.log ≡ tells (entry.WasClosed i) (Some self.old.log)) }
         ensures err { OnErr result (Some self.new.log ≡ Some self.old.log) }

@@ -26,7 +26,8 @@ pub fn watch_memory(
     requires few { world.old.faults < 2 ^ 64 - 1 }
     ensures all { IfOk result (λ phase. WatchedAll monitor.old.content.configuration world.old world.new monitor.new.content phase) }
     ensures phase { IfOk result (λ phase. phase ≡ phase_of monitor.new.content) }
-    ensures err { OnErr result ((owed : Option ℕ) × Watched monitor.old.content.configuration (Some world.new.log) monitor.new.content owed) }
+    ensures err { OnErr result ((owed : Option ℕ)
+        × Watched monitor.old.content.configuration (Some world.new.log) monitor.new.content owed) }
     ensures reached { GoesOn world.old world.new }
     ensures fault { OnErr result (world.old.faults < world.new.faults) }
 {

@@ -161,7 +161,7 @@ fn hand_on<W: MonWorld>(
     let _ = monitor.step(event);
     match lost_link(monitor, sender) {
         None => Ok(()),
-        Some(i) => world.close(i),
+        Some(i) => world.close(monitor, i),
     }
 }
 
@@ -261,7 +261,7 @@ fn write_once<W: MonWorld>(monitor: &mut Monitor, world: &mut W, i: usize) -> Re
     ensures counted { W.fault_count world.new ≡ (if is_ok result then W.fault_count world.old else W.fault_count world.old + 1) }
     ensures reached { W.reached world.old world.new }
 {
-    match world.write(i, monitor.waiting(i))? {
+    match world.write(monitor, i, monitor.waiting(i))? {
         Written::Took(n) => {
             let _ = monitor.step(Event::LinkTook(i, n));
             Ok(Written::Took(n))
@@ -269,7 +269,7 @@ fn write_once<W: MonWorld>(monitor: &mut Monitor, world: &mut W, i: usize) -> Re
         Written::Later => Ok(Written::Later),
         Written::Failed => {
             let _ = monitor.step(Event::LinkLost(i));
-            world.close(i)?;
+            world.close(monitor, i)?;
             Ok(Written::Failed)
         }
     }

@@ -11,7 +11,7 @@ use nut_io::{Fault, Piece, Written};
 use nut_monitor::{Monitor, Notice};
 
 /// A world that gives events, takes bytes, closes links and is handed notices. A link has the number of its MONITOR
-/// line, from 0 on.
+/// line, from 0 on. Each call is shown the monitor, for example so that the world can report what the monitor has heard.
 ///
 /// Any call except `faults` may return a fault instead, if its input or output fails. The record is then as it was, and
 /// the fault is counted. After `next`, with or without a fault, no link is late.
@@ -53,7 +53,7 @@ pub trait MonWorld {
 
     /// Offers at least one byte to the server of link i. Returns how many the server took, or that the write was late,
     /// or that it failed.
-    fn write(&mut self, i: usize, bytes: &[u8]) -> Result<Written, Fault>
+    fn write(&mut self, monitor: &Monitor, i: usize, bytes: &[u8]) -> Result<Written, Fault>
         requires few { fault_count self.old < 2 ^ 64 - 1 }
         requires some { 0 < length bytes.now }
         ensures ok { IfOk result (λ w. log self.new ≡ tells_write w i bytes.now (log self.old)) }
@@ -64,7 +64,7 @@ pub trait MonWorld {
         ensures reached { reached self.old self.new };
 
     /// Closes link i: nothing more is offered on it until it is made anew.
-    fn close(&mut self, i: usize) -> Result<(), Fault>
+    fn close(&mut self, monitor: &Monitor, i: usize) -> Result<(), Fault>
         requires few { fault_count self.old < 2 ^ 64 - 1 }
         ensures ok { OnOk result (log self.new ≡ tells (WasClosed i) (log self.old)) }
         ensures err { OnErr result (log self.new ≡ log self.old) }

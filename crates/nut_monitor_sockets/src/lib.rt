@@ -2,6 +2,7 @@
 #![tactic(auto)]
 
 mod dialler;
+mod held_losses;
 mod herald;
 mod host;
 mod inquiry;

@@ -5,16 +5,16 @@ ghost use Rattle.nut_io.specs.Writes.{IsWithin};
 ghost use Rattle.nut_monitor_loop.specs.declared.types.Next.TheVariants as next;
 
 use crate::dialler::Dialler;
-use crate::inquiry::Reply;
+use crate::inquiry::outstanding;
 use crate::limits::{CALM, Limits};
 use crate::look_ups::{Found, LookUps};
-use crate::refusals::{is_left_out_when_quiet, title};
+use crate::refusals::{ErrorName, is_left_out_when_quiet, title};
 use crate::report::Report;
 use crate::upstream::Upstream;
 use mio::{Events, Token};
 use nut_conf::{MONITORS_MAX, UpsmonConf};
 use nut_io::{Piece, Written};
-use nut_monitor::{Monitor, Phase, Query};
+use nut_monitor::{LastAnswer, Monitor, Phase, Query};
 use nut_monitor_loop::Next;
 use nut_poll::{Heard, Ready, Reports, Rounds, SOCKETS_MAX, Seconds, text_of};
 use std::alloc::{AllocError, Global};
@@ -35,15 +35,6 @@ enum Loss {
     Silent(u8),
     /// The server said something that the monitor can't read or hadn't asked for.
     Unread,
-}
-
-/// A piece that was given to the monitor, which either reads it or drops the link.
-#[derive(Drop)]
-struct Handed {
-    /// The number of the link.
-    link: usize,
-    /// If a line of the piece answers a query: that query, and what the line says.
-    answer: Option<(Query, Reply)>,
 }
 
 /// The links of a monitor that is about to watch: none is made yet.
@@ -94,7 +85,6 @@ pub struct Services<'r, 'e, R: Processes> {
 /// number.
 #[derive(Drop)]
 pub struct Links {
-    alloc: Global,
     rounds: Rounds,
     upstreams: Vec<Upstream>,
     /// Whether the clock was found to have moved on since that was last asked.
@@ -103,8 +93,8 @@ pub struct Links {
     limits: Limits,
     /// Whether the shutdown has begun.
     is_ending: bool,
-    /// The piece that was given to the monitor last, until it is known whether the monitor read it.
-    handed: Option<Handed>,
+    /// The link of the piece that was given to the monitor last, until what the monitor heard there is reported.
+    heard: Option<usize>,
 }
 
 impl Links {
@@ -115,13 +105,12 @@ impl Links {
     /// The error of the poll or of the clock, or a lack of memory.
     pub fn none(rt: &(impl Net + Clock), alloc: Global) -> io::Result<Links> {
         Ok(Links {
-            alloc,
             rounds: Rounds::new(rt, alloc, MONITORS_MAX)?,
             upstreams: Vec::new(alloc),
             has_moved_on: false,
             limits: CALM,
             is_ending: false,
-            handed: None,
+            heard: None,
         })
     }
 
@@ -164,7 +153,7 @@ impl Links {
         self.has_moved_on = false;
         self.limits = CALM;
         self.is_ending = false;
-        self.handed = None;
+        self.heard = None;
     }
 
     /// Closes all links, and ends the look-ups. Nothing is reported.
@@ -192,13 +181,13 @@ impl Links {
         ensures goes_on { IfOk result (λ n. n ≢ next.End) }
     {
         self.follow(monitor, &mut services.look_ups);
-        if let Some(link) = self.link_of_handed() {
-            self.judge(monitor.linked(link), &mut services.reports);
+        if let Some(next) = self.follow_up(monitor, &mut services.reports) {
+            return Ok(next);
         }
         if let Some(next) = self.look(monitor, piece, services.rt, &mut services.reports) {
             return Ok(next);
         }
-        let all = self.may_catch_up();
+        let all = self.may_catch_up(monitor);
         if let Some(moment) = self.rounds.seconds.next(all) {
             return Ok(Next::Moment(moment));
         }
@@ -214,11 +203,17 @@ impl Links {
     }
 
     /// Offers bytes to the server of a link. The monitor keeps a link that it writes to, so it has read the last piece.
-    pub fn offer(&mut self, i: usize, bytes: &[u8], reports: &mut Reports<'_>) -> Written
+    pub fn offer(
+        &mut self,
+        monitor: &Monitor,
+        i: usize,
+        bytes: &[u8],
+        reports: &mut Reports<'_>,
+    ) -> Written
         ensures { IsWithin result (length bytes.now) }
     {
-        if self.link_of_handed() == Some(i) {
-            self.judge(true, reports);
+        if self.heard == Some(i) {
+            self.tell_heard(monitor, reports);
         }
         match self.upstreams.get_mut(i) {
             Some(upstream) => upstream.offer(bytes),
@@ -227,68 +222,54 @@ impl Links {
     }
 
     /// Closes a link. If the monitor was just given a piece from it, that piece is the reason.
-    pub fn close(&mut self, i: usize, reports: &mut Reports<'_>) {
-        if self.link_of_handed() == Some(i) {
-            self.judge(false, reports);
+    pub fn close(&mut self, monitor: &Monitor, i: usize, reports: &mut Reports<'_>) {
+        if self.heard == Some(i) {
+            self.tell_heard(monitor, reports);
             self.end(i, Loss::Unread, reports);
         } else {
             self.end(i, Loss::Closed, reports);
         }
     }
 
-    /// Returns the link of the piece that was given to the monitor last, until it is known whether the monitor read it.
-    fn link_of_handed(&self) -> Option<usize>
-        ensures some { IfSome self.now.handed (λ h. result ≡ Some h.link) }
-        ensures none { self.now.handed ≡ None → result ≡ None }
+    /// Reports what the monitor heard in the piece that it was given last, if it has to be reported.
+    fn tell_heard(&mut self, monitor: &Monitor, reports: &mut Reports<'_>)
+        ensures { self.new.heard ≡ None }
     {
-        match &self.handed {
-            Some(handed) => Some(handed.link),
-            None => None,
+        let Some(i) = self.heard.take() else {
+            return;
+        };
+        if let (Some(upstream), Some(answer)) = (self.upstreams.get_mut(i), monitor.last_answer(i))
+            && upstream.note_answer(answer)
+        {
+            tell_answer(upstream, answer, monitor.linked(i), reports);
         }
     }
 
-    /// Reports the answer in the piece that was given to the monitor last, now that it is known whether the monitor
-    /// read it.
-    fn judge(&mut self, is_read: bool, reports: &mut Reports<'_>)
-        ensures { self.new.handed ≡ None }
+    /// Reports what the monitor heard in the piece that it was given last. If the server of that link still owes an answer,
+    /// and has for too long, the link is lost.
+    fn follow_up(&mut self, monitor: &Monitor, reports: &mut Reports<'_>) -> Option<Next>
+        ensures goes_on { IfSome result (λ n. n ≢ next.End) }
     {
-        let Some(Handed { link, answer }) = self.handed.take() else {
-            return;
-        };
-        let Some((query, reply)) = answer else {
-            return;
-        };
-        self.tell_answer(link, query, &reply, is_read, reports);
+        let i = self.heard?;
+        self.tell_heard(monitor, reports);
+        self.lose_silent(monitor, i, reports)
     }
 
-    /// Reports what an answer shows, if it has to be reported: that the server begins to serve, if the monitor read the
-    /// answer, and what was refused.
-    fn tell_answer(
+    /// Ends a link whose server owes an answer, and has for too long.
+    fn lose_silent(
         &mut self,
+        monitor: &Monitor,
         i: usize,
-        query: Query,
-        reply: &Reply,
-        is_read: bool,
         reports: &mut Reports<'_>,
-    )
-        ensures { self.new.handed ≡ self.old.handed }
+    ) -> Option<Next>
+        ensures goes_on { IfSome result (λ n. n ≢ next.End) }
     {
-        let Some(upstream) = self.upstreams.get_mut(i) else {
-            return;
-        };
-        let is_told = upstream.note_reply(query, reply);
-        if is_read && is_after_opening(query) && upstream.begins_to_serve() {
-            reports.tell(Report::Reached(upstream.name()));
+        let query = outstanding(monitor, i)?;
+        if !self.upstreams.get(i)?.is_overdue(query, self.limits) {
+            return None;
         }
-        if upstream.begins_to_be_late() {
-            reports.warn(Report::Late(upstream.name()));
-        }
-        if is_read && upstream.begins_to_wait(query, reply) {
-            reports.warn(Report::Waits(upstream.name()));
-        }
-        if is_told {
-            tell_refusal(upstream.name(), query, reply, reports);
-        }
+        self.end(i, Loss::Silent(self.limits.answer), reports);
+        Some(Next::LinkLost(i))
     }
 
     /// Closes a link and reports it: a server that has served is lost, and of any other it is reported once that there
@@ -325,9 +306,10 @@ impl Links {
 
     /// Whether missed seconds may be told at once: no server still has time to answer, or a shutdown has begun. In Final
     /// nobody is asked any more, and the notice SHUTDOWN was given before.
-    fn may_catch_up(&self) -> bool {
+    fn may_catch_up(&self, monitor: &Monitor) -> bool {
         let limits = self.limits;
-        self.is_ending || !self.upstreams.iter().any(|it| it.holds_clock(limits))
+        let mut links = self.upstreams.iter().enumerate();
+        self.is_ending || !links.any(|(i, it)| it.holds_clock(outstanding(monitor, i), limits))
     }
 
     /// Looks at the links of this round, until one has something to tell.
@@ -365,13 +347,14 @@ impl Links {
             (false, false) => self.reach(monitor, i, net, reports),
             (false, true) => Some(Next::LinkLost(i)),
             (true, false) => {
-                self.close(i, reports);
+                self.close(monitor, i, reports);
                 None
             }
         }
     }
 
-    /// Reads from a link. If its server doesn't answer in time the link is lost, whatever else the server sends.
+    /// Reads from a link, and has it looked at again if there may be more. If its server doesn't answer in time the link is
+    /// lost, whatever else the server sends.
     fn hear(
         &mut self,
         monitor: &Monitor,
@@ -381,51 +364,26 @@ impl Links {
     ) -> Option<Next>
         ensures goes_on { IfSome result (λ n. n ≢ next.End) }
     {
-        let heard = self.upstreams.get_mut(i)?.hear(piece);
-        self.take_in(monitor, i, heard, piece);
-        match self.loss_after(i, heard) {
-            Some(loss) => {
-                self.end(i, loss, reports);
-                Some(Next::LinkLost(i))
-            }
-            None => next_after(heard, i),
-        }
-    }
-
-    /// Takes in what was read from a link: hands a piece on, and has the link looked at again if there may be more.
-    fn take_in(&mut self, monitor: &Monitor, i: usize, heard: Heard, piece: &Piece) {
-        match heard {
-            Heard::All => self.hand_on(monitor, i, piece),
+        match self.upstreams.get_mut(i)?.hear(piece) {
+            Heard::All => Some(self.hand_on(i)),
             Heard::Part => {
                 self.rounds.ready.insert(Token(i));
-                self.hand_on(monitor, i, piece);
+                Some(self.hand_on(i))
             }
-            Heard::Nothing | Heard::End => {}
+            Heard::Nothing => self.lose_silent(monitor, i, reports),
+            Heard::End => {
+                self.end(i, Loss::Closed, reports);
+                Some(Next::LinkLost(i))
+            }
         }
     }
 
-    /// Returns why a link ends after what was read from it, if it does.
-    fn loss_after(&self, i: usize, heard: Heard) -> Option<Loss> {
-        if let Heard::End = heard {
-            return Some(Loss::Closed);
-        }
-        if self.upstreams.get(i)?.is_overdue(self.limits) {
-            return Some(Loss::Silent(self.limits.answer));
-        }
-        None
-    }
-
-    /// Notes the piece that is given to the monitor, and what it answers to the query on its link.
-    fn hand_on(&mut self, monitor: &Monitor, i: usize, piece: &Piece) {
-        let Some(upstream) = self.upstreams.get_mut(i) else {
-            return;
-        };
-        let reply = upstream.reply_in(self.alloc, piece.as_slice());
-        let answer = match (monitor.last_query(i), reply) {
-            (Some(last), Some(reply)) => Some((last.query, reply)),
-            _ => None,
-        };
-        self.handed = Some(Handed { link: i, answer });
+    /// Gives a piece of a link to the monitor.
+    fn hand_on(&mut self, i: usize) -> Next
+        ensures { result ≡ next.LinkBytes i }
+    {
+        self.heard = Some(i);
+        Next::LinkBytes(i)
     }
 
     /// Calls the server of a link, or continues the call. When the link is made, what the server has sent already is to
@@ -471,7 +429,7 @@ impl Links {
         if self.rounds.look_at_clock(services.rt)? {
             self.second(monitor, &mut services.look_ups, &mut services.reports);
         }
-        let patience = self.patience(&services.look_ups);
+        let patience = self.patience(monitor, &services.look_ups);
         self.rounds.wait_for(patience)?;
         note(
             &self.rounds.events,
@@ -484,8 +442,8 @@ impl Links {
     }
 
     /// Returns how long there is nothing to do except wait for events.
-    fn patience(&self, look_ups: &LookUps<'_, impl Processes>) -> Duration {
-        if self.rounds.seconds.has_next(self.may_catch_up()) {
+    fn patience(&self, monitor: &Monitor, look_ups: &LookUps<'_, impl Processes>) -> Duration {
+        if self.rounds.seconds.has_next(self.may_catch_up(monitor)) {
             return Duration::ZERO;
         }
         let ahead = self.rounds.seconds.ahead();
@@ -505,8 +463,8 @@ impl Links {
     ) {
         self.has_moved_on = true;
         self.limits = Limits::of(monitor);
-        for upstream in self.upstreams.iter_mut() {
-            upstream.second(self.limits);
+        for (i, upstream) in self.upstreams.iter_mut().enumerate() {
+            upstream.second(outstanding(monitor, i), self.limits);
         }
         look_ups.second();
         if !self.is_ending {
@@ -589,17 +547,6 @@ fn next_look_up<R: Processes>(upstreams: &[Upstream], look_ups: &LookUps<'_, R>)
     }
 }
 
-/// Returns what comes next after this was read from a link.
-fn next_after(heard: Heard, i: usize) -> Option<Next>
-    ensures goes_on { IfSome result (λ n. n ≢ next.End) }
-{
-    match heard {
-        Heard::Nothing => None,
-        Heard::All | Heard::Part => Some(Next::LinkBytes(i)),
-        Heard::End => Some(Next::LinkLost(i)),
-    }
-}
-
 /// Whether the monitor waits for other machines of a UPS: its FSD was accepted there, and it counts who is logged in.
 fn waits_for_others(monitor: &Monitor, i: usize) -> bool {
     monitor.phase() == Phase::Forcing && monitor.known(i).is_some_and(|known| known.forced)
@@ -613,10 +560,34 @@ fn is_after_opening(query: Query) -> bool {
     }
 }
 
+/// Reports what an answer shows, if it has to be reported: that the server begins to serve or to wait for its driver, if
+/// the monitor kept the link at the answer, that the answer was late, and what was refused.
+fn tell_answer(
+    upstream: &mut Upstream,
+    answer: &LastAnswer,
+    is_kept: bool,
+    reports: &mut Reports<'_>,
+) {
+    let query = answer.asked.query;
+    let refused = upstream.begins_to_refuse(answer);
+    if is_kept && is_after_opening(query) && upstream.begins_to_serve() {
+        reports.tell(Report::Reached(upstream.name()));
+    }
+    if upstream.begins_to_be_late() {
+        reports.warn(Report::Late(upstream.name()));
+    }
+    if is_kept && upstream.begins_to_wait(answer) {
+        reports.warn(Report::Waits(upstream.name()));
+    }
+    if let Some(error) = refused {
+        tell_refusal(upstream.name(), query, &error, reports);
+    }
+}
+
 /// Reports that a server refused a query. A refusal of another query than for the status is told even if reports aren't
 /// wanted: this UPS isn't watched as upsmon.conf says.
-fn tell_refusal(name: &str, query: Query, reply: &Reply, reports: &mut Reports<'_>) {
-    let refused = Report::Refused(name, title(query), text_of(reply.error()));
+fn tell_refusal(name: &str, query: Query, error: &ErrorName, reports: &mut Reports<'_>) {
+    let refused = Report::Refused(name, title(query), text_of(error.as_slice()));
     if is_left_out_when_quiet(query) {
         reports.tell(refused);
     } else {

@@ -6,6 +6,7 @@ ghost use Rattle.nut_monitor_loop.specs.Record.{WasClosed, WasTold, tells, tells
 ghost use Rattle.nut_poll.specs.Late.{is_noted};
 ghost use Rattle.nut_monitor_sockets.specs.Untold.{untold_watch};
 
+use crate::held_losses::HeldLosses;
 use crate::herald::Herald;
 use crate::links::{Links, NewLinks, Services};
 use crate::look_ups::LookUps;
@@ -37,14 +38,16 @@ use std::time::Clock;
 /// each only when no server is about to answer: so no server is judged by what it couldn't say. A shutdown that begins
 /// then counts its own seconds, and forgets those that are missed while it waits for other machines.
 ///
-/// Notices go to a herald, which is also told that a second has passed: once for several missed seconds that follow one
-/// another at once. The world ends when the herald says so, and may then begin anew for another monitor. Only `next`
+/// Notices go to a herald. In the first seconds of the world, while the machine may be booting, it isn't told that a UPS is
+/// lost which had no status yet. The herald is also told that a second has passed: once for several missed seconds that
+/// follow one another at once. The world ends when the herald says so, and may then begin anew for another monitor. Only `next`
 /// returns a fault, that of the wait for the sockets or of the clock: a failure of one link concerns no other. The
 /// world keeps no record.
 pub struct MioMonWorld<'r, 'e, R: Processes, H> {
     links: Links,
     services: Services<'r, 'e, R>,
     herald: H,
+    held_losses: HeldLosses,
     late: ArrayVec<u64, MONITORS_MAX>,
     faults: u64,
     has_ended: bool,
@@ -57,6 +60,7 @@ impl<'r, 'e, R: Processes, H: Drop> Drop for MioMonWorld<'r, 'e, R, H> {
             links: _links,
             services: _services,
             herald: _herald,
+            held_losses: _held_losses,
             late: _late,
             faults: _,
             has_ended: _,
@@ -87,6 +91,7 @@ impl<'r, 'e, R: Net + Clock + Processes, H: Herald> MioMonWorld<'r, 'e, R, H> {
                 reports,
             },
             herald,
+            held_losses: HeldLosses::new(),
             late: ArrayVec::new(),
             faults: 0,
             has_ended: false,
@@ -103,6 +108,7 @@ impl<'r, 'e, R: Net + Clock + Processes, H: Herald> MioMonWorld<'r, 'e, R, H> {
         ensures { OnOk result (self.new.faults ≡ 0) }
     {
         self.links.begin(&mut self.services, links)?;
+        self.held_losses.clear();
         self.late.clear();
         self.faults = 0;
         self.has_ended = false;
@@ -146,6 +152,7 @@ impl<'r, 'e, R: Net + Clock + Processes, H: Herald> MonWorld for MioMonWorld<'r,
         match self.links.next(&mut self.services, monitor, piece) {
             Ok(Next::Moment(moment)) => {
                 if self.links.has_moved_on() {
+                    self.held_losses.second(&mut self.herald, monitor);
                     self.has_ended = self.herald.second(monitor);
                 }
                 Ok(if self.has_ended {
@@ -162,27 +169,29 @@ impl<'r, 'e, R: Net + Clock + Processes, H: Herald> MonWorld for MioMonWorld<'r,
         }
     }
 
-    fn write(&mut self, i: usize, bytes: &[u8]) -> Result<Written, Fault>
+    fn write(&mut self, monitor: &Monitor, i: usize, bytes: &[u8]) -> Result<Written, Fault>
         requires { 0 < length bytes.now }
         ensures no_fault { IsOk result }
         ensures count { self.new.faults ≡ self.old.faults }
         ensures ok { IfOk result (λ w. untold_watch ≡ tells_write w i bytes.now untold_watch) }
         ensures err { OnErr result (untold_watch ≡ untold_watch) }
         ensures within { IfOk result (λ w. IsWithin w (length bytes.now)) }
-        ensures late { IfOk result (λ w. (j : ℕ) → is_noted self.new.late.items j ≡ late_after w i (is_noted self.old.late.items) j) }
+        ensures late { IfOk result (λ w. (j : ℕ)
+            → is_noted self.new.late.items j ≡ late_after w i (is_noted self.old.late.items) j) }
     {
-        let written = self.links.offer(i, bytes, &mut self.services.reports);
+        let reports = &mut self.services.reports;
+        let written = self.links.offer(monitor, i, bytes, reports);
         Ok(note_written(&mut self.late, i as u64, written))
     }
 
-    fn close(&mut self, i: usize) -> Result<(), Fault>
+    fn close(&mut self, monitor: &Monitor, i: usize) -> Result<(), Fault>
         ensures no_fault { IsOk result }
         ensures count { self.new.faults ≡ self.old.faults }
         ensures ok { OnOk result (untold_watch ≡ tells (WasClosed i) untold_watch) }
         ensures err { OnErr result (untold_watch ≡ untold_watch) }
         ensures late { (j : ℕ) → is_noted self.new.late.items j ≡ is_noted self.old.late.items j }
     {
-        self.links.close(i, &mut self.services.reports);
+        self.links.close(monitor, i, &mut self.services.reports);
         Ok(())
     }
 
@@ -193,7 +202,7 @@ impl<'r, 'e, R: Net + Clock + Processes, H: Herald> MonWorld for MioMonWorld<'r,
         ensures err { OnErr result (untold_watch ≡ untold_watch) }
         ensures late { (j : ℕ) → is_noted self.new.late.items j ≡ is_noted self.old.late.items j }
     {
-        self.herald.announce(monitor, notice);
+        self.held_losses.tell(&mut self.herald, monitor, notice);
         Ok(())
     }
 }

@@ -1,8 +1,15 @@
 //! Refusals of a server, each of which is reported once until a link ends on which the server served.
 
-use crate::inquiry::{ErrorName, Reply};
-use nut_monitor::Query;
+use arrayvec::ArrayVec;
+use nut_link::Outcome;
+use nut_monitor::{LastAnswer, Query};
 use std::mem;
+
+/// The greatest number of bytes of an error's name that are kept.
+const ERROR_NAME_MAX: usize = 64;
+
+/// The name of an error, or its first [`ERROR_NAME_MAX`] bytes.
+pub type ErrorName = ArrayVec<u8, ERROR_NAME_MAX>;
 
 /// Which refusals of a server were reported.
 #[derive(Drop)]
@@ -27,49 +34,59 @@ impl Refusals {
         self.status.is_some()
     }
 
-    /// Notes the answer to a query, and returns whether it is to be reported. The first refusal of each query is,
-    /// except of NUMLOGINS; of the status, each refusal that differs from the answer before.
-    pub fn note(&mut self, query: Query, reply: &Reply) -> bool {
-        match query {
-            Query::Status => self.note_status(reply),
-            Query::Username => note_once(&mut self.told[0], reply),
-            Query::Password => note_once(&mut self.told[1], reply),
-            Query::Login => note_once(&mut self.told[2], reply),
-            Query::Primary => note_once(&mut self.told[3], reply),
-            Query::Fsd => note_once(&mut self.told[4], reply),
-            Query::NumLogins => false,
+    /// Notes an answer, and returns the name of its error if it is a refusal that is to be reported. The first refusal of
+    /// each query is, except of NUMLOGINS; of the status, each refusal that differs from the answer before.
+    pub fn note(&mut self, answer: &LastAnswer) -> Option<ErrorName> {
+        let error = error_of(&answer.outcome);
+        match answer.asked.query {
+            Query::Status => self.note_status(error),
+            Query::Username => note_once(&mut self.told[0], error),
+            Query::Password => note_once(&mut self.told[1], error),
+            Query::Login => note_once(&mut self.told[2], error),
+            Query::Primary => note_once(&mut self.told[3], error),
+            Query::Fsd => note_once(&mut self.told[4], error),
+            Query::NumLogins => None,
         }
     }
 
-    fn note_status(&mut self, reply: &Reply) -> bool {
-        match reply {
-            Reply::Refused(error) => {
-                if self.status.as_ref() == Some(error) {
-                    return false;
-                }
-                self.status = Some(copy_of(error));
-                true
-            }
-            Reply::Waits | Reply::Other => {
-                self.status = None;
-                false
-            }
+    /// Notes the error with which a query for the status was refused, or that it wasn't.
+    fn note_status(&mut self, error: Option<ErrorName>) -> Option<ErrorName> {
+        if self.status == error {
+            return None;
         }
+        self.status = error;
+        self.status.as_ref().map(copy_of)
     }
 }
 
-/// Notes an answer, and returns whether it is the first refusal.
-fn note_once(told: &mut bool, reply: &Reply) -> bool {
-    match reply {
-        Reply::Refused(_) => !mem::replace(told, true),
-        Reply::Waits | Reply::Other => false,
+/// Returns the error of the first refusal.
+fn note_once(told: &mut bool, error: Option<ErrorName>) -> Option<ErrorName> {
+    let error = error?;
+    if mem::replace(told, true) {
+        None
+    } else {
+        Some(error)
     }
+}
+
+/// Returns the name of the error if a query was refused.
+fn error_of(outcome: &Outcome) -> Option<ErrorName> {
+    match outcome {
+        Outcome::Refused(name) => Some(first_bytes(name.as_bytes())),
+        Outcome::Done | Outcome::Said(_) | Outcome::List(_) => None,
+    }
+}
+
+/// Returns the name of an error, or its first bytes.
+fn first_bytes(name: &[u8]) -> ErrorName {
+    let mut front = ErrorName::new();
+    let length = name.len().min(front.capacity());
+    let _ = front.try_extend_from_slice(&name[..length]);
+    front
 }
 
 fn copy_of(error: &ErrorName) -> ErrorName {
-    let mut copy = ErrorName::new();
-    let _ = copy.try_extend_from_slice(error.as_slice());
-    copy
+    first_bytes(error.as_slice())
 }
 
 /// Whether reports of a refusal of this query are left out with `-q`. Those of the status are: if it stays refused, a

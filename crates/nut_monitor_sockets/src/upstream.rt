@@ -5,16 +5,17 @@ ghost use Rattle.nut_io.specs.Writes.{IsWithin};
 
 use crate::dialler::Dialler;
 use crate::host::Host;
-use crate::inquiry::{Inquiry, Reply};
+use crate::inquiry::Inquiry;
 use crate::limits::{ANSWER_ON_BATTERY, Limits};
 use crate::pause::Pause;
-use crate::refusals::Refusals;
-use crate::waiting::Waiting;
+use crate::refusals::{ErrorName, Refusals};
+use crate::waiting::{Waiting, is_waiting};
 use mio::event::Event;
 use mio::net::TcpStream;
 use nut_conf::Monitored;
 use nut_io::{Piece, Written};
-use nut_monitor::Query;
+use nut_link::Outcome;
+use nut_monitor::{LastAnswer, LastQuery, Query};
 use nut_poll::{Heard, Link, may_be_read, text_of};
 use std::alloc::{AllocError, Global};
 use std::io::ErrorKind;
@@ -31,7 +32,7 @@ enum Stage {
     Down,
     /// An address is being dialled, and hasn't answered for this many seconds.
     Calling(Link<TcpStream>, u8),
-    /// The link is made: its socket, and the query and its answer.
+    /// The link is made: its socket, and how long its query has been outstanding.
     Up(Link<TcpStream>, Inquiry),
 }
 
@@ -99,28 +100,22 @@ impl Upstream {
         matches!(self.stage, Stage::Up(_, _))
     }
 
-    /// Whether the server has answered all that it was asked, and didn't refuse the last query for the status.
-    fn is_settled(&self) -> bool {
-        match &self.stage {
-            Stage::Down | Stage::Calling(_, _) => false,
-            Stage::Up(_, inquiry) => !inquiry.is_outstanding() && !self.refusals.refuses_status(),
-        }
+    /// Whether the server has answered all that it was asked, and didn't refuse the last query for the status. `asked` is
+    /// the query that is outstanding.
+    fn is_settled(&self, asked: Option<LastQuery>) -> bool {
+        self.is_up() && asked.is_none() && !self.refusals.refuses_status()
     }
 
     /// Whether seconds that were missed should not be told yet. The server was asked something and may still answer in
     /// time, or it may yet be called, or report a status, within the time that it has for an answer.
-    pub fn holds_clock(&self, limits: Limits) -> bool {
-        match &self.stage {
-            Stage::Up(_, inquiry) if inquiry.is_outstanding() => true,
-            Stage::Down | Stage::Calling(_, _) | Stage::Up(_, _) => {
-                !self.is_settled() && self.owed < limits.answer
-            }
-        }
+    pub fn holds_clock(&self, asked: Option<LastQuery>, limits: Limits) -> bool {
+        let is_asked = self.is_up() && asked.is_some();
+        is_asked || (!self.is_settled(asked) && self.owed < limits.answer)
     }
 
-    /// Counts a second that has passed.
-    pub fn second(&mut self, limits: Limits) {
-        self.owed = if self.is_settled() {
+    /// Counts a second that has passed. `asked` is the query that is outstanding at its end.
+    pub fn second(&mut self, asked: Option<LastQuery>, limits: Limits) {
+        self.owed = if self.is_settled(asked) {
             0
         } else {
             self.owed.saturating_add(1)
@@ -130,7 +125,7 @@ impl Upstream {
         match &mut self.stage {
             Stage::Down => {}
             Stage::Calling(_, waited) => *waited = waited.saturating_add(1),
-            Stage::Up(_, inquiry) => inquiry.second(),
+            Stage::Up(_, inquiry) => inquiry.second(asked),
         }
     }
 
@@ -223,16 +218,14 @@ impl Upstream {
         }
     }
 
-    /// Returns the answer to the outstanding query, if the piece that was read completes a line.
-    pub fn reply_in(&mut self, alloc: Global, piece: &[u8]) -> Option<Reply> {
+    /// Notes the last answer on the link. Returns whether it wasn't noted before.
+    pub fn note_answer(&mut self, answer: &LastAnswer) -> bool {
         match &mut self.stage {
             Stage::Up(_, inquiry) => {
-                let is_late = inquiry.is_overdue(ANSWER_ON_BATTERY);
-                let reply = inquiry.hear(alloc, piece);
-                self.was_late = is_late && reply.is_some();
-                reply
+                self.was_late = inquiry.is_overdue(answer.asked, ANSWER_ON_BATTERY);
+                inquiry.note(answer.asked)
             }
-            Stage::Down | Stage::Calling(_, _) => None,
+            Stage::Down | Stage::Calling(_, _) => false,
         }
     }
 
@@ -242,21 +235,19 @@ impl Upstream {
         self.was_late && !mem::replace(&mut self.is_late_noted, true)
     }
 
-    /// Notes the answer to a query, and returns whether it is a refusal that is now to be reported.
-    pub fn note_reply(&mut self, query: Query, reply: &Reply) -> bool {
-        let is_told = self.refusals.note(query, reply);
-        if self.is_settled() {
+    /// Returns the name of the error, if this answer is a refusal that is now to be reported.
+    pub fn begins_to_refuse(&mut self, answer: &LastAnswer) -> Option<ErrorName> {
+        let error = self.refusals.note(answer);
+        if !self.refusals.refuses_status() {
             self.owed = 0;
         }
-        is_told
+        error
     }
 
-    /// Notes an answer that the monitor has read. Returns whether the server now waits for its driver, though it told another
-    /// status before.
-    pub fn begins_to_wait(&mut self, query: Query, reply: &Reply) -> bool {
-        match (query, reply) {
-            (Query::Status, Reply::Waits) => self.waiting.begins(true),
-            (Query::Status, Reply::Other) => self.waiting.begins(false),
+    /// Whether the server now waits for its driver by this answer, though it told another status before.
+    pub fn begins_to_wait(&mut self, answer: &LastAnswer) -> bool {
+        match (answer.asked.query, &answer.outcome) {
+            (Query::Status, Outcome::Said(value)) => self.waiting.begins(is_waiting(value.get(0))),
             _ => false,
         }
     }
@@ -277,10 +268,10 @@ impl Upstream {
         is_first
     }
 
-    /// Whether a query has been outstanding for too long.
-    pub fn is_overdue(&self, limits: Limits) -> bool {
+    /// Whether this query has been outstanding for too long.
+    pub fn is_overdue(&self, query: LastQuery, limits: Limits) -> bool {
         match &self.stage {
-            Stage::Up(_, inquiry) => inquiry.is_overdue(limits.answer),
+            Stage::Up(_, inquiry) => inquiry.is_overdue(query, limits.answer),
             Stage::Down | Stage::Calling(_, _) => false,
         }
     }
@@ -290,10 +281,7 @@ impl Upstream {
         ensures { IsWithin result (length bytes.now) }
     {
         match &mut self.stage {
-            Stage::Up(link, inquiry) => {
-                inquiry.ask();
-                link.offer(bytes)
-            }
+            Stage::Up(link, _) => link.offer(bytes),
             Stage::Down | Stage::Calling(_, _) => Written::Failed,
         }
     }

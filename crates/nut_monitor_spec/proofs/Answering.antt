@@ -10,11 +10,11 @@ use Rattle.nut_monitor_spec.specs.Configuration.{Configuration, line_in}
 use Rattle.nut_monitor_spec.specs.Event.{Event, Moment, Linked, LinkBytes, LinkLost, LinkTook, OutOfMemory, NoticeTaken}
 use Rattle.nut_monitor_spec.specs.Trace.{Asked, Entry, earliest, clock, moment_of, linked, input, taken, queries, answers, number, outstanding, due, waits, trace, is_short, is_over_at, entry_of}
 use Rattle.nut_monitor_spec.specs.Content.{Content, stage_in, watch, content}
-use Rattle.nut_monitor_spec.specs.Acceptance.{Accepts, Tells, is_linked, waiting_on, waits_on}
+use Rattle.nut_monitor_spec.specs.Acceptance.{Accepts, Tells, answer_on, is_linked, waiting_on, waits_on}
 use Rattle.nut_monitor_spec.specs.machine.Machine.{advance}
 use Rattle.nut_monitor_spec.specs.Outcome.{IsRefusal, after}
 use Rattle.nut_monitor_spec.specs.machine.MachineOutcome.{AnswersKeepContent, content_after}
-use Rattle.nut_monitor_spec.specs.laws.Laws.{LinkedIsMade, WaitingIsLeft, SentAndWaitingIsDue, ShutdownStays}
+use Rattle.nut_monitor_spec.specs.laws.Laws.{AnswersAreTold, LinkedIsMade, WaitingIsLeft, SentAndWaitingIsDue, ShutdownStays}
 use Rattle.nut_monitor_spec.proofs.Lists.{get_at, earliest-moment, number-none, number-head}
 use Rattle.nut_monitor_spec.proofs.Settled.{IsTidy}
 use Rattle.nut_monitor_spec.proofs.Kept.{all-hold, keeps-content}
@@ -62,6 +62,9 @@ pub linked-made : LinkedIsMade
 linked-made configuration events i less =
     let past = trace configuration events in
     ap is_linked (get_at i (watch configuration past) configuration.lines less) ∙ there-if (linked i past) _
+
+pub answers-told : AnswersAreTold
+answers-told configuration events i less = ap answer_on (get_at i (watch configuration (trace configuration events)) configuration.lines less)
 
 nothing-left : (xs : List ℕ) (n : ℕ) → n ≡ length xs → drop n xs ≡ []
 nothing-left xs n all = drop_of_length-le xs (omega (arith, all))

@@ -11,7 +11,7 @@ use Rattle.nut_monitor_spec.specs.declared.Query.{Query}
 use Rattle.nut_monitor_spec.specs.Configuration.{Configuration, line_in}
 use Rattle.nut_monitor_spec.specs.Query.{status_in, is_forced, logins_in, flags_of}
 use Rattle.nut_monitor_spec.specs.Decision.{communication_then}
-use Rattle.nut_monitor_spec.specs.Trace.{Asked, Answer, Entry, is_any, is_link, since_linked, linked, input_after, input, taken_after, taken, queries, answered_in, answers, last_in, joined_queries, number, gives, gives_status, at_status, are_calm, status_of_answer, clock, status, polled, calm, communication_after, communication, is_replace, is_silence, forced, logins, logins_of_answer, known, asked_in}
+use Rattle.nut_monitor_spec.specs.Trace.{Asked, Answer, Entry, is_any, is_link, since_linked, linked, input_after, input, taken_after, taken, queries, answered_in, answers, last_in, last_of, joined_queries, number, gives, gives_status, at_status, are_calm, status_of_answer, clock, status, polled, calm, communication_after, communication, is_replace, is_silence, forced, logins, logins_of_answer, known, asked_in}
 use Rattle.nut_monitor_spec.specs.Content.{Watch, stage_in, watch}
 use Rattle.nut_monitor_spec.proofs.Newest.{status-step, polled-step, calm-step, forced-step, logins-step, told-step}
 
@@ -31,6 +31,7 @@ watch_by configuration i there bytes asked said took known = record {
       })
       else None;
   last = last_in asked;
+  answer = last_of said;
   known = known;
 }
 

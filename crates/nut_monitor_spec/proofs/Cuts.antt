@@ -37,7 +37,7 @@ link_on x None = None
 link_on x (Some v) = Some (record v { rest = rest_after v.rest x })
 
 abbrev goes_on_by : List ℕ → Watch → Watch
-goes_on_by x w = record { link = link_on x w.link; last = w.last; known = w.known }
+goes_on_by x w = record w { link = link_on x w.link }
 
 module _ (configuration : Configuration) (newest : Entry) (older : List Entry) (i : ℕ) (x : List ℕ) (none : brought i (newest ∷ older) x ≡ []) where
   abbrev past : List Entry
@@ -78,7 +78,7 @@ module _ (configuration : Configuration) (newest : Entry) (older : List Entry) (
   piece-own : watch configuration (bare event ∷ past) i ≡ goes_on_by x (watch configuration past i)
   piece-own =
       let stage : Exchange = record { stage = stage_in (line_in configuration.lines i) (outstanding i past) (waits configuration i past); fault = None } in
-      let of = λ (l : Option LinkValue). let w : Watch = record { link = l; last = last_query i past; known = known i past } in w in
+      let of = λ (l : Option LinkValue). let w : Watch = record (watch configuration past i) { link = l } in w in
       ap (λ r. of (if linked i past then Some (record { rest = r; exchange = stage }) else None)) rest-on
       ∙ ap of (on-if (linked i past) stage)
 

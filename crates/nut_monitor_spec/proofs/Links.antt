@@ -11,15 +11,16 @@ use Rattle.nut_link.specs.declared.outcome.Outcome.{Outcome}
 use Rattle.nut_link.specs.Link.{LinkValue, fed, lines_heard, outcome_of, taken_out}
 use Rattle.nut_monitor_spec.specs.declared.Communication.TheVariants.{Bad}
 use Rattle.nut_monitor_spec.specs.declared.Known.{Known}
+use Rattle.nut_monitor_spec.specs.declared.LastAnswer.{LastAnswer}
 use Rattle.nut_monitor_spec.specs.declared.LastQuery.{LastQuery}
 use Rattle.nut_monitor_spec.specs.declared.Notice.{Notice}
 use Rattle.nut_monitor_spec.specs.Configuration.{Configuration, line_in}
 use Rattle.nut_monitor_spec.specs.Event.{Event, Linked, LinkBytes, LinkLost, OutOfMemory}
 use Rattle.nut_monitor_spec.specs.Query.{request, status_in, outcome_in}
 use Rattle.nut_monitor_spec.specs.Decision.{shutdown_told, told, is_bad, loss_notices, communication_then}
-use Rattle.nut_monitor_spec.specs.Trace.{Asked, Answer, Entry, is_any, is_link, clock, clock_after, moment_of, linked, input, taken, queries, answers, answered_in, outstanding, waits, last_query, last_in, number, communication, communication_after, known, is_replace, is_silence, begun, has_begun, has_ended, brought, answered, answer_to, first_answer, lost_by, came, notices_of_answer, notices_of_loss, notices_waiting, all_taken}
+use Rattle.nut_monitor_spec.specs.Trace.{Asked, Answer, Entry, is_any, is_link, clock, clock_after, moment_of, linked, input, taken, queries, answers, answered_in, outstanding, waits, last_query, last_answer, last_of, last_in, number, communication, communication_after, known, is_replace, is_silence, begun, has_begun, has_ended, brought, answered, answer_to, first_answer, lost_by, came, notices_of_answer, notices_of_loss, notices_waiting, all_taken}
 use Rattle.nut_monitor_spec.specs.Content.{Watch, stage_in, link_at, watch, content_of}
-use Rattle.nut_monitor_spec.specs.machine.Machine.{made, lost, known_after, answer_told, watch_answered, watch_heard, told_heard, watch_out, told_out, given, link_made, link_lost, piece_heard, piece_out, loss_told}
+use Rattle.nut_monitor_spec.specs.machine.Machine.{made, lost, known_after, answer_after, answer_told, watch_answered, watch_heard, told_heard, watch_out, told_out, given, link_made, link_lost, piece_heard, piece_out, loss_told}
 use Rattle.nut_monitor_spec.proofs.Lists.{for_each-update, number-none, number-head}
 use Rattle.nut_monitor_spec.proofs.Answered.{when-none, event-any, of_event, and-false, known-none, known-some, answer-replace, answer-silence, replaces}
 use Rattle.nut_monitor_spec.proofs.Apart.{IsOf, IsApart, watch_by, other-watch}
@@ -206,6 +207,25 @@ told-none : (configuration : Configuration) (time i : ℕ) (last : Option LastQu
 told-none configuration time i None known = refl
 told-none configuration time i (Some last) known = refl
 
+answer-none : (last : Option LastQuery) (before : Option LastAnswer) → answer_after last None before ≡ before
+answer-none None before = refl
+answer-none (Some last) before = refl
+
+-- the last answer on the link after some lines
+last-said : (configuration : Configuration) (past : List Entry) (i : ℕ) (answer : Option Answer) → IsIdle configuration i past ⊎ IsAsked configuration i past →
+    IsAnswerOf configuration past i answer →
+    last_of (answered_in i answer (answers i past)) ≡ answer_after (last_query i past) (option_map (λ a. a.outcome) answer) (last_answer i past)
+last-said configuration past i answer tidy (inl none) =
+    ap (λ a. last_of (answered_in i a (answers i past))) none
+    ∙ sym (answer-none (last_query i past) (last_answer i past))
+    ∙ ap (λ a. answer_after (last_query i past) (option_map (λ x. x.outcome) a) (last_answer i past)) (sym none)
+last-said configuration past i answer tidy (inr some) =
+    let a : Answer = record { link = i; asked = some.0; outcome = some.1 } in
+    ap (λ x. last_of (answered_in i x (answers i past))) some.4
+    ∙ ap (λ b. last_of (if b then a ∷ answers i past else answers i past)) (eq-eqb i i refl)
+    ∙ ap (λ l. answer_after l (Some some.1) (last_answer i past)) (sym (last-asked configuration past i some.0 tidy some.2))
+    ∙ ap (λ x. answer_after (last_query i past) (option_map (λ y. y.outcome) x) (last_answer i past)) (sym some.4)
+
 or-none : (b : Bool) → ((b || false) || false) ≡ b
 or-none true = refl
 or-none false = refl
@@ -388,6 +408,7 @@ module _ (configuration : Configuration) (past : List Entry) (i : ℕ) (piece : 
       else record {
         link = Some (record { rest = if failed then Text [] else rest_after (rest (input i past)) piece; exchange = exchange });
         last = last_query i past;
+        answer = answer_after (last_query i past) outcome (last_answer i past);
         known = known_after configuration (clock past) watching (last_query i past) outcome (known i past);
       }
 
@@ -402,13 +423,18 @@ module _ (configuration : Configuration) (past : List Entry) (i : ℕ) (piece : 
   known-is : known i (entry ∷ past) ≡ known_now loss
   known-is = lines-known configuration past i (LinkBytes i piece) ends_now answer loss tidy (answer-cases configuration past i texts)
 
+  abbrev answer_now : Option LastAnswer
+  answer_now = answer_after (last_query i past) (option_map (λ a. a.outcome) answer) (last_answer i past)
+
   -- the watch, made from the parts of the past
   abbrev parts : Option ℕ → Watch
-  parts l = watch_by configuration i (if is_link i l then false else linked i past) (if eqb i i then input i past ++ piece else input i past) (queries i past)
-      (answered_in i answer (answers i past)) (taken i past) (known_now l)
+  parts l = record (watch_by configuration i (if is_link i l then false else linked i past) (if eqb i i then input i past ++ piece else input i past) (queries i past)
+      (answered_in i answer (answers i past)) (taken i past) (known_now l)) { answer = answer_now }
 
   by-parts : watch configuration (entry ∷ past) i ≡ parts loss
-  by-parts = ap (λ k. record (parts loss) { known = k }) known-is
+  by-parts =
+      ap (λ k. record (watch configuration (entry ∷ past) i) { known = k }) known-is
+      ∙ ap (λ a. record (parts loss) { answer = a }) (last-said configuration past i answer tidy (answer-cases configuration past i texts))
 
   on-going : loss ≡ None → parts loss ≡ heard_by (option_map (λ a. a.outcome) answer) (is_some loss) (taken_out after)
   on-going none =
@@ -442,9 +468,10 @@ module _ (configuration : Configuration) (past : List Entry) (i : ℕ) (piece : 
   at-loss : loss ≡ Some i → parts loss ≡ heard_by (option_map (λ a. a.outcome) answer) (is_some loss) (taken_out after)
   at-loss some =
       ap parts some
-      ∙ ap (λ b. watch_by configuration i (if b then false else linked i past) (if eqb i i then input i past ++ piece else input i past) (queries i past)
+      ∙ ap (λ b. record (watch_by configuration i (if b then false else linked i past) (if eqb i i then input i past ++ piece else input i past) (queries i past)
       (answered_in i answer (answers i past)) (taken i past)
-      (let k : Known = after_lines configuration past i (LinkBytes i piece) ends_now answer in let m : Known = record k { communication = if b then Bad else k.communication } in m)) (eq-eqb i i refl)
+      (let k : Known = after_lines configuration past i (LinkBytes i piece) ends_now answer in let m : Known = record k { communication = if b then Bad else k.communication } in m))
+      { answer = answer_now }) (eq-eqb i i refl)
       ∙ ap (λ l. heard_by (option_map (λ a. a.outcome) answer) (is_some l) (taken_out after)) (sym some)
 
   heard-own : watch configuration (entry ∷ past) i
@@ -544,11 +571,17 @@ module _ (configuration : Configuration) (past : List Entry) (i : ℕ) (piece : 
     communication = if b then Bad else (after_lines configuration past i out_event out_ends out_answer).communication;
   }
 
+  abbrev out_last : Option LastAnswer
+  out_last = answer_after (last_query i past) (option_map (λ a. a.outcome) out_answer) (last_answer i past)
+
   out-own : watch configuration (out_entry ∷ past) i ≡ watch_out configuration (clock past) out_watching out_after out_was
   out-own =
-      ap (λ m. watch_by configuration i (if eqb i i then false else linked i past) (input i past) (queries i past) (answered_in i out_answer (answers i past)) (taken i past) m)
+      ap (λ a. record (watch configuration (out_entry ∷ past) i) { answer = a })
+      (last-said configuration past i out_answer tidy (answer-cases configuration past i out_texts))
+      ∙ ap (λ m. record (watch_by configuration i (if eqb i i then false else linked i past) (input i past) (queries i past) (answered_in i out_answer (answers i past)) (taken i past) m) { answer = out_last })
       (lines-known configuration past i out_event out_ends out_answer (Some i) tidy (answer-cases configuration past i out_texts))
-      ∙ ap (λ b. watch_by configuration i (if b then false else linked i past) (input i past) (queries i past) (answered_in i out_answer (answers i past)) (taken i past) (out_known b)) (eq-eqb i i refl)
+      ∙ ap (λ b. record (watch_by configuration i (if b then false else linked i past) (input i past) (queries i past) (answered_in i out_answer (answers i past)) (taken i past) (out_known b))
+      { answer = out_last }) (eq-eqb i i refl)
       ∙ ap (λ o. lost (watch_answered configuration (clock past) out_watching o out_was)) (sym out-outcome)
 
   out-told : notices_of_answer configuration past (clock past) out_answer ++ notices_of_loss past out_answer (Some i) ++ []

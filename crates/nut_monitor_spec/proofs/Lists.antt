@@ -1,11 +1,10 @@
 -- Lists with an element for each MONITOR line, and pasts: what they are after one more element.
-use Rattle.std.proofs.Common.{◌≡◌, ℕ, zero, suc, ◌+◌, ◌<◌, ◌≤◌, Bool, true, false, not, ◌&&◌, ◌||◌, eqb, List, [], ◌∷◌, ◌++◌, length, refl, sym, ◌∙◌, ap, arith, Some, None, is_none, if◌then◌else◌, append-nil}
+use Rattle.std.proofs.Common.{◌≡◌, ℕ, zero, suc, ◌+◌, ◌<◌, ◌≤◌, Bool, true, false, not, ◌&&◌, ◌||◌, eqb, List, [], ◌∷◌, length, refl, sym, ◌∙◌, ap, arith, Some, None, is_none, if◌then◌else◌}
 use Rattle.std.specs.Prelude.{slice_get}
 use Rattle.std.proofs.lemmas.Bool.{ne_eqb, eq-eqb, eqb-false}
-use Rattle.nut_monitor_spec.specs.declared.Notice.{Notice}
 use Rattle.nut_monitor_spec.specs.declared.Phase.{Phase}
 use Rattle.nut_monitor_spec.specs.Configuration.{Line, Configuration, line_in}
-use Rattle.nut_monitor_spec.specs.Decision.{is_critical, power_where, each_primary, is_alone, when}
+use Rattle.nut_monitor_spec.specs.Decision.{is_critical, power_where, each_primary, is_alone}
 use Rattle.nut_monitor_spec.specs.Trace.{Entry, or_else, earliest, is_any, number, moment_of, clock}
 use Rattle.nut_monitor_spec.specs.Content.{Watch, for_each_line}
 use Rattle.nut_monitor_spec.specs.machine.Machine.{update, supply_of, all_alone, all_asked, asked_next}
@@ -67,10 +66,6 @@ asked-law configuration time phase (line ∷ lines) f =
 
 -- ---- pasts
 
-pub is_none_moment : (past : List Entry) → is_none (moment_of past) ≡ not (is_any past)
-is_none_moment [] = refl
-is_none_moment (entry ∷ past) = refl
-
 -- whether something begins with the newest entry
 abbrev pub begins_now : (List Entry → Bool) → List Entry → Entry → Bool
 begins_now test past entry = is_none (moment_of (earliest test past)) && test (entry ∷ past)
@@ -124,7 +119,3 @@ number-none n (x ∷ xs) few =
 
 pub number-head : {X : Type 0} (n : ℕ) (x : X) (xs : List X) → length xs ≡ n → number n (x ∷ xs) ≡ Some x
 number-head n x xs is = let test : eqb (length xs) n ≡ true = eq-eqb (length xs) n is in rw test refl
-
-pub when-append : (notices : List Notice) (b : Bool) (notice : Notice) → (if b then notices ++ notice ∷ [] else notices) ≡ notices ++ when b notice
-when-append notices true notice = refl
-when-append notices false notice = sym (append-nil notices)

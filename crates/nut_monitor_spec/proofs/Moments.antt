@@ -130,7 +130,7 @@ module _ (configuration : Configuration) (past : List Entry) (t : ℕ) where
   silent-is i = by (is_told configuration past time i)
     where
       by : (b : Bool) → (let w : Watch = record (watch configuration past i) { known = record (known i past) { silence_told = if b then Some time else told_at (is_silence i) past } } in w)
-          ≡ (if b then record { link = (watch configuration past i).link; last = (watch configuration past i).last; known = record (known i past) { silence_told = Some time } } else watch configuration past i)
+          ≡ (if b then record (watch configuration past i) { known = record (known i past) { silence_told = Some time } } else watch configuration past i)
       by true = refl
       by false = refl
 

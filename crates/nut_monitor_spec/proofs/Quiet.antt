@@ -15,7 +15,7 @@ use Rattle.nut_monitor_spec.specs.Trace
 use Rattle.nut_monitor_spec.specs.Configuration.{Line, Configuration, line_in}
 use Rattle.nut_monitor_spec.specs.Event.{Event, LinkTook, NoticeTaken}
 use Rattle.nut_monitor_spec.specs.Decision.{shutdown_told, when, phase_at, next_query, is_over_by}
-use Rattle.nut_monitor_spec.specs.Trace.{Asked, Entry, earliest, is_any, clock, moment_of, linked, input, known, taken, queries, answers, outstanding, due, waits, may_ask, last_query, forced, begun, has_begun, ended, has_ended, is_short, is_over_at, alone, phase, came, notices_of, query_put, entry_of, notices, notices_taken, notices_waiting}
+use Rattle.nut_monitor_spec.specs.Trace.{Asked, Entry, earliest, is_any, clock, moment_of, linked, input, known, taken, queries, answers, outstanding, due, waits, may_ask, last_query, last_answer, forced, begun, has_begun, ended, has_ended, is_short, is_over_at, alone, phase, came, notices_of, query_put, entry_of, notices, notices_taken, notices_waiting}
 use Rattle.nut_monitor_spec.specs.Content.{Watch, Content, stage_in, watch, content_of}
 use Rattle.nut_monitor_spec.specs.machine.Machine.{update, took}
 use Rattle.nut_monitor_spec.proofs.Lists.{for_each-update, earliest-moment, earliest-any, earliest-none, begins_now}
@@ -154,6 +154,7 @@ module _ (configuration : Configuration) (newest : Entry) (older : List Entry) w
           let of = λ (e : Exchange). let w : Watch = record {
             link = Some (record { rest = rest (input i past); exchange = e });
             last = last_query i past;
+            answer = last_answer i past;
             known = known i past;
           } in w in
           ap (λ w. of (record { stage = stage_in (line_in configuration.lines i) (outstanding i past) w; fault = None })) (sym (drop-drop n (taken i past) bytes))

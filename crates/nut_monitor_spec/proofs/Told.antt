@@ -5,7 +5,7 @@ use Rattle.std.proofs.lemmas.Bool.{cases_Bool, eqb-true, ltb-true, ltb-false}
 use Rattle.nut_monitor_spec.specs.declared.MonitorFault.TheVariants.{NoSuchLink}
 use Rattle.nut_monitor_spec.specs.Configuration.{Configuration}
 use Rattle.nut_monitor_spec.specs.Event.{Event, Moment, Linked, LinkBytes, LinkLost, LinkTook, OutOfMemory, NoticeTaken}
-use Rattle.nut_monitor_spec.specs.Trace.{Entry, is_link, since_linked, linked, taken, due, waits, came, entry_of, trace}
+use Rattle.nut_monitor_spec.specs.Trace.{Entry, is_link, since_linked, linked, taken, due, came, entry_of, trace}
 use Rattle.nut_monitor_spec.specs.Content.{Watch, watch, content}
 use Rattle.nut_monitor_spec.specs.Acceptance.{IsAccepted, is_linked, linked_refusal, waiting_on, watch_at}
 use Rattle.nut_monitor_spec.specs.laws.Laws.{LinksAreTold}

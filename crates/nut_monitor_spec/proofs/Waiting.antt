@@ -96,9 +96,6 @@ silences-few configuration time i (w ∷ watches) =
 
 -- ---- how many more a loss of links may tell
 
-one-if : Bool → ℕ
-one-if b = if b then 1 else 0
-
 abbrev fresh : Watch → ℕ
 fresh w = if is_bad w.known.communication then 0 else 1
 

@@ -2,6 +2,7 @@
 use Rattle.std.specs.Prelude.{ℕ, ◌≡◌, nat_lt, Bool, true, false, if◌then◌else◌, List, [], ◌∷◌, length, slice_get, Option, Some, None, is_some}
 use Rattle.nut_link.specs.Link.{LinkValue, waits}
 use Rattle.nut_words.specs.declared.limits.TheConstants.{PIECE_MAX}
+use Rattle.nut_monitor_spec.specs.declared.LastAnswer.{LastAnswer}
 use Rattle.nut_monitor_spec.specs.declared.MonitorFault.{MonitorFault}
 use Rattle.nut_monitor_spec.specs.declared.MonitorFault.TheVariants.{NoSuchLink, WrongLinkState, PieceTooLong, TooMuchTaken, Busy}
 use Rattle.nut_monitor_spec.specs.Configuration.{Configuration}
@@ -85,3 +86,8 @@ is_linked (Some w) = is_some w.link
 abbrev pub waiting_on : Option Watch → List ℕ
 waiting_on None = []
 waiting_on (Some w) = waits_on w.link
+
+-- the last answer since the link of this watch was made; none if there is no such line
+abbrev pub answer_on : Option Watch → Option LastAnswer
+answer_on None = None
+answer_on (Some w) = w.answer

@@ -6,6 +6,7 @@ use Rattle.nut_link.specs.declared.exchange.Stage.TheVariants as stages
 use Rattle.nut_link.specs.Link.{LinkValue}
 use Rattle.nut_link.specs.Matching.{expected}
 use Rattle.nut_monitor_spec.specs.declared.Known.{Known}
+use Rattle.nut_monitor_spec.specs.declared.LastAnswer.{LastAnswer}
 use Rattle.nut_monitor_spec.specs.declared.LastQuery.{LastQuery}
 use Rattle.nut_monitor_spec.specs.declared.Notice.{Notice}
 use Rattle.nut_monitor_spec.specs.declared.Phase.{Phase}
@@ -13,13 +14,14 @@ use Rattle.nut_monitor_spec.specs.Configuration.{Line, Configuration, line_in}
 use Rattle.nut_monitor_spec.specs.Decision.{phase_at}
 use Rattle.nut_monitor_spec.specs.Event.{Event}
 use Rattle.nut_monitor_spec.specs.Query.{request}
-use Rattle.nut_monitor_spec.specs.Trace.{Asked, Entry, clock, moment_of, linked, input, outstanding, waits, last_query, known, begun, ended, trace, notices_waiting}
+use Rattle.nut_monitor_spec.specs.Trace.{Asked, Entry, clock, moment_of, linked, input, outstanding, waits, last_query, last_answer, known, begun, ended, trace, notices_waiting}
 
--- What is watched for a MONITOR line: its link if that is up, the last query since the link was last made, and what is
--- known of the UPS.
+-- What is watched for a MONITOR line: its link if that is up, the last query and the last answer since the link was last
+-- made, and what is known of the UPS.
 pub record Watch : Type 0 where
   pub link : Option LinkValue
   pub last : Option LastQuery
+  pub answer : Option LastAnswer
   pub known : Known
 
 -- `begun` and `ended` are the moments at which the shutdown and Final began, None before. `notices` are those that
@@ -52,6 +54,7 @@ abbrev pub watch : Configuration → List Entry → ℕ → Watch
 watch configuration past i = record {
   link = if linked i past then Some (link_at configuration past i) else None;
   last = last_query i past;
+  answer = last_answer i past;
   known = known i past;
 }
 

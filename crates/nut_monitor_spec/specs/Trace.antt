@@ -11,6 +11,7 @@ use Rattle.nut_link.specs.declared.outcome.Outcome.{Outcome}
 use Rattle.nut_monitor_spec.specs.declared.Communication.{Communication}
 use Rattle.nut_monitor_spec.specs.declared.Communication.TheVariants.{Never, Bad}
 use Rattle.nut_monitor_spec.specs.declared.Known.{Known}
+use Rattle.nut_monitor_spec.specs.declared.LastAnswer.{LastAnswer}
 use Rattle.nut_monitor_spec.specs.declared.LastQuery.{LastQuery}
 use Rattle.nut_monitor_spec.specs.declared.Notice.{Notice}
 use Rattle.nut_monitor_spec.specs.declared.Phase.{Phase}
@@ -155,6 +156,15 @@ last_in (asked ∷ older) = Some (record { query = asked.query; moment = asked.m
 abbrev pub last_query : ℕ → List Entry → Option LastQuery
 last_query i past = last_in (queries i past)
 
+-- the last answer on link i since it was made
+abbrev pub last_of : List Answer → Option LastAnswer
+last_of [] = None
+last_of (answer ∷ older) =
+    Some (record { asked = record { query = answer.asked.query; moment = answer.asked.moment }; outcome = answer.outcome })
+
+abbrev pub last_answer : ℕ → List Entry → Option LastAnswer
+last_answer i past = last_of (answers i past)
+
 -- the bytes of these queries of a line, joined, the oldest first
 abbrev pub joined_queries : Line → List Asked → List ℕ
 joined_queries line [] = []
@@ -209,7 +219,10 @@ are_calm (Some words) = is_calm words
 -- The first is older than all others, so the newest of these is the one.
 abbrev pub at_calm : ℕ → List Entry → List Entry
 at_calm i past =
-    latest (λ entry before. gives_status i entry.answer && (if is_any (at_status i before) then are_calm (status_of_answer entry.answer) else true)) past
+    latest
+    (λ entry before. gives_status i entry.answer
+    && (if is_any (at_status i before) then are_calm (status_of_answer entry.answer) else true))
+    past
 
 abbrev pub calm : ℕ → List Entry → ℕ
 calm i past = clock (at_calm i past)
@@ -256,7 +269,8 @@ logins_of_answer (Some answer) = logins_in answer.asked.query answer.outcome
 
 abbrev pub logins : ℕ → List Entry → Option ℕ
 logins i past =
-    logins_of_answer (newest_answer (latest (λ entry before. gives (λ query outcome. is_some (logins_in query outcome)) i entry.answer) past))
+    logins_of_answer
+    (newest_answer (latest (λ entry before. gives (λ query outcome. is_some (logins_in query outcome)) i entry.answer) past))
 
 abbrev pub known : ℕ → List Entry → Known
 known i past = record {
@@ -275,7 +289,8 @@ known i past = record {
 -- whether the UPS of line i is critical
 abbrev pub critical : Configuration → ℕ → List Entry → Bool
 critical configuration i past =
-    is_critical configuration (line_in configuration.lines i) (clock past) (calm i past) (polled i past) (option_map flags_of (status i past))
+    is_critical configuration (line_in configuration.lines i) (clock past) (calm i past) (polled i past)
+    (option_map flags_of (status i past))
 
 -- the sum of the power values of the lines whose UPS isn't critical
 abbrev pub supply : Configuration → List Entry → ℕ

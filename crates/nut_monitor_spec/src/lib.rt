@@ -4,13 +4,14 @@
 
 ghost use Rattle.nut_monitor_spec.specs.machine.Machine.{KeepsContent};
 ghost use Rattle.nut_monitor_spec.specs.machine.MachineOutcome.{AnswersKeepContent};
-ghost use Rattle.nut_monitor_spec.specs.laws.Laws.{AnswersComeInTurn, CutsDoNotMatter, LinkedIsMade, LinksAreBounded, LinksAreTold, LoginsFollowFsd, NoticesAreFew, NoticesComeInOrder, OthersStay, QueriesComeAlone, SentAndWaitingIsDue, ShutdownStays, WaitingIsLeft};
+ghost use Rattle.nut_monitor_spec.specs.laws.Laws.{AnswersAreTold, AnswersComeInTurn, CutsDoNotMatter, LinkedIsMade, LinksAreBounded, LinksAreTold, LoginsFollowFsd, NoticesAreFew, NoticesComeInOrder, OthersStay, QueriesComeAlone, SentAndWaitingIsDue, ShutdownStays, WaitingIsLeft};
 ghost use Rattle.nut_monitor_spec.specs.examples.Examples.{CommunicationExamples, EdgeExamples, OrderExamples, PrimaryExamples, RefusalExamples, RoomExamples, SecondaryExamples};
 
 mod limits;
 
 pub use limits::{NOTICES_MAX, notice_limits};
 use nut_conf::Notice as NoticeKind;
+use nut_link::Outcome;
 use thiserror::Error;
 
 /// The flags in a UPS's `ups.status` that a monitor acts on.
@@ -67,6 +68,15 @@ pub struct LastQuery {
     pub query: Query,
     /// When it was put.
     pub moment: u64,
+}
+
+/// The last answer on a link.
+#[derive(Debug, Drop)]
+pub struct LastAnswer {
+    /// The query that it answers.
+    pub asked: LastQuery,
+    /// What it says.
+    pub outcome: Outcome,
 }
 
 /// What is known of the UPS of a MONITOR line. Moments are in seconds since the start.
@@ -164,6 +174,12 @@ pub fn waiting_is_left()
 /// that no MONITOR line has, after every history of accepted events.
 pub fn links_are_told()
     ensures { LinksAreTold }
+{}
+
+/// States a law and does nothing when called: the last answer that the content has of a MONITOR line is the newest on its
+/// link since it was made.
+pub fn answers_are_told()
+    ensures { AnswersAreTold }
 {}
 
 /// States a law and does nothing when called: on a link that is up, the bytes that the server took, followed by those

@@ -1,9 +1,13 @@
 //! Limits how many lines of a client the server is given at once.
 
-ghost use Rattle.std.specs.Prelude.{◌<◌, ◌≤◌, length};
+ghost use Rattle.std.specs.Prelude.{◌≡◌, ◌<◌, ◌≤◌, ◌-◌, ◌++◌, ◌∷◌, [], List, ℕ, true, false, length, take};
+ghost use Rattle.std.specs.List.{list_any};
+ghost use Rattle.nut_server_sockets.specs.Batches.{ends_last, is_feed, is_last, is_plain, line_at, place_after};
+
+use memchr::memchr;
 
 /// Where in a client's line the next byte is.
-#[derive(Clone, Copy, PartialEq, Eq)]
+#[derive(Clone, Copy)]
 enum Place {
     /// At the start of a line.
     Start,
@@ -14,24 +18,55 @@ enum Place {
 }
 
 impl Place {
-    /// Returns where the byte after this one is. A line is plain if it begins as GET, HELP, NETVER, USERNAME and VER do, in
-    /// upper or lower case. Any other may be LIST or be reported, also one that begins with a blank or a quote.
-    fn behind(self, byte: u8) -> Place {
-        match (self, byte) {
-            (_, b'\n') => Place::Start,
-            (Place::Start, first) if is_plain(first) => Place::Plain,
-            (Place::Start, _) => Place::Last,
-            (place, _) => place,
+    fn is_start(self) -> bool
+        ensures { result ≡ true → self ≡ Place.Start }
+    {
+        matches!(self, Place::Start)
+    }
+
+    fn is_last(self) -> bool
+        ensures { result ≡ is_last self }
+    {
+        matches!(self, Place::Last)
+    }
+
+    /// Returns in what line the next byte is.
+    fn line_at(self, next: u8) -> Place
+        ensures { result ≡ line_at self next }
+    {
+        match self {
+            Place::Start => {
+                if is_plain(next) {
+                    Place::Plain
+                } else {
+                    Place::Last
+                }
+            }
+            Place::Plain => Place::Plain,
+            Place::Last => Place::Last,
         }
     }
 }
 
-/// Whether a line that begins with this byte is plain.
-fn is_plain(first: u8) -> bool {
+/// Whether a line that begins with this byte is plain: it is empty, or begins as GET, HELP, NETVER, USERNAME and VER do, in
+/// upper or lower case. Any other may be LIST or be reported, also one that begins with a blank or a quote.
+fn is_plain(first: u8) -> bool
+    ensures { result ≡ is_plain first }
+{
     matches!(
         first,
-        b'G' | b'g' | b'H' | b'h' | b'N' | b'n' | b'U' | b'u' | b'V' | b'v'
+        b'\n' | b'G' | b'g' | b'H' | b'h' | b'N' | b'n' | b'U' | b'u' | b'V' | b'v'
     )
+}
+
+/// Whether the piece ends with its one line feed.
+fn is_one_line(piece: &[u8]) -> bool
+    ensures { result ≡ true → (line : List ℕ) × (piece.now ≡ line ++ 10 ∷ []) × (list_any is_feed line ≡ false) }
+{
+    match piece.split_last() {
+        Some((last, front)) => *last == b'\n' && !front.contains(&b'\n'),
+        None => false,
+    }
 }
 
 /// Cuts what a client sends after each line that may be answered by a list, or that may be something that is reported:
@@ -58,12 +93,27 @@ impl Batches {
     pub fn cut(&mut self, piece: &[u8]) -> usize
         ensures within { result ≤ length piece.now }
         ensures some { 0 < length piece.now → 0 < result }
+        ensures place { self.new.place ≡ place_after self.old.place (take result piece.now) }
+
+        // A line that isn't plain is the last of what is given. Only such a line is a reason to give less than all.
+        ensures last { ends_last self.old.place (take (result - 1) piece.now) ≡ false }
+        ensures all { result < length piece.now → ends_last self.old.place (take result piece.now) ≡ true }
     {
-        for (i, byte) in piece.iter().enumerate() {
-            let place = self.place;
-            self.place = place.behind(*byte);
-            if place == Place::Last && *byte == b'\n' {
-                return i + 1;
+        // Most pieces are one line.
+        if self.place.is_start() && is_one_line(piece) {
+            return piece.len();
+        }
+        let mut start = 0;
+        while start < piece.len() {
+            let place = self.place.line_at(piece[start]);
+            let Some(at) = memchr(b'\n', &piece[start..]) else {
+                self.place = place;
+                return piece.len();
+            };
+            self.place = Place::Start;
+            start += at + 1;
+            if place.is_last() {
+                return start;
             }
         }
         piece.len()

@@ -88,14 +88,18 @@ impl Client {
     /// Reads up to a piece, and returns as much of it as the server is given at once. The rest is held, and returned
     /// before anything more is read.
     pub fn hear(&mut self, piece: &mut Piece, second: u64) -> Heard {
-        let heard = self.read(piece);
+        let heard = if self.held.is_empty() {
+            self.link.hear(piece)
+        } else {
+            self.take_held(piece)
+        };
         if heard == Heard::Nothing || heard == Heard::End {
             return heard;
         }
         self.is_unanswered = true;
         let end = self.batches.cut(piece.as_slice());
         let (now, later) = piece.as_slice().split_at(end);
-        if now.contains(&b'\n') {
+        if holds_line_end(now) {
             self.spoke = second;
         }
         if later.is_empty() {
@@ -106,12 +110,11 @@ impl Client {
         Heard::Part
     }
 
-    /// Returns what is held, or else reads what has arrived.
-    fn read(&mut self, piece: &mut Piece) -> Heard {
-        if self.held.is_empty() {
-            return self.link.hear(piece);
-        }
-        *piece = self.held.take();
+    /// Returns what is held. There may be more to read.
+    fn take_held(&mut self, piece: &mut Piece) -> Heard {
+        piece.clear();
+        let _ = piece.try_extend_from_slice(self.held.as_slice());
+        self.held.clear();
         Heard::Part
     }
 
@@ -154,4 +157,9 @@ impl Client {
         }
         Some(PATIENCE_WITH_LOGIN)
     }
+}
+
+/// Whether these bytes end a line. Most end with one.
+fn holds_line_end(bytes: &[u8]) -> bool {
+    matches!(bytes.last(), Some(b'\n')) || bytes.contains(&b'\n')
 }

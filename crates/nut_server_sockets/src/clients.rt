@@ -37,6 +37,8 @@ pub struct Silent {
 pub struct Clients {
     sockets: Slab<Client>,
     keys: HashMap<u64, usize>,
+    /// The key of the socket that was read last. Most bytes are offered to that connection.
+    last_heard: usize,
     /// How many seconds the server has been awake. Seconds in which it was stopped don't count as silence of a client.
     second: u64,
 }
@@ -47,6 +49,7 @@ impl Clients {
         Clients {
             sockets: Slab::new(alloc),
             keys: HashMap::new(alloc),
+            last_heard: 0,
             second: 0,
         }
     }
@@ -90,8 +93,17 @@ impl Clients {
         }
     }
 
+    /// Returns the key of the socket of a connection. That of the socket that was read last is found without a search.
+    fn key(&self, number: u64) -> Option<usize> {
+        if self.number(self.last_heard) == Some(number) {
+            return Some(self.last_heard);
+        }
+        self.keys.get(&number).copied()
+    }
+
     /// Reads from a socket.
     pub fn hear(&mut self, key: usize, piece: &mut Piece) -> Heard {
+        self.last_heard = key;
         match self.sockets.get_mut(key) {
             Some(client) => client.hear(piece, self.second),
             None => Heard::Nothing,
@@ -116,7 +128,7 @@ impl Clients {
     pub fn offer(&mut self, number: u64, bytes: &[u8]) -> (Written, Option<usize>)
         ensures { IsWithin result.0 (length bytes.now) }
     {
-        let Some(key) = self.keys.get(&number).copied() else {
+        let Some(key) = self.key(number) else {
             return (Written::Failed, None);
         };
         let Some(client) = self.sockets.get_mut(key) else {
@@ -156,7 +168,7 @@ impl Clients {
 
     /// Returns the client of a connection.
     fn client_mut(&mut self, number: u64) -> Option<&mut Client> {
-        let key = self.keys.get(&number).copied()?;
+        let key = self.key(number)?;
         self.sockets.get_mut(key)
     }
 

@@ -93,14 +93,7 @@ fn with<'a>(
     command: Result<Command<'a>, AllocError>,
     arg: Arg<'a>,
 ) -> Result<Command<'a>, AllocError> {
-    match command {
-        Ok(command) => command.arg(arg),
-        Err(AllocError) => {
-            // dropped by a call, which keeps the proof of this function short
-            drop(arg);
-            Err(AllocError)
-        }
-    }
+    command?.arg(arg)
 }
 
 fn conf_of_upsmon<'a>(alloc: Global) -> Arg<'a> {

@@ -36,14 +36,9 @@ where
     if !has_primary(config) {
         return Err(nut_program::Failure::Own(UpsmonFault::NoPrimary));
     }
-    let held = hold_closed_streams(rt, alloc)?;
-    let forced = match LossyLines::new(rt, alloc, streams.out) {
-        Ok(mut out) => Ok(force_all(rt, alloc, &config.monitors.lines, &mut out, told)),
-        Err(error) => Err(nut_program::Failure::from(error)),
-    };
-    // dropped by a call, which keeps the proof of this function short
-    drop(held);
-    forced
+    let _held = hold_closed_streams(rt, alloc)?;
+    let mut out = LossyLines::new(rt, alloc, streams.out)?;
+    Ok(force_all(rt, alloc, &config.monitors.lines, &mut out, told))
 }
 
 /// Sets FSD at the server of each primary line, and tells what became of it. Returns whether all accepted it.

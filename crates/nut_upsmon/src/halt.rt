@@ -13,7 +13,7 @@ use std::io::Write;
 use std::process::{Child, ExitStatus, Processes};
 use std::rt::Files;
 use std::time::{Clock, Duration};
-use std::{fmt, io, mem, thread};
+use std::{fmt, io, thread};
 
 /// The number of bytes that are reserved for starting the shell of SHUTDOWNCMD: for its words, of which there are two
 /// sets while upsmon.conf is taken up anew, and for a copy of an environment of up to 300 KiB, which takes up to three
@@ -80,45 +80,35 @@ pub struct Halt<'r, 'h, R: Processes> {
 }
 
 impl<'r, 'h, R: Files + Processes + Clock> Halt<'r, 'h, R> {
-    /// Returns a halt without steps, which will take its memory from this heap.
-    pub fn none(rt: &'r R, alloc: Global, heap: &'h LocalHeap) -> Halt<'r, 'h, R> {
-        Halt {
-            rt,
-            alloc,
-            heap,
-            flag: None,
-            command: None,
-            told: None,
-        }
-    }
-
-    /// Returns another halt without steps, with the memory of the same heap.
-    pub fn other(&self) -> Halt<'r, 'h, R> {
-        Halt::none(self.rt, self.alloc, self.heap)
-    }
-
-    /// Takes the steps that upsmon.conf sets.
+    /// Returns the steps that upsmon.conf sets, which take their memory from this heap.
     ///
     /// # Errors
     ///
     /// [`AllocError`] if memory cannot be allocated.
-    pub fn prepare(&mut self, config: &UpsmonConf) -> Result<(), AllocError> {
-        self.prepare_flag(config)?;
-        self.prepare_command(config)
+    pub fn new(
+        rt: &'r R,
+        alloc: Global,
+        heap: &'h LocalHeap,
+        config: &UpsmonConf,
+    ) -> Result<Halt<'r, 'h, R>, AllocError> {
+        let flag = PowerDownFlag::of(alloc, config)?;
+        Ok(Halt {
+            rt,
+            alloc,
+            heap,
+            flag,
+            command: shutdown_command(rt, heap, config)?,
+            told: None,
+        })
     }
 
-    fn prepare_flag(&mut self, config: &UpsmonConf) -> Result<(), AllocError> {
-        let flag = PowerDownFlag::of(self.alloc, config)?;
-        // dropped by a call, which keeps the proof of this function short
-        drop(mem::replace(&mut self.flag, flag));
-        Ok(())
-    }
-
-    fn prepare_command(&mut self, config: &UpsmonConf) -> Result<(), AllocError> {
-        let command = shutdown_command(self.rt, self.heap, config)?;
-        // dropped by a call, which keeps the proof of this function short
-        drop(mem::replace(&mut self.command, command));
-        Ok(())
+    /// Returns the steps that another upsmon.conf sets, with the memory of the same heap.
+    ///
+    /// # Errors
+    ///
+    /// [`AllocError`] if memory cannot be allocated.
+    pub fn with(&self, config: &UpsmonConf) -> Result<Halt<'r, 'h, R>, AllocError> {
+        Halt::new(self.rt, self.alloc, self.heap, config)
     }
 
     /// Starts the shell that will run SHUTDOWNCMD. If it cannot be started, it is tried again at the halt.
@@ -126,9 +116,9 @@ impl<'r, 'h, R: Files + Processes + Clock> Halt<'r, 'h, R> {
     /// # Errors
     ///
     /// That of the system if it cannot be started.
-    pub fn make_ready(&mut self) -> io::Result<()> {
+    pub fn start_shell(&mut self) -> io::Result<()> {
         match &mut self.command {
-            Some(command) => command.make_ready(),
+            Some(command) => command.start_shell(),
             None => Ok(()),
         }
     }
@@ -136,7 +126,7 @@ impl<'r, 'h, R: Files + Processes + Clock> Halt<'r, 'h, R> {
     /// Starts the shell that will run SHUTDOWNCMD. If it cannot be started, why is written to `err`, and
     /// [`second`](Halt::second) tries it again.
     pub fn begin(&mut self, err: &mut ErrorLines) {
-        if let Err(error) = self.make_ready() {
+        if let Err(error) = self.start_shell() {
             self.told = Some(ShellState::Gone);
             tell_not_ready(&error, err);
         }
@@ -164,13 +154,7 @@ impl<'r, 'h, R: Files + Processes + Clock> Halt<'r, 'h, R> {
 
     /// Gives the halt up. Returns the shell that was to run SHUTDOWNCMD, if there is one: it ends and runs nothing.
     pub fn give_up(mut self) -> Option<Child<R::Started>> {
-        let shell = match &mut self.command {
-            Some(command) => command.give_up(),
-            None => None,
-        };
-        // dropped by a call, which keeps the proof of this function short
-        drop(self);
-        shell
+        self.command.as_mut()?.give_up()
     }
 
     /// Removes POWERDOWNFLAG if an earlier shutdown left it set: otherwise the scripts of the next ordinary shutdown
@@ -338,7 +322,7 @@ fn replace_shell<R: Processes>(
     told: &mut Option<ShellState>,
     err: &mut ErrorLines,
 ) {
-    match command.make_ready() {
+    match command.start_shell() {
         Ok(()) => tell_replaced(err),
         Err(error) => {
             if *told != Some(ShellState::Gone) {

@@ -2,15 +2,15 @@
 #![tactic(auto)]
 
 mod beginning;
-mod caretaker;
 mod changes;
 mod command_line;
-mod crier;
 mod faulty_file;
 mod forcing;
 mod halt;
 mod low_runtime;
+mod machine;
 mod monitor;
+mod notifier;
 mod notify_command;
 mod power_down_flag;
 mod process_state;

@@ -1,23 +1,23 @@
 //! upsmon: a monitor that decides when to halt its machine.
 
-use crate::caretaker::Caretaker;
-use crate::command_line::{Order, Task, order_of};
-use crate::faulty_file::{flag_despite, flag_of};
+use crate::beginning::Beginning;
+use crate::command_line::{Task, order_of};
+use crate::faulty_file::last_flag_in;
 use crate::forcing::force_shutdowns;
 use crate::halt::{check_flag, clear_left_flag, halt_heap};
 use crate::low_runtime::check_low_runtimes;
+use crate::machine::Machine;
 use crate::power_down_flag::{FlagState, PowerDownFlag};
 use crate::reloader::Reloader;
 use crate::stopping::Stopping;
 use crate::upsmon_fault::{UpsmonFault, tell_failure};
 use crate::warning::read_and_warn;
-use crate::watching::{WatchFault, watch_in_turn};
-use linked_list_allocator::LocalHeap;
+use crate::watching::watch_in_turn;
 use nut_conf::UpsmonConf;
 use nut_log::LogStream;
 use nut_poll::{ErrorLines, LossyLines};
-use nut_program::{Failure, Streams, hold_closed_streams, read_conf, refuse_start};
-use std::alloc::{Alloc, AllocError, Global};
+use nut_program::{Failure, FileFault, Streams, hold_closed_streams, read_conf, refuse_start};
+use std::alloc::{Alloc, Global};
 use std::convert::AsStr;
 use std::env::Env;
 use std::io::Stdout;
@@ -68,25 +68,11 @@ where
     R: Wait + Files + Net + Clock + Processes + Env + Alloc,
 {
     match LossyLines::new(rt, alloc, streams.err) {
-        Ok(mut told) => run_and_tell(rt, alloc, words, streams, &mut told),
+        Ok(mut err) => match run(rt, alloc, words, streams, &mut err) {
+            Ok(status) => status,
+            Err(failure) => tell_failure(failure, streams.out, &mut err),
+        },
         Err(error) => refuse_start(&error, &mut streams.err),
-    }
-}
-
-/// Does what the words of the command line ask for, and tells why it can't be done. Returns the exit status.
-fn run_and_tell<R, S: AsStr>(
-    rt: &R,
-    alloc: Global,
-    words: &[S],
-    streams: Streams,
-    told: &mut ErrorLines,
-) -> u8
-where
-    R: Wait + Files + Net + Clock + Processes + Env + Alloc,
-{
-    match run(rt, alloc, words, streams, told) {
-        Ok(status) => status,
-        Err(failure) => tell_failure(failure, streams.out, told),
     }
 }
 
@@ -96,56 +82,41 @@ fn run<R, S: AsStr>(
     alloc: Global,
     words: &[S],
     streams: Streams,
-    told: &mut ErrorLines,
+    err: &mut ErrorLines,
 ) -> Result<u8, Failure<UpsmonFault>>
 where
     R: Wait + Files + Net + Clock + Processes + Env + Alloc,
 {
     let order = order_of(rt, alloc, words)?;
-    let status = carry_out(rt, alloc, &order, streams, told);
-    // dropped by a call, which keeps the proof of this function short
-    drop(order);
-    status
-}
-
-/// Does what a command line asks for. Returns the exit status.
-fn carry_out<R>(
-    rt: &R,
-    alloc: Global,
-    order: &Order,
-    streams: Streams,
-    told: &mut ErrorLines,
-) -> Result<u8, Failure<UpsmonFault>>
-where
-    R: Wait + Files + Net + Clock + Processes,
-{
     let folder = order.folder.as_str();
     match order.task {
-        Task::LookForFlag => return look_for_flag(rt, alloc, folder, streams.out, told),
-        Task::Check => check_file(rt, alloc, folder, streams.out, told)?,
-        Task::Force => return force(rt, alloc, folder, streams, told),
-        Task::Watch { is_quiet } => guard(rt, alloc, folder, is_quiet, streams, told)?,
+        Task::LookForFlag => look_for_flag(rt, alloc, folder, streams.out, err),
+        Task::Check => check_file(rt, alloc, folder, streams.out, err),
+        Task::Force => force(rt, alloc, folder, streams, err),
+        Task::Watch { is_quiet } => guard(rt, alloc, folder, is_quiet, streams, err),
     }
-    Ok(0)
 }
 
-/// Returns whether the flag that upsmon.conf in this folder names is set, as an exit status. If a line of the file has a
-/// fault, that is told, and the last line that names a flag and has none counts.
-fn look_for_flag<R>(
+/// Returns whether the flag that upsmon.conf in this folder names is set, as an exit status: 1 if it names none. If a line
+/// of the file has a fault, that is told, and the last line that names a flag and has none counts.
+fn look_for_flag<R: Files>(
     files: &R,
     alloc: Global,
     folder: &str,
     out: LogStream<Stdout>,
-    told: &mut ErrorLines,
-) -> Result<u8, Failure<UpsmonFault>>
-where
-    R: Files,
-{
+    err: &mut ErrorLines,
+) -> Result<u8, Failure<UpsmonFault>> {
     let flag = match read_config(files, alloc, folder) {
-        Ok(config) => flag_of(alloc, config)?,
-        Err(failure) => flag_despite(files, alloc, folder, failure, out, told)?,
+        Ok(config) => PowerDownFlag::of(alloc, &config)?,
+        Err(failure) => {
+            if !is_of_lines(&failure) {
+                return Err(failure);
+            }
+            tell_failure(failure, out, err);
+            last_flag_in(files, alloc, folder)?
+        }
     };
-    Ok(flag_status(files, flag))
+    Ok(u8::from(!is_set(files, flag)))
 }
 
 /// Reads upsmon.conf in this folder.
@@ -157,49 +128,36 @@ fn read_config(
     Ok(read_conf(files, alloc, folder)?)
 }
 
-/// Returns whether a flag is set, as an exit status. It is 1 if there is none.
-fn flag_status(files: &impl Files, flag: Option<PowerDownFlag>) -> u8 {
-    let is_set = match flag {
-        Some(flag) => matches!(flag.state(files), Ok(FlagState::Set)),
-        None => false,
-    };
-    u8::from(!is_set)
+/// Whether this is a fault of the lines of a file that was read.
+fn is_of_lines(failure: &Failure<UpsmonFault>) -> bool {
+    matches!(
+        failure,
+        Failure::Own(UpsmonFault::File(FileFault::Conf(..)))
+    )
 }
 
-/// Reads upsmon.conf in this folder, writes what it should set otherwise, and checks it.
+/// Whether there is a flag and it is set.
+fn is_set(files: &impl Files, flag: Option<PowerDownFlag>) -> bool {
+    flag.is_some_and(|flag| matches!(flag.state(files), Ok(FlagState::Set)))
+}
+
+/// Reads upsmon.conf in this folder, writes what it should set otherwise and how soon its machine stops, tells what is
+/// wrong with POWERDOWNFLAG, and asks the servers whether their UPSes report LB early enough.
 fn check_file<R>(
     rt: &R,
     alloc: Global,
     folder: &str,
-    out: LogStream<Stdout>,
-    told: &mut ErrorLines,
-) -> Result<(), Failure<UpsmonFault>>
-where
-    R: Files + Clock + Processes,
-{
-    let config = read_and_warn(rt, alloc, folder, told)?;
-    let checked = check_config(rt, alloc, &config, out, told);
-    // dropped by a call, which keeps the proof of this function short
-    drop(config);
-    checked
-}
-
-/// Writes how soon the machine of a configuration stops, tells what is wrong with POWERDOWNFLAG, and asks the servers
-/// whether their UPSes report LB early enough.
-fn check_config<R>(
-    rt: &R,
-    alloc: Global,
-    config: &UpsmonConf,
     mut out: LogStream<Stdout>,
-    told: &mut ErrorLines,
-) -> Result<(), Failure<UpsmonFault>>
+    err: &mut ErrorLines,
+) -> Result<u8, Failure<UpsmonFault>>
 where
     R: Files + Clock + Processes,
 {
-    Stopping::of(config).tell(&mut out)?;
-    check_flag(rt, alloc, config, told)?;
-    check_low_runtimes(rt, alloc, config, told)?;
-    Ok(())
+    let config = read_and_warn(rt, alloc, folder, err)?;
+    Stopping::of(&config).tell(&mut out)?;
+    check_flag(rt, alloc, &config, err)?;
+    check_low_runtimes(rt, alloc, &config, err)?;
+    Ok(0)
 }
 
 /// Forces the shutdown of the UPSes of the primary lines of upsmon.conf in this folder. Returns the exit status: 0 if all
@@ -209,77 +167,52 @@ fn force<R>(
     alloc: Global,
     folder: &str,
     streams: Streams,
-    told: &mut ErrorLines,
+    err: &mut ErrorLines,
 ) -> Result<u8, Failure<UpsmonFault>>
 where
     R: Wait + Files + Net,
 {
     let config = read_config(rt, alloc, folder)?;
-    let forced = force_shutdowns(rt, alloc, &config, streams, told);
-    // dropped by a call, which keeps the proof of this function short
-    drop(config);
-    Ok(u8::from(!forced?))
+    let is_forced = force_shutdowns(rt, alloc, &config, streams, err)?;
+    Ok(u8::from(!is_forced))
 }
 
-/// Watches the UPSes of upsmon.conf in this folder until the machine has to be halted, and halts it.
+/// Watches the UPSes of upsmon.conf in this folder until the machine has to be halted, and halts it. Returns the exit
+/// status, which is 0.
+///
+/// The standard streams that are closed are held meanwhile, so that no socket takes the place of one, and the memory that
+/// the halt takes is reserved.
 fn guard<R>(
     rt: &R,
     alloc: Global,
     folder: &str,
     is_quiet: bool,
     streams: Streams,
-    told: &mut ErrorLines,
-) -> Result<(), Failure<UpsmonFault>>
+    err: &mut ErrorLines,
+) -> Result<u8, Failure<UpsmonFault>>
 where
     R: Wait + Files + Net + Clock + Processes,
 {
-    let mut reloader = Reloader::start(rt, alloc, folder, is_quiet, told)?;
-    let guarded = guard_in_reserve(rt, alloc, &mut reloader, streams, told);
-    // dropped by a call, which keeps the proof of this function short
-    drop(reloader);
-    Ok(guarded?)
+    let (reloader, first) = read_first(rt, alloc, folder, is_quiet, err)?;
+    let _held = hold_closed_streams(rt, alloc)?;
+    let heap = halt_heap(alloc)?;
+    let mut machine = Machine::new(rt, alloc, &heap, reloader, first.config(), streams)?;
+    machine.begin(first.config(), err);
+    watch_in_turn(rt, alloc, machine, first, is_quiet, err)??;
+    Ok(0)
 }
 
-/// Removes a POWERDOWNFLAG that was left, reserves the memory that the halt takes, watches the UPSes of the upsmon.conf
-/// that is reloaded here until the machine has to be halted, and halts it. The standard streams that are closed are held
-/// meanwhile, so that no socket takes the place of one.
-fn guard_in_reserve<R>(
-    rt: &R,
+/// Reads upsmon.conf in this folder for the first watch, and removes a POWERDOWNFLAG that was left, before anything else can
+/// fail.
+fn read_first(
+    files: &impl Files,
     alloc: Global,
-    reloader: &mut Reloader,
-    streams: Streams,
-    told: &mut ErrorLines,
-) -> Result<(), WatchFault>
-where
-    R: Wait + Files + Net + Clock + Processes,
-{
-    if let Some(first) = reloader.next() {
-        clear_left_flag(rt, alloc, first.config(), told)?;
-    }
-    let held = hold_closed_streams(rt, alloc)?;
-    let guarded = match halt_heap(alloc) {
-        Ok(heap) => watch_and_halt(rt, alloc, &heap, reloader, streams, told),
-        Err(AllocError) => Err(WatchFault::from(AllocError)),
-    };
-    // dropped by a call, which keeps the proof of this function short
-    drop(held);
-    guarded
-}
-
-/// Watches the UPSes of the upsmon.conf that is reloaded here until the machine has to be halted, and halts it. The
-/// memory that the halt takes comes from `heap`.
-fn watch_and_halt<'r, R>(
-    rt: &'r R,
-    alloc: Global,
-    heap: &'r LocalHeap,
-    reloader: &'r mut Reloader,
-    streams: Streams,
-    told: &mut ErrorLines,
-) -> Result<(), WatchFault>
-where
-    R: Wait + Files + Net + Clock + Processes,
-{
-    let is_quiet = reloader.is_quiet();
-    let caretaker = Caretaker::ready(rt, alloc, heap, reloader, streams, told)?;
-    watch_in_turn(rt, alloc, caretaker, is_quiet, told)
+    folder: &str,
+    is_quiet: bool,
+    err: &mut ErrorLines,
+) -> Result<(Reloader, Beginning), Failure<UpsmonFault>> {
+    let reloader = Reloader::new(files, alloc, folder, is_quiet)?;
+    let first = reloader.read_first(files, err)?;
+    clear_left_flag(files, alloc, first.config(), err)?;
+    Ok((reloader, first))
 }

@@ -1,9 +1,10 @@
 //! NOTIFYCMD: the command that is run with the text of a notice.
 
+use crate::process_state::is_running;
 use nut_conf::UpsmonConf;
 use nut_poll::{shell_command, text_of, unstopped};
 use std::alloc::{AllocError, Global};
-use std::process::{Child, Command, OpenProcess, Processes};
+use std::process::{Child, Processes};
 use std::{fmt, io};
 
 /// The largest number of commands that run at a time.
@@ -122,7 +123,7 @@ fn script_of(alloc: Global, command: &[u8]) -> Result<String, AllocError> {
     format!(in alloc; "{BEGINNING}{command} \"$1\"")
 }
 
-/// Starts a shell that runs the script with this call.
+/// Starts a shell that runs the script with this call: the type of the notice and its UPS are in its environment.
 fn start<R: Processes>(
     processes: &R,
     alloc: Global,
@@ -130,29 +131,7 @@ fn start<R: Processes>(
     call: Call<'_>,
 ) -> io::Result<Child<R::Started>> {
     let mut shell = shell_command(alloc, script, text_of(call.text))?;
-    let started = start_shell(processes, &mut shell, call);
-    // dropped by a call, which keeps the proof of this function short
-    drop(shell);
-    started
-}
-
-/// Starts a shell with this call.
-fn start_shell<R: Processes>(
-    processes: &R,
-    shell: &mut Command,
-    call: Call<'_>,
-) -> io::Result<Child<R::Started>> {
-    put_variables(shell, call)?;
+    shell.env("NOTIFYTYPE", text_of(call.kind))?;
+    shell.env("UPSNAME", text_of(call.ups))?;
     shell.spawn(processes)
-}
-
-/// Gives a command the type of a notice and its UPS in its environment.
-fn put_variables(command: &mut Command, call: Call<'_>) -> Result<(), AllocError> {
-    command.env("NOTIFYTYPE", text_of(call.kind))?;
-    command.env("UPSNAME", text_of(call.ups))?;
-    Ok(())
-}
-
-fn is_running<P: OpenProcess>(child: &mut Child<P>) -> bool {
-    matches!(child.try_wait(), Ok(None))
 }

@@ -1,10 +1,11 @@
-//! Whether a process is stopped, as the system tells.
+//! Whether a process has ended or is stopped, as the system tells.
 
 use arrayvec::ArrayString;
 use std::fmt::Write;
 use std::fs::File;
 use std::io;
 use std::io::Read;
+use std::process::{Child, OpenProcess};
 use std::rt::Files;
 
 /// The most bytes of the path of a process's file: `/proc/`, ten digits and `/stat`.
@@ -15,6 +16,11 @@ const DIGITS: usize = 10;
 
 /// How many bytes of that file are read: its number, its name of at most 16 bytes in parentheses, and its state.
 const READ_MAX: usize = 64;
+
+/// Whether a process hasn't ended.
+pub fn is_running<P: OpenProcess>(child: &mut Child<P>) -> bool {
+    matches!(child.try_wait(), Ok(None))
+}
 
 /// Returns the number of a process as text.
 pub fn process_number(process: u32) -> ArrayString<DIGITS> {

@@ -17,7 +17,6 @@ use nut_program::{
 };
 use std::alloc::{AllocError, Global};
 use std::io::Write;
-use std::mem;
 use std::rt::Files;
 
 /// upsmon answers a request after upsd has, so that the server knows the new users and UPSes when upsmon logs in again. A
@@ -35,14 +34,8 @@ impl Reload {
     /// Makes what the watch of a configuration begins with, and compares it with the former one.
     fn of(alloc: Global, former: &UpsmonConf, config: UpsmonConf) -> Result<Reload, AllocError> {
         let beginning = Beginning::of(alloc, config)?;
-        match Changes::between(alloc, former, beginning.config()) {
-            Ok(changes) => Ok(Reload { beginning, changes }),
-            Err(AllocError) => {
-                // dropped by a call, which keeps the proof of this function short
-                drop(beginning);
-                Err(AllocError)
-            }
-        }
+        let changes = Changes::between(alloc, former, beginning.config())?;
+        Ok(Reload { beginning, changes })
     }
 
     /// Returns the configuration.
@@ -51,8 +44,7 @@ impl Reload {
     }
 }
 
-/// Reads upsmon.conf at the start, and looks each second whether it is to be read again. It has what the next watch
-/// begins with.
+/// Reads upsmon.conf at the start, and looks each second whether it is to be read again.
 ///
 /// A new monitor knows of a UPS only what its server says from then on. So a configuration waits while the last status of
 /// a UPS that it goes on watching has OB or FSD: if that server then said nothing more, this machine would have to be
@@ -63,8 +55,6 @@ pub struct Reloader {
     folder: String,
     file: ReloadFile,
     is_quiet: bool,
-    /// What the next watch begins with.
-    next: Option<Beginning>,
     /// The configuration that waits to be taken up.
     waiting: Option<Reload>,
     /// Whether it was told that it waits.
@@ -72,27 +62,13 @@ pub struct Reloader {
 }
 
 impl Reloader {
-    /// Reads upsmon.conf in this folder for the first watch, and writes what it should set otherwise. If the reloader is
-    /// to be quiet, it says only that from then on, and why nothing is reloaded.
+    /// Returns the reloader of the upsmon.conf in this folder. If it is to be quiet, it says only what the file should set
+    /// otherwise, and why nothing is reloaded.
     ///
     /// # Errors
     ///
-    /// Why upsmon.conf gives no configuration.
-    pub fn start(
-        files: &impl Files,
-        alloc: Global,
-        folder: &str,
-        is_quiet: bool,
-        err: &mut ErrorLines,
-    ) -> Result<Reloader, FileFault<'static>> {
-        match Reloader::new(files, alloc, folder, is_quiet) {
-            Ok(reloader) => reloader.read_first(files, err),
-            Err(AllocError) => Err(FileFault::Memory),
-        }
-    }
-
-    /// Returns the reloader of this folder, which has no configuration yet.
-    fn new(
+    /// [`AllocError`] if memory cannot be allocated.
+    pub fn new(
         files: &impl Files,
         alloc: Global,
         folder: &str,
@@ -101,45 +77,23 @@ impl Reloader {
         let folder = String::from_str(alloc, folder)?;
         // upsd may have the folder, too, if its file is there
         let beside = UpsdConf::file_name();
-        match ReloadFile::new(files, alloc, folder.as_str(), beside, TURN) {
-            Ok(file) => Ok(Reloader {
-                alloc,
-                folder,
-                file,
-                is_quiet,
-                next: None,
-                waiting: None,
-                is_wait_told: false,
-            }),
-            Err(AllocError) => {
-                // dropped by a call, which keeps the proof of this function short
-                drop(folder);
-                Err(AllocError)
-            }
-        }
+        let file = ReloadFile::new(files, alloc, folder.as_str(), beside, TURN)?;
+        Ok(Reloader {
+            alloc,
+            folder,
+            file,
+            is_quiet,
+            waiting: None,
+            is_wait_told: false,
+        })
     }
 
-    /// Reads upsmon.conf for the first watch.
-    fn read_first(
-        mut self,
-        files: &impl Files,
-        err: &mut ErrorLines,
-    ) -> Result<Reloader, FileFault<'static>> {
-        match self.read_beginning(files, err) {
-            Ok(first) => {
-                drop(self.next.replace(first));
-                Ok(self)
-            }
-            Err(fault) => {
-                // dropped by a call, which keeps the proof of this function short
-                drop(self);
-                Err(fault)
-            }
-        }
-    }
-
-    /// Reads upsmon.conf, and makes what its watch begins with.
-    fn read_beginning(
+    /// Reads upsmon.conf for the first watch, and writes what it should set otherwise. Returns what that watch begins with.
+    ///
+    /// # Errors
+    ///
+    /// Why upsmon.conf gives no configuration.
+    pub fn read_first(
         &self,
         files: &impl Files,
         err: &mut ErrorLines,
@@ -153,18 +107,8 @@ impl Reloader {
         self.is_quiet
     }
 
-    /// Returns what the next watch begins with, if there is something.
-    pub fn next(&self) -> Option<&Beginning> {
-        self.next.as_ref()
-    }
-
-    /// Takes what the next watch begins with, if there is something.
-    pub fn take_next(&mut self) -> Option<Beginning> {
-        self.next.take()
-    }
-
     /// Returns the reports of upsmon, which are written to `err` unless they are to be quiet.
-    pub fn reports<'e>(&self, err: &'e mut ErrorLines) -> Reports<'e> {
+    fn reports<'e>(&self, err: &'e mut ErrorLines) -> Reports<'e> {
         Reports::new(err, !self.is_quiet)
     }
 
@@ -187,12 +131,13 @@ impl Reloader {
         self.take_waiting(monitor, err)
     }
 
-    /// Reports what a configuration changes that was taken up, and what it sets. The next watch begins with it.
-    pub fn accept(&mut self, reload: Reload, err: &mut ErrorLines) {
-        let reloaded = ReloadReport::Reloaded(reload.changes.as_str());
-        self.reports(err).tell(reloaded);
-        tell_start(reload.config(), self.is_quiet, err);
-        drop(self.next.replace(reload.beginning));
+    /// Reports what a configuration changes that was taken up, and what it sets. Returns what its watch begins with.
+    pub fn report(&self, reload: Reload, err: &mut ErrorLines) -> Beginning {
+        let Reload { beginning, changes } = reload;
+        self.reports(err)
+            .tell(ReloadReport::Reloaded(changes.as_str()));
+        tell_start(beginning.config(), self.is_quiet, err);
+        beginning
     }
 
     /// Whether a reload was asked for and it is upsmon's turn to make it.
@@ -218,15 +163,13 @@ impl Reloader {
     /// Reads upsmon.conf. If it can't be read, or nothing in it has changed, that is told.
     fn read(&mut self, files: &impl Files, former: &UpsmonConf, err: &mut ErrorLines) {
         self.is_wait_told = false;
-        let waiting = match self.read_reload(files, former, err) {
+        self.waiting = match self.read_reload(files, former, err) {
             Ok(reload) => self.unless_same(reload, err),
             Err(fault) => {
                 tell_unread(&fault, err);
                 None
             }
         };
-        // dropped by a call, which keeps the proof of this function short
-        drop(mem::replace(&mut self.waiting, waiting));
     }
 
     /// Reads upsmon.conf, compares it, and makes what its watch begins with.

@@ -3,7 +3,7 @@
 ghost use Rattle.std.specs.Prelude.{OnOk, IsSome};
 ghost use Rattle.std.specs.Io.KnownBytes.{Appends};
 
-use crate::process_state::{is_stopped, process_number};
+use crate::process_state::{is_running, is_stopped, process_number};
 use linked_list_allocator::LocalHeap;
 use nut_poll::{ErrorLines, Outlet, OutputLines, shell_command, unstopped};
 use std::alloc::AllocError;
@@ -107,7 +107,7 @@ impl<'r, 'h, R: Processes> ShutdownCommand<'r, 'h, R> {
     /// # Errors
     ///
     /// That of the system if it cannot be started.
-    pub fn make_ready(&mut self) -> io::Result<()> {
+    pub fn start_shell(&mut self) -> io::Result<()> {
         let shell = self.command.spawn(self.processes)?;
         drop(self.shell.replace(shell));
         Ok(())
@@ -115,10 +115,10 @@ impl<'r, 'h, R: Processes> ShutdownCommand<'r, 'h, R> {
 
     /// Returns how the shell that waits fares. One that was ended is forgotten, as is one that was to continue it.
     pub fn look(&mut self, files: &impl Files) -> ShellState {
-        if !is_running(&mut self.waker) {
+        if !self.waker.as_mut().is_some_and(is_running) {
             drop(self.waker.take());
         }
-        if !is_running(&mut self.shell) {
+        if !self.shell.as_mut().is_some_and(is_running) {
             drop(self.shell.take());
             return ShellState::Gone;
         }
@@ -140,7 +140,7 @@ impl<'r, 'h, R: Processes> ShutdownCommand<'r, 'h, R> {
     /// Sends SIGCONT to the shell that waits or runs the command, by another shell, which isn't waited for. One that was
     /// started for this before and goes on is enough.
     pub fn wake(&mut self) {
-        if is_running(&mut self.waker) {
+        if self.waker.as_mut().is_some_and(is_running) {
             return;
         }
         let Some(shell) = &self.shell else {
@@ -166,7 +166,7 @@ impl<'r, 'h, R: Processes> ShutdownCommand<'r, 'h, R> {
         if self.start_waiting(full).is_ok() {
             return Ok(());
         }
-        self.make_ready()?;
+        self.start_shell()?;
         self.start_waiting(full)
     }
 
@@ -196,7 +196,7 @@ impl<'r, 'h, R: Processes> ShutdownCommand<'r, 'h, R> {
         if let Some(shell) = &mut self.shell {
             let _ = shell.kill();
         }
-        self.make_ready()?;
+        self.start_shell()?;
         self.start_waiting(full)
     }
 
@@ -222,14 +222,6 @@ impl<'r, 'h, R: Processes> ShutdownCommand<'r, 'h, R> {
             Some(shell) => shell.wait(),
             None => Err(no_shell()),
         }
-    }
-}
-
-/// Whether there is a process that hasn't ended.
-fn is_running<P: OpenProcess>(process: &mut Option<Child<P>>) -> bool {
-    match process {
-        Some(process) => matches!(process.try_wait(), Ok(None)),
-        None => false,
     }
 }
 

@@ -1,7 +1,6 @@
 //! The faults that only upsmon has.
 
 use crate::halt::HaltFault;
-use crate::watching::WatchFault;
 use nut_log::LogStream;
 use nut_poll::ErrorLines;
 use nut_program::{Failure, FileFault, OwnFault};
@@ -44,12 +43,9 @@ impl From<FileFault<'static>> for UpsmonFault {
     }
 }
 
-impl From<WatchFault> for Failure<UpsmonFault> {
-    fn from(fault: WatchFault) -> Self {
-        match fault {
-            WatchFault::Io(error) => Failure::from(error),
-            WatchFault::Halt(fault) => Failure::Own(UpsmonFault::Halt(fault)),
-        }
+impl From<HaltFault> for Failure<UpsmonFault> {
+    fn from(fault: HaltFault) -> Self {
+        Failure::Own(UpsmonFault::Halt(fault))
     }
 }
 

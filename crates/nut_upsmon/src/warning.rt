@@ -103,11 +103,7 @@ pub fn read_and_warn(
     let config = read_conf(files, alloc, folder)?;
     match tell_warnings(files, alloc, folder, &config, err) {
         Ok(()) => Ok(config),
-        Err(AllocError) => {
-            // dropped by a call, which keeps the proof of this function short
-            drop(config);
-            Err(FileFault::Memory)
-        }
+        Err(AllocError) => Err(FileFault::Memory),
     }
 }
 

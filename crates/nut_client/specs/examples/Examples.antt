@@ -22,7 +22,7 @@ asks ups host port wanted = Ok (Ok (record { ups = ups; host = host; port = port
 pub record CommandLineExamples : Type 0 where
   pub all : line_of Upsc (codes "upsc" ∷ codes "su700" ∷ []) ≡ asks (codes "su700") (codes "localhost") 3493 wanteds.Variables
   pub object : line_of Upsc (codes "upsc" ∷ codes "-j" ∷ codes "su700" ∷ []) ≡ asks (codes "su700") (codes "localhost") 3493 wanteds.Object
-  pub object_of_one : line_of Upsc (codes "upsc" ∷ codes "-j" ∷ codes "su700" ∷ codes "ups.status" ∷ []) ≡ Ok (Err failures.BadArguments)
+  pub object_of_one : line_of Upsc (codes "upsc" ∷ codes "-j" ∷ codes "su700" ∷ codes "ups.status" ∷ []) ≡ asks (codes "su700") (codes "localhost") 3493 (wanteds.Member (codes "ups.status"))
   pub one : line_of Upsc (codes "upsc" ∷ codes "su700@h:5" ∷ codes "ups.status" ∷ []) ≡ asks (codes "su700") (codes "h") 5 (wanteds.Value (codes "ups.status"))
   pub server : line_of Upsc (codes "upsc" ∷ codes "-L" ∷ codes "h:5" ∷ []) ≡ asks (codes "u") (codes "h") 5 wanteds.Descriptions
   pub no_server : line_of Upsc (codes "upsc" ∷ codes "-l" ∷ []) ≡ asks (codes "u") (codes "localhost") 3493 wanteds.Names
@@ -82,6 +82,7 @@ pub record RunExamples : Type 0 where
   pub listed : run_of (script (codes "u") wanteds.Variables) (codes "BEGIN LIST VAR u\nVAR u v \"1 2\"\nVAR u w 3\nEND LIST VAR u\n") ≡ record { queries = codes "LIST VAR u\n"; standing = Printed (codes "v: 1 2\nw: 3\n") }
   pub as_object : run_of (script (codes "u") wanteds.Object) (codes "BEGIN LIST VAR u\nVAR u v \"1 \\\"2\\\"\"\nVAR u w \\\\\nEND LIST VAR u\n")
       ≡ record { queries = codes "LIST VAR u\n"; standing = Printed (codes "{\"v\": \"1 \\\"2\\\"\", \"w\": \"\\\\\"}\n") }
+  pub as_member : run_of (script (codes "u") (wanteds.Member (codes "v"))) (codes "VAR u v \"1 2\"\n") ≡ record { queries = codes "GET VAR u v\n"; standing = Printed (codes "{\"v\": \"1 2\"}\n") }
   pub no_rows : run_of (script (codes "u") wanteds.Object) (codes "BEGIN LIST VAR u\nEND LIST VAR u\n") ≡ record { queries = codes "LIST VAR u\n"; standing = Printed (codes "{}\n") }
   pub cut_list : ending (run_of (script (codes "u") wanteds.Variables) (codes "BEGIN LIST VAR u\nVAR u v \"1 2\"\n")).standing ≡ Err failures.ConnectionLost
   pub done : run_of (script (codes "u") (wanteds.Does (codes "a") (codes "p") (deeds.Command (codes "load.off") None) untils.Accepted)) (codes "OK\nOK\nOK TRACKING\n")

@@ -26,10 +26,13 @@ link_sent request = record { rest = Text []; exchange = sent request }
 
 -- A query was sent; or it isn't writable; or the connection was lost before all of it was sent.
 abbrev pub Sends : Request → Result (Unit {0}) Failure → LinkValue → Option (List ℕ) → Option (List ℕ) → Type 0 → Type 0
-Sends request (Ok done) link before after lost = (is_writable request ≡ true) × (link ≡ link_sent request) × (after ≡ append_known before (request_line request))
+Sends request (Ok done) link before after lost =
+    (is_writable request ≡ true) × (link ≡ link_sent request) × (after ≡ append_known before (request_line request))
 Sends request (Err failure) link before after lost =
     (failure ≡ BadQuery) × (is_writable request ≡ false) × (after ≡ before)
-    ⊎ (failure ≡ ConnectionLost) × (is_writable request ≡ true) × lost × ((front : List ℕ) × (back : List ℕ) × (request_line request ≡ front ++ back) × (after ≡ append_known before front) × (0 < length back))
+    ⊎ (failure ≡ ConnectionLost) × (is_writable request ≡ true) × lost
+    × ((front : List ℕ) × (back : List ℕ) × (request_line request ≡ front ++ back)
+    × (after ≡ append_known before front) × (0 < length back))
 
 -- an unfinished line of this many bytes, which isn't too long
 abbrev pub HasLength : LineText → ℕ → Type 0
@@ -47,7 +50,8 @@ HearsPart before part (Err failure) after count lost =
     ⊎ ((failure ≡ BadAnswer) × IsUnbroken part × (joined before.rest part ≡ TooLong))
 
 -- The next part of what the server sent was heard, at least a byte. More was read only if nothing was left to hear.
-pub record Hears (before : LinkValue) (unread : List ℕ) (result : Result (Option Outcome) Failure) (after : LinkValue) (count : ℕ) (unread' : List ℕ) (input left : Option (List ℕ)) (lost : Type 0) : Type 0 where
+pub record Hears (before : LinkValue) (unread : List ℕ) (result : Result (Option Outcome) Failure)
+    (after : LinkValue) (count : ℕ) (unread' : List ℕ) (input left : Option (List ℕ)) (lost : Type 0) : Type 0 where
   pub part : List ℕ
   pub read : input ≡ prepend_known part left
   pub broken : IsUnbroken part ⊎ IsWhole part
@@ -58,26 +62,39 @@ pub record Hears (before : LinkValue) (unread : List ℕ) (result : Result (Opti
 
 -- The outcome of a query by the bytes that were heard, whatever was asked before and whatever follows.
 abbrev pub Comes : Request → List ℕ → Result Outcome Failure → Type 0
-Comes request heard (Ok outcome) = (rest heard ≡ Text []) × ((queries : List ℕ) (next : Outcome → Script) → after (settled_lines heard) (begin queries (Asks request next)) ≡ begin (queries ++ request_line request) (next outcome))
-Comes request heard (Err failure) = (failure ≡ Memory) ⊎ ((queries : List ℕ) (next : Outcome → Script) → Err failure ≡ ending (after (settled_lines heard) (begin queries (Asks request next))).standing)
+Comes request heard (Ok outcome) =
+    (rest heard ≡ Text [])
+    × ((queries : List ℕ) (next : Outcome → Script) → after (settled_lines heard) (begin queries (Asks request next))
+    ≡ begin (queries ++ request_line request) (next outcome))
+Comes request heard (Err failure) =
+    (failure ≡ Memory)
+    ⊎ ((queries : List ℕ) (next : Outcome → Script)
+    → Err failure ≡ ending (after (settled_lines heard) (begin queries (Asks request next))).standing)
 
 -- What was written for a query, after what was written before.
 abbrev pub Asked : Request → List ℕ → Result Outcome Failure → List ℕ → Type 0
 Asked request heard (Ok outcome) written = written ≡ request_line request
-Asked request heard (Err failure) written = (queries : List ℕ) (next : Outcome → Script) → WasWrittenBy failure (queries ++ written) (after (settled_lines heard) (begin queries (Asks request next))).queries
+Asked request heard (Err failure) written =
+    (queries : List ℕ) (next : Outcome → Script)
+    → WasWrittenBy failure (queries ++ written) (after (settled_lines heard) (begin queries (Asks request next))).queries
 
 -- Less was written than was asked, together with what was asked before.
 abbrev pub IsBrokenOff : Request → List ℕ → List ℕ → Type 0
-IsBrokenOff request heard written = (queries : List ℕ) (next : Outcome → Script) → length (queries ++ written) < length (after (settled_lines heard) (begin queries (Asks request next))).queries
+IsBrokenOff request heard written =
+    (queries : List ℕ) (next : Outcome → Script)
+    → length (queries ++ written) < length (after (settled_lines heard) (begin queries (Asks request next))).queries
 
 -- What has been read since a query was asked, with these bytes that had been read before: no more, or at most PIECE_MAX
 -- bytes after some by which the query still waited.
 abbrev pub IsReadFor : Request → List ℕ → List ℕ → Type 0
 IsReadFor request unread bytes =
-    (bytes ≡ unread) ⊎ ((queries : List ℕ) (next : Outcome → Script) → LastRead (λ heard. after (settled_lines heard) (begin queries (Asks request next))) bytes)
+    (bytes ≡ unread)
+    ⊎ ((queries : List ℕ) (next : Outcome → Script)
+    → LastRead (λ heard. after (settled_lines heard) (begin queries (Asks request next))) bytes)
 
 -- A query was asked and answered, or failed.
-pub record Answered (request : Request) (result : Result Outcome Failure) (unread unread' : List ℕ) (input left : Option (List ℕ)) (before after : Option (List ℕ)) : Type 0 where
+pub record Answered (request : Request) (result : Result Outcome Failure) (unread unread' : List ℕ)
+    (input left : Option (List ℕ)) (before after : Option (List ℕ)) : Type 0 where
   pub heard : List ℕ
   pub written : List ℕ
   pub read : input ≡ prepend_known heard left
@@ -92,10 +109,12 @@ pub record Listens (request : Request) (heard : List ℕ) (link : LinkValue) (co
   pub rest_is : link.rest ≡ rest heard
   pub short : HasLength link.rest count
   pub waits : IsWaiting link.exchange
-  pub runs : (queries : List ℕ) (next : Outcome → Script) → after (settled_lines heard) (begin queries (Asks request next)) ≡ record { queries = queries ++ request_line request; standing = Waits link.exchange next }
+  pub runs : (queries : List ℕ) (next : Outcome → Script) → after (settled_lines heard) (begin queries (Asks request next))
+      ≡ record { queries = queries ++ request_line request; standing = Waits link.exchange next }
 
 -- Such a query, and the state of the connection.
-pub record IsListening (request : Request) (link : LinkValue) (count : ℕ) (unread unread' : List ℕ) (input left : Option (List ℕ)) (before now_taken : Option (List ℕ)) : Type 0 where
+pub record IsListening (request : Request) (link : LinkValue) (count : ℕ) (unread unread' : List ℕ)
+    (input left : Option (List ℕ)) (before now_taken : Option (List ℕ)) : Type 0 where
   pub heard : List ℕ
   pub listens : Listens request heard link count
   pub in_time : IsReadFor request unread (heard ++ unread')

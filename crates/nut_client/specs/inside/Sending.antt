@@ -10,7 +10,8 @@ use Rattle.nut_link.specs.Link.{LinkValue}
 
 -- the link on which a query was asked, while these of its bytes wait
 abbrev pub link_sending : Request → List ℕ → LinkValue
-link_sending request waits = record { rest = Text []; exchange = record { stage = stages.Asked (record (query_of request) { waits = waits }); fault = None } }
+link_sending request waits =
+    record { rest = Text []; exchange = record { stage = stages.Asked (record (query_of request) { waits = waits }); fault = None } }
 
 -- A front of the query was taken, and the rest waits.
 pub record IsSending (request : Request) (link : LinkValue) (before after : Option (List ℕ)) : Type 0 where

@@ -27,6 +27,7 @@ abbrev pub first_query : List ℕ → Wanted → Request
 first_query ups wanteds.Variables = requests.List (queries.Var ups)
 first_query ups wanteds.Object = requests.List (queries.Var ups)
 first_query ups (wanteds.Value variable) = requests.GetVar ups variable
+first_query ups (wanteds.Member variable) = requests.GetVar ups variable
 first_query ups wanteds.Names = requests.List queries.Ups
 first_query ups wanteds.Descriptions = requests.List queries.Ups
 first_query ups wanteds.Clients = requests.List (queries.Client ups)

@@ -7,12 +7,16 @@ use Rattle.nut_client.specs.declared.failure.Failure.TheVariants as failures
 
 -- Bytes after the last answer change nothing.
 abbrev pub MoreBytesAreIgnored : Type 0
-MoreBytesAreIgnored = (script : Script) (bytes more : List ℕ) → is_over (run_of script bytes).standing ≡ true → run_of script (bytes ++ more) ≡ run_of script bytes
+MoreBytesAreIgnored =
+    (script : Script) (bytes more : List ℕ) → is_over (run_of script bytes).standing ≡ true
+    → run_of script (bytes ++ more) ≡ run_of script bytes
 
 -- However much was read of a stream, and in whatever pieces, a tool ends as all bytes of the stream say, unless memory
 -- could not be allocated, or its connection was lost before they were all read or in the middle of a query.
 abbrev pub AllBytesDecide : Type 0
-AllBytesDecide = (script : Script) (result : Result (List ℕ) Failure) (bytes : List ℕ) (left before after : Option (List ℕ)) → (e : Ends script result (Some bytes) left before after)
+AllBytesDecide =
+    (script : Script) (result : Result (List ℕ) Failure) (bytes : List ℕ) (left before after : Option (List ℕ))
+    → (e : Ends script result (Some bytes) left before after)
     → (result ≡ Err failures.Memory)
     ⊎ ((result ≡ Err failures.ConnectionLost) × (left ≡ Some [] → length e.written < length (run_of script e.heard).queries)
     ⊎ (result ≡ ending (run_of script bytes).standing))

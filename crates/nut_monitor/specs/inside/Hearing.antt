@@ -11,7 +11,8 @@ use Rattle.nut_monitor_spec.specs.machine.Machine.{told_heard, watch_heard}
 use Rattle.nut_monitor.specs.declared.answer.Scene.{Scene}
 
 -- A link is fed a piece. Its answer is taken out if one is complete, and the link is dropped if it failed.
-pub record IsFed (v : LinkValue) (piece : List ℕ) (done : ℕ) (result : Result (Unit {0}) LinkFault) (outcome : Option Outcome) (left : Option LinkValue) : Type 0 where
+pub record IsFed (v : LinkValue) (piece : List ℕ) (done : ℕ) (result : Result (Unit {0}) LinkFault)
+    (outcome : Option Outcome) (left : Option LinkValue) : Type 0 where
   pub link : LinkValue
   pub feeds : Feeds v piece done result link
   pub answer : outcome ≡ outcome_of link.exchange
@@ -19,7 +20,8 @@ pub record IsFed (v : LinkValue) (piece : List ℕ) (done : ℕ) (result : Resul
 
 -- Fed the piece, the link becomes another. Then the answer that is complete is heard; and if the link failed, it is
 -- lost.
-pub record HearsPiece (configuration : Configuration) (scene : Scene) (piece : List ℕ) (v : LinkValue) (before : Watch) (told : List Notice) (result : ℕ × Result (Unit {0}) LinkFault) (after : Watch) (news : List Notice) : Type 0 where
+pub record HearsPiece (configuration : Configuration) (scene : Scene) (piece : List ℕ) (v : LinkValue) (before : Watch)
+    (told : List Notice) (result : ℕ × Result (Unit {0}) LinkFault) (after : Watch) (news : List Notice) : Type 0 where
   pub going : v.exchange.fault ≡ None
   pub link : LinkValue
   pub feeds : Feeds v piece result.0 result.1 link

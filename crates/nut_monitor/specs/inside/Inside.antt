@@ -13,6 +13,7 @@ abbrev pub unwatched : Watch
 unwatched = record {
   link = None;
   last = None;
+  answer = None;
   known = record {
     flags = None;
     polled = 0;

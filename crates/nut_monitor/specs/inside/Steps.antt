@@ -22,7 +22,8 @@ content_in configuration s = record {
 }
 
 -- an event was answered by this result, and the state became what that answer leads to
-pub record Steps (configuration : Configuration) (before : State) (event : Event) (result : Result (Unit {0}) MonitorFault) (after : State) : Type 0 where
+pub record Steps (configuration : Configuration) (before : State) (event : Event) (result : Result (Unit {0}) MonitorFault)
+    (after : State) : Type 0 where
   pub answered : IsAnswer (content_in configuration before) event result
   pub content : content_in configuration after ≡ content_after result (content_in configuration before) event
   pub orderly : IsOrderly (content_in configuration after)

@@ -23,6 +23,7 @@ goes_on_twice a b c first second =
       more = second.more ++ first.more;
       grown = second.grown ∙ ap (λ x. second.more ++ x) first.grown ∙ sym (append_assoc second.more first.more a.log);
       each =
-          first.each ∙ ap (λ x. given_in first.more ++ x) second.each ∙ sym (append_assoc (given_in first.more) (given_in second.more) (map event_of c.left))
+          first.each ∙ ap (λ x. given_in first.more ++ x) second.each
+          ∙ sym (append_assoc (given_in first.more) (given_in second.more) (map event_of c.left))
           ∙ ap (λ x. x ++ map event_of c.left) (sym (given_in-append second.more first.more));
     }

@@ -103,7 +103,8 @@ two_supplies = room (su700 false ∷ su900 false ∷ [])
 -- link i is made, and its opening queries are answered OK
 abbrev pub opens : Bool → ℕ → List Move
 opens primary i =
-    Happens (Linked i) ∷ Says i (codes "OK") ∷ Says i (codes "OK") ∷ Says i (codes "OK") ∷ (if primary then Says i (codes "OK") ∷ [] else [])
+    Happens (Linked i) ∷ Says i (codes "OK") ∷ Says i (codes "OK") ∷ Says i (codes "OK")
+    ∷ (if primary then Says i (codes "OK") ∷ [] else [])
 
 -- the status query on link 0 is answered by this status
 abbrev pub shows : List ℕ → Move
@@ -149,7 +150,8 @@ pub record PrimaryExamples : Type 0 where
       asks primary_room (primary_hears (codes "OB LB") ++ Says 0 (codes "ERR ACCESS-DENIED") ∷ at_moment 1 ∷ []) ≡ codes "FSD su700\n"
   pub others_stay : phase_after primary_room (primary_hears (codes "OB LB") ++ forces (codes "2") ++ at_moment 15 ∷ []) ≡ Forcing
   pub others_out : phase_after primary_room (primary_hears (codes "OB LB") ++ forces (codes "2") ++ at_moment 16 ∷ []) ≡ Final
-  pub accepted : were_accepted primary_room (run primary_room (primary_hears (codes "OB LB") ++ forces (codes "1") ++ at_moment 5 ∷ [])) ≡ true
+  pub accepted :
+      were_accepted primary_room (run primary_room (primary_hears (codes "OB LB") ++ forces (codes "1") ++ at_moment 5 ∷ [])) ≡ true
 
 -- ---- a secondary
 
@@ -196,29 +198,34 @@ pub record CommunicationExamples : Type 0 where
       all_notices secondary_room (refused_run ++ hears_at (10 ∷ []) (codes "OL")) ≡ told kinds.Commbad 0 ∷ told kinds.Commok 0 ∷ []
   pub never_had : all_notices secondary_room (at_moment 0 ∷ Happens (Linked 0) ∷ Happens (LinkLost 0) ∷ []) ≡ told kinds.Commbad 0 ∷ []
   pub told_once :
-      all_notices secondary_room (refused_run ++ Happens (LinkLost 0) ∷ Happens (Linked 0) ∷ Happens (LinkLost 0) ∷ []) ≡ told kinds.Commbad 0 ∷ []
+      all_notices secondary_room (refused_run ++ Happens (LinkLost 0) ∷ Happens (Linked 0) ∷ Happens (LinkLost 0) ∷ [])
+      ≡ told kinds.Commbad 0 ∷ []
   pub silence_not_yet : all_notices secondary_room (at_moment 300 ∷ []) ≡ []
   pub silence : all_notices secondary_room (at_moment 300 ∷ at_moment 301 ∷ at_moment 601 ∷ []) ≡ told kinds.Nocomm 0 ∷ []
   pub silence_again :
       all_notices secondary_room (at_moment 300 ∷ at_moment 301 ∷ at_moment 601 ∷ at_moment 602 ∷ [])
       ≡ told kinds.Nocomm 0 ∷ told kinds.Nocomm 0 ∷ []
-  pub replace : all_notices patient_room (secondary_hears (codes "OL RB") ++ hears_at (5 ∷ 43200 ∷ []) (codes "OL RB")) ≡ told kinds.Replbatt 0 ∷ []
+  pub replace :
+      all_notices patient_room (secondary_hears (codes "OL RB") ++ hears_at (5 ∷ 43200 ∷ []) (codes "OL RB")) ≡ told kinds.Replbatt 0 ∷ []
   pub replace_again :
       all_notices patient_room (secondary_hears (codes "OL RB") ++ hears_at (5 ∷ 43201 ∷ []) (codes "OL RB"))
       ≡ told kinds.Replbatt 0 ∷ told kinds.Replbatt 0 ∷ []
   pub online_again :
-      all_notices secondary_room (secondary_hears (codes "OB") ++ hears_at (5 ∷ []) (codes "OL")) ≡ told kinds.Onbatt 0 ∷ told kinds.Online 0 ∷ []
+      all_notices secondary_room (secondary_hears (codes "OB") ++ hears_at (5 ∷ []) (codes "OL"))
+      ≡ told kinds.Onbatt 0 ∷ told kinds.Online 0 ∷ []
   pub one_line_too_many :
       all_notices secondary_room (at_moment 0 ∷ opens false 0 ++ Says 0 (codes "VAR su700 ups.status \"OB\"\nVAR su700 ups.status OL") ∷ [])
       ≡ told kinds.Onbatt 0 ∷ told kinds.Commbad 0 ∷ []
   pub not_all_taken :
       all_notices secondary_room (at_moment 0 ∷ Happens (Linked 0) ∷ Happens (LinkTook 0 12) ∷ Happens (LinkBytes 0 (codes "OK\n")) ∷ [])
       ≡ told kinds.Commbad 0 ∷ []
-  pub other_ups : all_notices secondary_room (at_moment 0 ∷ opens false 0 ++ Says 0 (codes "VAR su900 ups.status OB") ∷ []) ≡ told kinds.Commbad 0 ∷ []
+  pub other_ups :
+      all_notices secondary_room (at_moment 0 ∷ opens false 0 ++ Says 0 (codes "VAR su900 ups.status OB") ∷ []) ≡ told kinds.Commbad 0 ∷ []
   pub blank_line : all_notices secondary_room (at_moment 0 ∷ opens false 0 ++ Says 0 [] ∷ []) ≡ told kinds.Commbad 0 ∷ []
   pub in_pieces :
       all_notices secondary_room
-      (at_moment 0 ∷ opens false 0 ++ Happens (LinkTook 0 25) ∷ Happens (LinkBytes 0 (codes "VAR su700 ups.sta")) ∷ Happens (LinkBytes 0 (codes "tus OB\n")) ∷ [])
+      (at_moment 0 ∷ opens false 0 ++ Happens (LinkTook 0 25) ∷ Happens (LinkBytes 0 (codes "VAR su700 ups.sta"))
+      ∷ Happens (LinkBytes 0 (codes "tus OB\n")) ∷ [])
       ≡ told kinds.Onbatt 0 ∷ []
 
 -- ---- what is critical, and the shutdown
@@ -229,12 +236,16 @@ pub record RoomExamples : Type 0 where
   pub dead : phase_after primary_room (primary_hears (codes "OB CAL") ++ at_moment 16 ∷ []) ≡ Forcing
   pub dead_on_line : phase_after primary_room (primary_hears (codes "OL LB") ++ at_moment 1000000 ∷ []) ≡ Watching
   pub one_is_enough :
-      phase_after two_supplies (at_moment 0 ∷ opens false 0 ++ opens false 1 ++ shows (codes "FSD OB") ∷ shows_other (codes "OL") ∷ []) ≡ Watching
+      phase_after two_supplies (at_moment 0 ∷ opens false 0 ++ opens false 1 ++ shows (codes "FSD OB") ∷ shows_other (codes "OL") ∷ [])
+      ≡ Watching
   pub none_is_not :
-      phase_after two_supplies (at_moment 0 ∷ opens false 0 ++ opens false 1 ++ shows (codes "FSD OB") ∷ shows_other (codes "FSD OL") ∷ []) ≡ Final
-  pub unknown_is_not_critical : phase_after two_supplies (at_moment 0 ∷ opens false 0 ++ shows (codes "FSD OB") ∷ at_moment 1000 ∷ []) ≡ Watching
+      phase_after two_supplies (at_moment 0 ∷ opens false 0 ++ opens false 1 ++ shows (codes "FSD OB") ∷ shows_other (codes "FSD OL") ∷ [])
+      ≡ Final
+  pub unknown_is_not_critical :
+      phase_after two_supplies (at_moment 0 ∷ opens false 0 ++ shows (codes "FSD OB") ∷ at_moment 1000 ∷ []) ≡ Watching
   pub lost_in_forcing_tells :
-      all_notices primary_room (primary_hears (codes "OB LB") ++ Happens (LinkLost 0) ∷ []) ≡ told kinds.Onbatt 0 ∷ told kinds.Lowbatt 0 ∷ []
+      all_notices primary_room (primary_hears (codes "OB LB") ++ Happens (LinkLost 0) ∷ [])
+      ≡ told kinds.Onbatt 0 ∷ told kinds.Lowbatt 0 ∷ []
   pub lost_in_forcing : phase_after primary_room (primary_hears (codes "OB LB") ++ Happens (LinkLost 0) ∷ at_moment 15 ∷ []) ≡ Forcing
   pub lost_in_forcing_ends : phase_after primary_room (primary_hears (codes "OB LB") ++ Happens (LinkLost 0) ∷ at_moment 16 ∷ []) ≡ Final
   pub forces_on_a_new_link :
@@ -244,15 +255,24 @@ pub record RoomExamples : Type 0 where
       ≡ codes "GET NUMLOGINS su700\n"
   pub one_primary_is_silent :
       phase_after two_primaries
-      (at_moment 0 ∷ opens true 0 ++ opens true 1 ++ shows (codes "OB LB") ∷ shows_other (codes "OB LB") ∷ forces (codes "1") ++ at_moment 15 ∷ [])
+      (at_moment 0 ∷ opens true 0 ++ opens true 1 ++ shows (codes "OB LB") ∷ shows_other (codes "OB LB")
+      ∷ forces (codes "1") ++ at_moment 15 ∷ [])
       ≡ Forcing
   pub one_primary_is_waited_for :
       phase_after two_primaries
-      (at_moment 0 ∷ opens true 0 ++ opens true 1 ++ shows (codes "OB LB") ∷ shows_other (codes "OB LB") ∷ forces (codes "1") ++ at_moment 16 ∷ [])
+      (at_moment 0 ∷ opens true 0 ++ opens true 1 ++ shows (codes "OB LB") ∷ shows_other (codes "OB LB")
+      ∷ forces (codes "1") ++ at_moment 16 ∷ [])
       ≡ Final
-  pub not_taken_back : phase_after primary_room (primary_hears (codes "OB LB") ++ Says 0 (codes "OK FSD-SET") ∷ logins_are (codes "2") ∷ at_moment 1 ∷ logins_are (codes "0") ∷ []) ≡ Final
-  pub memory_stands : phase_after primary_room (at_moment 0 ∷ opens true 0 ++ Happens (LinkTook 0 25) ∷ Happens (out_of_memory 1) ∷ at_moment 16 ∷ []) ≡ Forcing
-  pub memory_leaves_no_trace : phase_after primary_room (at_moment 0 ∷ opens true 0 ++ Happens (LinkTook 0 25) ∷ Happens (out_of_memory 0) ∷ at_moment 16 ∷ []) ≡ Watching
+  pub not_taken_back :
+      phase_after primary_room (primary_hears (codes "OB LB") ++ Says 0 (codes "OK FSD-SET")
+      ∷ logins_are (codes "2") ∷ at_moment 1 ∷ logins_are (codes "0") ∷ [])
+      ≡ Final
+  pub memory_stands :
+      phase_after primary_room (at_moment 0 ∷ opens true 0 ++ Happens (LinkTook 0 25) ∷ Happens (out_of_memory 1) ∷ at_moment 16 ∷ [])
+      ≡ Forcing
+  pub memory_leaves_no_trace :
+      phase_after primary_room (at_moment 0 ∷ opens true 0 ++ Happens (LinkTook 0 25) ∷ Happens (out_of_memory 0) ∷ at_moment 16 ∷ [])
+      ≡ Watching
   pub memory_tells :
       all_notices primary_room (at_moment 0 ∷ opens true 0 ++ Happens (LinkTook 0 25) ∷ Happens (out_of_memory 1) ∷ [])
       ≡ told kinds.Onbatt 0 ∷ told kinds.Commbad 0 ∷ []
@@ -279,7 +299,8 @@ stale_run = secondary_hears (codes "OB") ++ refused_at (5 ∷ 10 ∷ 15 ∷ [])
 -- the battery is low at moment 5, not low at moment 10, and low again at moments 15, 20 and 25
 abbrev pub calm_run : List Move
 calm_run =
-    secondary_hears (codes "OL") ++ hears_at (5 ∷ []) (codes "OB LB") ++ hears_at (10 ∷ []) (codes "OB") ++ hears_at (15 ∷ 20 ∷ 25 ∷ []) (codes "OB LB")
+    secondary_hears (codes "OL") ++ hears_at (5 ∷ []) (codes "OB LB") ++ hears_at (10 ∷ []) (codes "OB")
+    ++ hears_at (15 ∷ 20 ∷ 25 ∷ []) (codes "OB LB")
 
 -- the UPS of link 0 is heard at moment 10 and never again
 abbrev pub silent_run : List Move
@@ -301,7 +322,8 @@ pub record EdgeExamples : Type 0 where
       ≡ told kinds.Onbatt 0 ∷ told kinds.Lowbatt 0 ∷ shutdown_told ∷ []
   pub final_asks_nothing : asks primary_room (primary_hears (codes "OB LB") ++ forces (codes "1") ++ at_moment 4 ∷ []) ≡ []
   pub both_are_needed :
-      phase_after both_supplies (at_moment 0 ∷ opens false 0 ++ opens false 1 ++ shows_other (codes "OL") ∷ shows (codes "FSD OB") ∷ []) ≡ Final
+      phase_after both_supplies (at_moment 0 ∷ opens false 0 ++ opens false 1 ++ shows_other (codes "OL") ∷ shows (codes "FSD OB") ∷ [])
+      ≡ Final
   pub both_are_silent : all_notices two_supplies (at_moment 301 ∷ []) ≡ told kinds.Nocomm 0 ∷ told kinds.Nocomm 1 ∷ []
   pub each_is_silent : all_notices two_supplies silent_run ≡ told kinds.Nocomm 1 ∷ told kinds.Nocomm 0 ∷ told kinds.Nocomm 1 ∷ []
   pub established_on_line :

@@ -11,10 +11,10 @@ use Rattle.nut_monitor_spec.specs.declared.Query.TheVariants.{NumLogins}
 use Rattle.nut_monitor_spec.specs.Configuration.{Line, Configuration, line_in}
 use Rattle.nut_monitor_spec.specs.Event.{Event, Moment, Linked, LinkBytes, LinkLost, LinkTook, OutOfMemory, NoticeTaken}
 use Rattle.nut_monitor_spec.specs.Query.{request}
-use Rattle.nut_monitor_spec.specs.Trace.{Asked, Entry, linked, input, queries, answers, outstanding, due, sent, waits, forced, known, query_put, trace, notices}
+use Rattle.nut_monitor_spec.specs.Trace.{Asked, Entry, linked, input, queries, answers, last_answer, outstanding, due, sent, waits, forced, known, query_put, trace, notices}
 use Rattle.nut_monitor_spec.specs.Content.{Watch, content}
 use Rattle.nut_monitor_spec.specs.Handing.{notices_handed}
-use Rattle.nut_monitor_spec.specs.Acceptance.{IsAccepted, watch_at, is_linked, waiting_on}
+use Rattle.nut_monitor_spec.specs.Acceptance.{IsAccepted, watch_at, is_linked, waiting_on, answer_on}
 use Rattle.nut_monitor_spec.specs.declared.limits.TheConstants.{NOTICES_MAX}
 
 -- these answers belong to all queries, or to all but the newest
@@ -43,6 +43,12 @@ pub record LinksAreTold : Type 0 where
   pub left :
       (configuration : Configuration) (events : List Event) (i : ℕ) → IsAccepted configuration events →
       waiting_on (watch_at i (content configuration events).watches) ≡ waits configuration i (trace configuration events)
+
+-- The last answer that the content has of a MONITOR line is the newest on its link since it was made.
+abbrev pub AnswersAreTold : Type 0
+AnswersAreTold =
+    (configuration : Configuration) (events : List Event) (i : ℕ) → i < length configuration.lines →
+    answer_on (watch_at i (content configuration events).watches) ≡ last_answer i (trace configuration events)
 
 -- On a link that is up, the bytes that the server took, followed by those that wait, are the queries put on it since it
 -- was made, joined.
@@ -96,7 +102,8 @@ LoginsFollowFsd =
 -- newest may have none.
 abbrev pub AnswersComeInTurn : Type 0
 AnswersComeInTurn =
-    (configuration : Configuration) (events : List Event) (i : ℕ) → IsAccepted configuration events → linked i (trace configuration events) ≡ true →
+    (configuration : Configuration) (events : List Event) (i : ℕ) → IsAccepted configuration events →
+    linked i (trace configuration events) ≡ true →
     IsInTurn (queries i (trace configuration events)) (map (λ a. a.asked) (answers i (trace configuration events)))
 
 -- the number of the link that an event concerns

@@ -11,6 +11,7 @@ use Rattle.nut_link.specs.Asking.{query_of}
 use Rattle.nut_link.specs.Link.{LinkValue, fresh, fed, lines_heard, is_idle, outcome_of, taken, taken_out, with_exchange}
 use Rattle.nut_monitor_spec.specs.declared.Communication.TheVariants.{Bad}
 use Rattle.nut_monitor_spec.specs.declared.Known.{Known}
+use Rattle.nut_monitor_spec.specs.declared.LastAnswer.{LastAnswer}
 use Rattle.nut_monitor_spec.specs.declared.LastQuery.{LastQuery}
 use Rattle.nut_monitor_spec.specs.declared.Notice.{Notice}
 use Rattle.nut_monitor_spec.specs.declared.Phase.{Phase}
@@ -74,6 +75,11 @@ known_after configuration clock watching (Some last) (Some outcome) known =
     known_answered configuration clock watching last.query outcome known
 known_after configuration clock watching last outcome known = known
 
+-- the last answer after this outcome of the last query; unchanged if either is missing
+abbrev pub answer_after : Option LastQuery → Option Outcome → Option LastAnswer → Option LastAnswer
+answer_after (Some last) (Some outcome) before = Some (record { asked = last; outcome = outcome })
+answer_after last outcome before = before
+
 -- the notices of line i that this answer gives
 abbrev pub answer_told : Configuration → ℕ → ℕ → Option LastQuery → Option Outcome → Known → List Notice
 answer_told configuration clock i (Some last) (Some outcome) known =
@@ -84,11 +90,11 @@ answer_told configuration clock i last outcome known = []
 
 -- a link is made: no query was put on it yet
 abbrev pub made : Watch → Watch
-made w = record { link = Some fresh; last = None; known = w.known }
+made w = record { link = Some fresh; last = None; answer = None; known = w.known }
 
 -- a link is lost: its queue is gone, and communication is bad
 abbrev pub lost : Watch → Watch
-lost w = record { link = None; last = w.last; known = record w.known { communication = Bad } }
+lost w = record w { link = None; known = record w.known { communication = Bad } }
 
 -- the server took n bytes on a link
 abbrev pub link_took : ℕ → Option LinkValue → Option LinkValue
@@ -96,16 +102,19 @@ link_took n None = None
 link_took n (Some v) = Some (with_exchange (taken n v.exchange) v)
 
 abbrev pub took : ℕ → Watch → Watch
-took n w = record { link = link_took n w.link; last = w.last; known = w.known }
+took n w = record w { link = link_took n w.link }
 
 -- a watch after the answer on its link, if one is complete
 abbrev pub watch_answered : Configuration → ℕ → Bool → Option Outcome → Watch → Watch
 watch_answered configuration clock watching outcome w =
-    record { link = w.link; last = w.last; known = known_after configuration clock watching w.last outcome w.known }
+    record w {
+      answer = answer_after w.last outcome w.answer;
+      known = known_after configuration clock watching w.last outcome w.known;
+    }
 
 -- a watch whose link is now this one, without the answer that it had
 abbrev pub goes_on : LinkValue → Watch → Watch
-goes_on v w = record { link = Some (with_exchange (taken_out v.exchange) v); last = w.last; known = w.known }
+goes_on v w = record w { link = Some (with_exchange (taken_out v.exchange) v) }
 
 -- a watch whose link is now this one; the link is lost if its exchange failed
 abbrev pub link_after : LinkValue → Watch → Watch
@@ -195,7 +204,7 @@ is_silent configuration clock w = tells_silence configuration clock w.known.poll
 abbrev pub silent : Configuration → ℕ → Watch → Watch
 silent configuration clock w =
     if is_silent configuration clock w
-    then record { link = w.link; last = w.last; known = record w.known { silence_told = Some clock } }
+    then record w { known = record w.known { silence_told = Some clock } }
     else w
 
 abbrev pub all_silent : Configuration → ℕ → List Watch → List Watch
@@ -264,10 +273,9 @@ link_asked asked (Some v) = Some (with_exchange (record v.exchange { stage = sta
 
 abbrev pub put : Line → ℕ → Option Query → Watch → Watch
 put line clock None w = w
-put line clock (Some query) w = record {
+put line clock (Some query) w = record w {
   link = link_asked (request line query) w.link;
   last = Some (record { query = query; moment = clock });
-  known = w.known;
 }
 
 -- a watch after its next query was put, if there is one

@@ -47,6 +47,7 @@ returns-clause-runs c = record {
   unwritable = refl;
   listed = refl;
   as_object = refl;
+  as_member = refl;
   no_rows = refl;
   cut_list = refl;
   done = refl;

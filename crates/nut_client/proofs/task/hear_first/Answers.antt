@@ -19,6 +19,9 @@ returns-in-Clients c = λ ups. first_leads ups c.args.wanted _ c.args.outcome c.
 pub returns-in-Value : goal.returns-in-Value
 returns-in-Value c = λ ups. first_leads ups c.args.wanted _ c.args.outcome c.print_word.result c.in-Value.is (c.print_word.ensures ups)
 
+pub returns-in-Member : goal.returns-in-Member
+returns-in-Member c = λ ups. first_leads ups c.args.wanted _ c.args.outcome c.print_member.result c.in-Member.is (c.print_member.ensures ups)
+
 pub returns-in-Settings : goal.returns-in-Settings
 returns-in-Settings c = λ ups. first_leads ups c.args.wanted _ c.args.outcome c.show_rows.result c.in-Settings.is (c.show_rows.ensures ups)
 

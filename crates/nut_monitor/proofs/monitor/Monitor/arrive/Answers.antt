@@ -1,4 +1,4 @@
-use Rattle.std.proofs.Common.{ap, ◌∙◌}
+use Rattle.std.proofs.Common.{ap}
 use Rattle.nut_monitor.specs.Events.{event_of}
 use Rattle.nut_monitor.proofs.Arrives.{stands_after}
 use Rattle.nut_monitor.proofs.monitor.Monitor.arrive.Goals as goal

@@ -1,6 +1,5 @@
-use Rattle.std.proofs.Common.{sym, ap, subst, ◌∙◌}
+use Rattle.std.proofs.Common.{sym, ap, subst}
 use Rattle.nut_monitor_spec.specs.Configuration.{configuration_of}
-use Rattle.nut_monitor_spec.specs.Event as E
 use Rattle.nut_monitor_spec.specs.Outcome.{IsAnswer}
 use Rattle.nut_monitor.specs.Events.{event_of}
 use Rattle.nut_monitor.specs.inside.Steps.{content_in}

@@ -20,7 +20,7 @@ const TEXT_MAX: usize = MESSAGE_MAX + TARGET_MAX - 2;
 /// A run of the command that can't be started is let go, which is told, as is a UPS that says LB later than this machine
 /// needs to stop. From the notice of the shutdown on no UPS is asked for that any more.
 #[derive(Drop)]
-pub struct Crier<'a, R: Processes> {
+pub struct Notifier<'a, R: Processes> {
     alloc: Global,
     out: OutputLines,
     text: Vec<u8>,
@@ -28,8 +28,8 @@ pub struct Crier<'a, R: Processes> {
     runtimes: LowRuntimes<'a, R>,
 }
 
-impl<'a, R: Processes> Crier<'a, R> {
-    /// Makes a crier that prints on `out`. It has no configuration yet, and allocates room for the longest text.
+impl<'a, R: Processes> Notifier<'a, R> {
+    /// Makes a notifier that prints on `out` and tells by this configuration. It allocates room for the longest text.
     ///
     /// # Errors
     ///
@@ -38,14 +38,17 @@ impl<'a, R: Processes> Crier<'a, R> {
         processes: &'a R,
         alloc: Global,
         out: OutputLines,
-    ) -> Result<Crier<'a, R>, AllocError> {
-        Ok(Crier {
+        config: &UpsmonConf,
+    ) -> Result<Notifier<'a, R>, AllocError> {
+        let mut notifier = Notifier {
             alloc,
             out,
             text: Vec::with_capacity(alloc, TEXT_MAX)?,
             command: NotifyCommand::new(processes, alloc)?,
             runtimes: LowRuntimes::watched(processes, alloc),
-        })
+        };
+        notifier.restart(config)?;
+        Ok(notifier)
     }
 
     /// Tells by this configuration from now on. Runs of the command that haven't ended go on.
