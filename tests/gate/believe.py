@@ -44,8 +44,8 @@ PROMISES = (
     ("A monitor's laws", "what holds over whole histories of a monitor", (
         ("nut_monitor_spec", None, (
             "cuts_do_not_matter", "notices_are_few", "links_are_bounded", "notices_come_in_order", "linked_is_made", "waiting_is_left",
-            "links_are_told", "sent_and_waiting_is_due", "queries_come_alone", "answers_come_in_turn", "logins_follow_fsd",
-            "others_stay", "shutdown_stays", "answers_are_told")),)),
+            "links_are_told", "answers_are_told", "sent_and_waiting_is_due", "queries_come_alone", "answers_come_in_turn",
+            "logins_follow_fsd", "others_stay", "shutdown_stays")),)),
     ("The monitor's loop", "what a world gives and takes is what a monitor is told and asks", (
         ("nut_monitor_loop", "watching.rt", ("watch",)), ("nut_monitor_loop", "world.rt", ("MonWorld.*",)),
         ("nut_monitor_loop", None, ("watch_memory",)))),
