@@ -59,6 +59,11 @@ class Axis:
             yield from range(math.ceil(max(begin, 0) / step) * step, math.floor(end) + 1, step)
 
 
+def in_tenths(number):
+    """Returns a number as a picture has it."""
+    return f"{number:.1f}".removesuffix(".0")
+
+
 class Picture:
     """An SVG that can be read without colours."""
 
@@ -74,7 +79,7 @@ class Picture:
         self.parts = []
 
     def put(self, kind, text=None, **attributes):
-        words = "".join(f' {name.replace("_", "-")}={xml.sax.saxutils.quoteattr(f"{it:.1f}" if isinstance(it, float) else str(it))}' for name, it in attributes.items())
+        words = "".join(f' {name.replace("_", "-")}={xml.sax.saxutils.quoteattr(in_tenths(it) if isinstance(it, float) else str(it))}' for name, it in attributes.items())
         self.parts.append(f"<{kind}{words}/>" if text is None else f"<{kind}{words}>{xml.sax.saxutils.escape(text)}</{kind}>")
 
     def line(self, x1, y1, x2, y2, width=1.0, **more):
