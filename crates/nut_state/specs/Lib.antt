@@ -3,6 +3,7 @@ pub mod Attribute
 pub mod Change
 pub mod LookBack
 pub mod Number
+pub mod Row
 pub mod Sorted
 pub mod Step
 pub mod Table

@@ -68,7 +68,7 @@ fn insert_variable(
     value: &[u8],
 ) -> Result<(), AllocError>
     requires place { place ≤ length variables.old.items }
-    requires name { length name.now ≤ NAME_MAX }
+    requires name { is_name name.now ≡ true }
     requires value { length value.now ≤ VALUE_MAX }
     ensures { variables.new.items ≡ (if is_ok result then insert variables.old.items place (fresh name.now value.now) else variables.old.items) }
 {

@@ -1,16 +1,19 @@
 //! One variable of the table.
-ghost use Rattle.std.specs.Prelude.{◌≡◌, ◌<◌, ◌≤◌, [], ◌∷◌, ◌++◌, List, ℕ, false, length, drop, IsOk, OnOk, OnErr};
+ghost use Rattle.std.specs.Prelude.{◌≡◌, ◌<◌, ◌≤◌, [], ◌∷◌, ◌++◌, List, ℕ, true, false, length, drop, is_some, IfSome, IsOk, OnOk, OnErr};
 ghost use Rattle.nut_state.specs.Step.{fresh, without_enum, without_range};
 ghost use Rattle.nut_state.specs.Attribute.{takes_enum, takes_range, lists_enum, lists_range};
+ghost use Rattle.nut_state.specs.Row.{is_unescaped, row_end};
+ghost use Rattle.nut_state.specs.Text.{is_name};
 ghost use Rattle.nut_state.specs.Verb.{says};
 ghost use Rattle.nut_state.specs.Change.{flags_named};
 ghost use Rattle.std.specs.List.{list_any};
 
 use crate::limits::{ENUMS_MAX, RANGES_MAX};
 use crate::number::Range;
-use crate::text::{Name, Text};
+use crate::row_end::RowEnd;
+use crate::text::Text;
 use crate::verb::says;
-use nut_words::{NAME_MAX, VALUE_MAX, Words};
+use nut_words::{VALUE_MAX, Words};
 use std::alloc::{AllocError, Global};
 use std::marker::Model;
 
@@ -60,8 +63,7 @@ fn names(words: &Words, text: &[u8]) -> bool
 /// A variable of the table: its value, and what a client may set it to.
 #[derive(Drop)]
 pub struct Variable {
-    name: Name,
-    value: Text,
+    row_end: RowEnd,
     flags: Flags,
     aux: u16,
     enums: Vec<Text>,
@@ -74,19 +76,18 @@ impl Model for Variable {
 
     ghost Value = { Entry };
 
-    ghost view = { λ v. record { name = v.name; value = v.value; flags = v.flags; aux = v.aux; enums = v.enums.items; ranges = v.ranges.items } };
+    ghost view = { λ v. record { name = v.row_end.name; value = v.row_end.value; flags = v.flags; aux = v.aux; enums = v.enums.items; ranges = v.ranges.items } };
 }
 
 impl Variable {
     /// Returns a variable with a value, without flags, aux, enum values and ranges.
     pub(crate) fn new(alloc: Global, name: &[u8], value: &[u8]) -> Variable
-        requires name { length name.now ≤ NAME_MAX }
+        requires name { is_name name.now ≡ true }
         requires value { length value.now ≤ VALUE_MAX }
         ensures { result ≡ fresh name.now value.now }
     {
         Variable {
-            name: Name::new(name),
-            value: Text::new(value),
+            row_end: RowEnd::new(name, value),
             flags: Flags::NONE,
             aux: 0,
             enums: Vec::new(alloc),
@@ -98,7 +99,7 @@ impl Variable {
     pub fn name(&self) -> &[u8]
         ensures { result.now ≡ self.now.name }
     {
-        self.name.as_bytes()
+        self.row_end.name()
     }
 
     /// Its value: at most [`VALUE_MAX`] bytes.
@@ -106,7 +107,17 @@ impl Variable {
         ensures value { result.now ≡ self.now.value }
         ensures fits { length result.now ≤ VALUE_MAX }
     {
-        self.value.as_bytes()
+        self.row_end.value()
+    }
+
+    /// Returns the end of the row that lists the variable: its name as a word, a blank, its value in quotes and a line
+    /// feed. Returns `None` if a backslash has to precede a byte of the value there. The text is kept with the variable,
+    /// so nothing is written anew.
+    pub fn row_end(&self) -> Option<&[u8]>
+        ensures text { IfSome result (λ text. text.now ≡ row_end self.now.name self.now.value) }
+        ensures unescaped { is_some result ≡ is_unescaped self.now.value }
+    {
+        self.row_end.text()
     }
 
     /// Returns the flags of the last SETFLAGS.
@@ -142,7 +153,7 @@ impl Variable {
         requires { length value.now ≤ VALUE_MAX }
         ensures { self.new ≡ record self.old { value = value.now } }
     {
-        self.value.set(value);
+        self.row_end.set_value(value);
     }
 
     pub(crate) fn set_flags(&mut self, flags: Flags)
