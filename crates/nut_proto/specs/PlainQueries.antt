@@ -1,4 +1,5 @@
--- The request that each plain query is.
+-- The request that each plain query is, and the UPS that it asks about.
+use Rattle.std.specs.Prelude.{ℕ, List}
 use Rattle.nut_proto.specs.declared.plain.PlainQuery.{PlainQuery}
 use Rattle.nut_proto.specs.declared.plain.PlainQuery.TheVariants.{GetVar, GetUpsDesc, ListVar}
 use Rattle.nut_proto.specs.declared.request.Request.{Request}
@@ -9,3 +10,8 @@ abbrev pub request_of : PlainQuery → Request
 request_of (GetVar ups variable) = requests.GetVar ups.now variable.now
 request_of (GetUpsDesc ups) = requests.GetUpsDesc ups.now
 request_of (ListVar ups) = requests.List (queries.Var ups.now)
+
+abbrev pub ups_of : PlainQuery → List ℕ
+ups_of (GetVar ups variable) = ups.now
+ups_of (GetUpsDesc ups) = ups.now
+ups_of (ListVar ups) = ups.now

@@ -1,12 +1,13 @@
 //! Reads the queries that clients send most often, if their line is plain.
 ghost use Rattle.std.specs.Prelude.{◌≡◌, List, ℕ, ◌∷◌, Ok, IfSome};
+ghost use Rattle.nut_words.specs.Cutter.{IsFirstLine};
 ghost use Rattle.nut_words.specs.Quoting.{texts};
 ghost use Rattle.nut_words.specs.Reader.{spelled};
 ghost use Rattle.nut_proto.specs.Forms.{meaning};
-ghost use Rattle.nut_proto.specs.PlainQueries.{request_of};
+ghost use Rattle.nut_proto.specs.PlainQueries.{request_of, ups_of};
 
-use crate::keyword::{Command, Subject};
-use nut_words::plain_words;
+use crate::keyword::is_named;
+use nut_words::plain_line;
 
 /// A query that clients send often. It borrows its words.
 #[derive(Clone, Copy)]
@@ -19,27 +20,56 @@ pub enum PlainQuery<'a> {
     ListVar { ups: &'a [u8] },
 }
 
-/// Returns the query of a plain line: bare words with one space between two. It is the request that
-/// [`read`](crate::read) reads from the line's words. Returns `None` for any other line, whether or not it is a request.
-/// Allocates no memory.
-pub fn read_plain<'a>(line: &'a [u8]) -> Option<PlainQuery<'a>>
-    ensures { IfSome result (λ query. (words : List (List ℕ)) × (spelled line.now ≡ Ok words) × (meaning words ≡ Ok (request_of query))) }
+impl<'a> PlainQuery<'a> {
+    /// Returns the name of the UPS that it asks about.
+    pub fn ups(self) -> &'a [u8]
+        ensures { result.now ≡ ups_of self.entry }
+    {
+        match self {
+            PlainQuery::GetVar { ups, .. }
+            | PlainQuery::GetUpsDesc { ups }
+            | PlainQuery::ListVar { ups } => ups,
+        }
+    }
+}
+
+/// Returns the query that the first line of a piece is, and the bytes behind that line, if the line is plain: bare words with
+/// one space between two. It is for a piece whose first byte begins a line. The query is the request that
+/// [`read`](crate::read) reads from the words of the line. Returns `None` if the piece begins with anything else, whether
+/// or not that is a request. Allocates no memory.
+pub fn read_plain<'a>(piece: &'a [u8]) -> Option<(PlainQuery<'a>, &'a [u8])>
+    ensures { IfSome result (λ found. (text : List ℕ) × (words : List (List ℕ)) × IsFirstLine text piece.now found.1.now
+        × (spelled text ≡ Ok words) × (meaning words ≡ Ok (request_of found.0))) }
 {
-    let words = plain_words(line)?;
+    let (words, after) = plain_line(piece)?;
     let [verb, subject, rest @ ..] = words.as_slice() else {
         return None;
     };
-    query_of(verb, subject, rest)
+    let query = query_of(verb, subject, rest)?;
+    Some((query, after))
 }
 
 /// Returns the query of these words, if they have one of the forms in this table.
 fn query_of<'a>(verb: &[u8], subject: &[u8], rest: &[&'a [u8]]) -> Option<PlainQuery<'a>>
     ensures { IfSome result (λ query. meaning (verb.now ∷ subject.now ∷ texts rest.now) ≡ Ok (request_of query)) }
 {
-    match (Command::of(verb)?, Subject::of(subject)?, rest) {
-        (Command::Get, Subject::Var, [ups, variable]) => Some(PlainQuery::GetVar { ups, variable }),
-        (Command::Get, Subject::UpsDesc, [ups]) => Some(PlainQuery::GetUpsDesc { ups }),
-        (Command::List, Subject::Var, [ups]) => Some(PlainQuery::ListVar { ups }),
-        _ => None,
+    if let [ups, variable] = rest
+        && is_named(verb, b"GET")
+        && is_named(subject, b"VAR")
+    {
+        return Some(PlainQuery::GetVar { ups, variable });
     }
+    if let [ups] = rest
+        && is_named(verb, b"GET")
+        && is_named(subject, b"UPSDESC")
+    {
+        return Some(PlainQuery::GetUpsDesc { ups });
+    }
+    if let [ups] = rest
+        && is_named(verb, b"LIST")
+        && is_named(subject, b"VAR")
+    {
+        return Some(PlainQuery::ListVar { ups });
+    }
+    None
 }

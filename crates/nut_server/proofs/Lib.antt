@@ -1,6 +1,7 @@
 pub mod FromFiles
 pub mod Described
 pub mod RowTexts
+pub mod KeptRows
 pub mod Asks
 pub mod Logins
 pub mod Results
@@ -27,9 +28,11 @@ pub mod ShortNames
 pub mod Arrives
 pub mod Heard
 pub mod Settled
+pub mod OnlyNamed
+pub mod NothingWaits
 pub mod Seats
 pub mod Limited
 pub mod NamedApart
-mod WholeLine
+mod FirstLines
 pub mod FatesMet
 pub mod Numbered

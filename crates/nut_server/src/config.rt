@@ -199,6 +199,20 @@ impl Config {
         self.ups.find(name)
     }
 
+    /// Returns the number of the first UPS with this name, as [`find_ups`](Self::find_ups) does. If that number is `likely`,
+    /// it takes one comparison.
+    pub fn find_likely_ups(&self, likely: usize, name: &[u8]) -> Option<usize>
+        ensures { result ≡ number_of_ups name.now self.now.upses }
+    {
+        self.names_are_distinct();
+        if let Some(ups) = self.ups_at(likely)
+            && ups.name == name
+        {
+            return Some(likely);
+        }
+        self.find_ups(name)
+    }
+
     /// Returns the UPS with this number.
     pub fn ups_at(&self, u: usize) -> Option<Ups<'_>>
         ensures { result ≡ slice_get self.now.upses u }

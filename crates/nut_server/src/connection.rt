@@ -1,6 +1,6 @@
 //! An open connection.
 
-ghost use Rattle.std.specs.Prelude.{◌≡◌, ◌≢◌, ◌≤◌, ◌++◌, ℕ, List, [], ◌∷◌, Some, All, IfSome, IsSome, OnSome, drop, length, option_map, OnOk, OnErr};
+ghost use Rattle.std.specs.Prelude.{◌≡◌, ◌≤◌, ◌++◌, ◌↔◌, [], Some, IsTrue, drop, length, option_map, OnOk, OnErr};
 ghost use Rattle.nut_words.specs.Cutter.{kept_of};
 ghost use Rattle.nut_server_spec.specs.Acceptance.{may_read, leaves};
 ghost use Rattle.nut_server_spec.specs.Answer.{is_logged_in};
@@ -211,16 +211,11 @@ impl Connection {
         }
     }
 
-    /// Returns the line, if nothing of a line is kept and the piece is one whole line with its line feed. Returns
-    /// `None` if the piece is anything else, or the line is too long.
-    pub fn whole_line<'a>(&self, piece: &'a [u8]) -> Option<&'a [u8]>
-        ensures start { OnSome result (self.now.rest ≡ Text []) }
-        ensures whole { IfSome result (λ line. piece.now ≡ line.now ++ 10 ∷ []) }
-        ensures line { IfSome result (λ line. lines piece.now ≡ Text line.now ∷ []) }
-        ensures taken { (text : List ℕ) → self.now.rest ≡ Text [] → piece.now ≡ text ++ 10 ∷ [] → All (λ b. b ≢ 10) text
-            → length text ≤ LINE_MAX → IsSome result }
+    /// Whether nothing of a line is kept.
+    pub fn is_at_start(&self) -> bool
+        ensures { IsTrue result ↔ (self.now.rest ≡ Text []) }
     {
-        self.cutter.whole_line(piece)
+        self.cutter.is_at_start()
     }
 
     /// Takes the cutter out, and leaves an empty one in its place.

@@ -5,7 +5,7 @@
 //! unsettled, so unsettled connections are found without a look into the slots. If their count is 0, there is no need
 //! to look at the keys either.
 
-ghost use Rattle.std.specs.Prelude.{◌≡◌, ◌<◌, ◌≤◌, ℕ, false, [], ◌∷◌, ◌++◌, Some, None, IfOk, IfNone, IfSome, OnOk, OnErr, cond, count_by, drop, filter, find, length, map, nat_le, not, ◌&&◌, option_map, remove, slice_get, slice_set, vec_capacity};
+ghost use Rattle.std.specs.Prelude.{◌≡◌, ◌<◌, ◌≤◌, ℕ, false, [], ◌∷◌, ◌++◌, Some, None, IfOk, IfNone, IfSome, IsTrue, OnOk, OnErr, cond, count_by, drop, filter, find, length, map, nat_le, not, ◌&&◌, option_map, remove, slice_get, slice_set, vec_capacity};
 ghost use Rattle.nut_words.specs.Lines.{Text};
 ghost use Rattle.nut_server_spec.specs.Content.{Session};
 ghost use Rattle.nut_server_spec.specs.Acceptance.{has_login, session_of};
@@ -20,7 +20,7 @@ ghost use Rattle.nut_words.specs.Hearing.{IsRest};
 ghost use Rattle.nut_server.specs.inside.Inside.{numbers_of};
 ghost use Rattle.nut_server.specs.inside.Place.{Stands};
 ghost use Rattle.nut_server.specs.Seats.{has_no_login, is_stranger, longest_without_login};
-ghost use Rattle.nut_server.specs.Settling.{IsNextUnsettled, settles};
+ghost use Rattle.nut_server.specs.Settling.{IsNextUnsettled, is_unsettled, settles};
 
 use crate::access::has_right_credentials;
 use crate::config::Config;
@@ -197,6 +197,13 @@ impl Connections {
             }
         }
         count
+    }
+
+    /// Whether no connection is unsettled. The answer takes no look at any of them.
+    pub fn are_settled(&self) -> bool
+        ensures { IsTrue result → (d : ℕ) → is_unsettled (session_of d self.now) ≡ false }
+    {
+        self.unsettled == 0
     }
 
     /// Returns the number of the first unsettled connection from the number `least` on, if there is one.

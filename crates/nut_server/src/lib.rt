@@ -20,6 +20,7 @@ mod numbering;
 mod plain;
 mod queries;
 mod reloading;
+mod row;
 mod scene;
 mod server;
 mod setting;

@@ -1,6 +1,9 @@
-//! How long a value is that is shown with a mark in front.
+//! How long texts are that are made for one answer.
 
-use nut_words::VALUE_MAX;
+use nut_words::{UPS_NAME_MAX, VALUE_MAX};
 
 /// The greatest length in bytes of a value that is shown with `FSD ` in front.
 pub const FORCED_VALUE_MAX: usize = VALUE_MAX + 4;
+/// The greatest length of what the rows of a list of variables begin with, if it is kept: the list's word and the name of a
+/// UPS with a blank behind each.
+pub const FRONT_MAX: usize = UPS_NAME_MAX + 8;

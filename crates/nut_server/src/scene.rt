@@ -23,6 +23,8 @@ pub struct Scene<'a> {
     pub given: u32,
     pub devices: &'a [Device],
     pub connections: &'a Connections,
+    /// The place in ups.conf of the UPS that is probably asked for. No answer depends on it.
+    pub likely: usize,
 }
 
 impl<'a> Model for Scene<'a> {
@@ -49,7 +51,7 @@ impl<'a> Scene<'a> {
             (λ u. ups_number self.now name.now ≡ Some u)
             (λ refusal. (ups_number self.now name.now ≡ None) × (refusal ≡ refusals.UnknownUps)) }
     {
-        let Some(place) = self.config.find_ups(name) else {
+        let Some(place) = self.config.find_likely_ups(self.likely, name) else {
             return Err(Refusal::UnknownUps);
         };
         self.numbers.get(place).copied().ok_or(Refusal::UnknownUps)

@@ -70,6 +70,8 @@ pub struct Server {
     scratch: Vec<u8>,
     /// The request to a driver that a client's request leads to, while it is being handled.
     line: ArrayVec<u8, ASKS_MAX>,
+    /// The place in ups.conf of the UPS that was found last: the next query probably asks for the same one.
+    likely: usize,
     /// What clients did that an operator wants to know of. No answer depends on it.
     deeds: Deeds,
     alloc: Global,
@@ -88,6 +90,7 @@ impl Drop for Server {
             connections: _connections,
             scratch: _scratch,
             line: _line,
+            likely: _,
             deeds: _deeds,
             alloc: _,
         } = self;
@@ -155,6 +158,7 @@ impl Server {
                 connections,
                 scratch: Vec::new(alloc),
                 line: ArrayVec::new(),
+                likely: 0,
                 deeds: Deeds::none(),
                 alloc,
             }),
@@ -286,6 +290,9 @@ impl Server {
     {
         // Brings the bound `WaitsAreBounded` into the proof, and does nothing when called.
         waits_are_bounded();
+        if self.connections.are_settled() {
+            return 0;
+        }
         match self.connections.get(c) {
             Some(connection) => connection.waits(),
             None => 0,
@@ -316,6 +323,9 @@ impl Server {
     pub fn leaves(&self, c: u64) -> bool
         ensures { result ≡ leaves (session_of c self.now.sessions) }
     {
+        if self.connections.are_settled() {
+            return false;
+        }
         match self.connections.get(c) {
             Some(connection) => connection.leaves(),
             None => false,

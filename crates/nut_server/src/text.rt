@@ -1,12 +1,12 @@
 //! Writes answers as bytes.
 
-ghost use Rattle.std.specs.Prelude.{◌≡◌, ◌≤◌, ◌&&◌, ◌++◌, OnOk, codes, flat_map, length};
+ghost use Rattle.std.specs.Prelude.{◌≡◌, ◌≤◌, ◌&&◌, ◌++◌, IfSome, OnOk, codes, flat_map, length};
 ghost use Rattle.std.specs.Str.{bytes_eq};
 ghost use Rattle.nut_proto.specs.declared.reply.Reply.TheVariants as replies;
 ghost use Rattle.nut_proto.specs.Replies.{reply_line};
 ghost use Rattle.nut_server_spec.specs.Answer.{rw_row, text_of, var_row};
 ghost use Rattle.nut_server.specs.inside.Answers.{given, rows_of};
-ghost use Rattle.nut_server.specs.inside.Rows.{writable_text, client_text};
+ghost use Rattle.nut_server.specs.inside.Rows.{writable_text, client_text, row_front};
 
 use crate::answer::{Answer, Rows};
 use crate::config::{Config, Ups};
@@ -14,6 +14,7 @@ use crate::connection::Connection;
 use crate::connections::Connections;
 use crate::device::Device;
 use crate::limits::FORCED_VALUE_MAX;
+use crate::row::{Front, front_of, put_row};
 use arrayvec::ArrayVec;
 use nut_proto::{Reply, Word};
 use nut_state::{Name, Range, Text, Variable};
@@ -68,8 +69,8 @@ fn put_rw(out: &mut Vec<u8>, ups: &[u8], name: &[u8], value: &[u8]) -> Result<()
     row.put(out)
 }
 
-/// Appends the row of a variable in LIST VAR, with the value that clients see.
-fn put_variable(
+/// Appends the row of a variable in LIST VAR, with the value that clients see, by encoding it.
+fn encode_variable(
     out: &mut Vec<u8>,
     ups: &[u8],
     device: &Device,
@@ -84,8 +85,8 @@ fn put_variable(
     put_var(out, ups, variable.name(), variable.value())
 }
 
-/// Appends the row of a variable in LIST RW, with the value that clients see.
-fn put_writable(
+/// Appends the row of a variable in LIST RW, with the value that clients see, by encoding it.
+fn encode_writable(
     out: &mut Vec<u8>,
     ups: &[u8],
     device: &Device,
@@ -98,6 +99,47 @@ fn put_writable(
         return put_rw(out, ups, variable.name(), shown.as_slice());
     }
     put_rw(out, ups, variable.name(), variable.value())
+}
+
+/// Appends the row of a variable in LIST VAR, with the value that clients see. It begins with `front`, and is encoded if the
+/// front or the end of the row isn't kept, or if another value is shown.
+fn put_variable(
+    out: &mut Vec<u8>,
+    front: &Front,
+    ups: &[u8],
+    device: &Device,
+    variable: &Variable,
+) -> Result<(), AllocError>
+    requires { IfSome front.now (λ front. front.items ≡ row_front (codes "VAR") ups.now) }
+    ensures { OnOk result (out.new.items ≡ out.old.items ++ reply_line (var_row ups.now device.now.device variable.now)) }
+{
+    if let Some(front) = front
+        && let Some(end) = variable.row_end()
+        && !shows_forced(device, variable)
+    {
+        return put_row(out, front.as_slice(), end);
+    }
+    encode_variable(out, ups, device, variable)
+}
+
+/// Appends the row of a variable in LIST RW, as [`put_variable`] does that in LIST VAR.
+fn put_writable(
+    out: &mut Vec<u8>,
+    front: &Front,
+    ups: &[u8],
+    device: &Device,
+    variable: &Variable,
+) -> Result<(), AllocError>
+    requires { IfSome front.now (λ front. front.items ≡ row_front (codes "RW") ups.now) }
+    ensures { OnOk result (out.new.items ≡ out.old.items ++ reply_line (rw_row ups.now device.now.device variable.now)) }
+{
+    if let Some(front) = front
+        && let Some(end) = variable.row_end()
+        && !shows_forced(device, variable)
+    {
+        return put_row(out, front.as_slice(), end);
+    }
+    encode_writable(out, ups, device, variable)
 }
 
 fn put_ups(out: &mut Vec<u8>, ups: &Ups<'_>) -> Result<(), AllocError>
@@ -169,8 +211,9 @@ fn put_upses(out: &mut Vec<u8>, config: &Config) -> Result<(), AllocError>
 fn put_variables(out: &mut Vec<u8>, ups: &[u8], device: &Device) -> Result<(), AllocError>
     ensures { OnOk result (out.new.items ≡ out.old.items ++ flat_map (λ v. reply_line (var_row ups.now device.now.device v)) device.now.device.table.variables) }
 {
+    let front = front_of(b"VAR", ups);
     for variable in device.table().variables() {
-        put_variable(out, ups, device, variable)?;
+        put_variable(out, &front, ups, device, variable)?;
     }
     Ok(())
 }
@@ -178,9 +221,10 @@ fn put_variables(out: &mut Vec<u8>, ups: &[u8], device: &Device) -> Result<(), A
 fn put_writables(out: &mut Vec<u8>, ups: &[u8], device: &Device) -> Result<(), AllocError>
     ensures { OnOk result (out.new.items ≡ out.old.items ++ flat_map (writable_text ups.now device.now.device) device.now.device.table.variables) }
 {
+    let front = front_of(b"RW", ups);
     for variable in device.table().variables() {
         if variable.flags().writable {
-            put_writable(out, ups, device, variable)?;
+            put_writable(out, &front, ups, device, variable)?;
         }
     }
     Ok(())
@@ -264,7 +308,9 @@ pub fn put_answer(out: &mut Vec<u8>, answer: &Answer<'_>) -> Result<(), AllocErr
     match answer {
         Answer::Silence => Ok(()),
         Answer::Line(reply) => reply.put(out),
-        Answer::Value(ups, device, variable) => put_variable(out, ups, device, variable),
+        Answer::Value(ups, device, variable) => {
+            put_variable(out, &front_of(b"VAR", ups), ups, device, variable)
+        }
         Answer::Listing(query, rows) => {
             query.put_begin(out)?;
             put_rows(out, rows)?;

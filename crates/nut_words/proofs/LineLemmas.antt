@@ -120,6 +120,10 @@ pub lines_ended : (old line : LineText) (p : List ℕ) (k : ℕ) → FeedAt p k 
 lines_ended old line p k at is b e =
     ap (λ q. lines (b ++ q)) at.front ∙ lines_of_line b (take k p) at.unbroken ∙ ap (λ x. lines b ++ x ∷ []) (sym (is ∙ ap (λ x. joined x (take k p)) e))
 
+-- a line of which nothing came before
+pub joined_text : (text : List ℕ) → length text ≤ LINE_MAX → joined (Text []) text ≡ Text text
+joined_text text fits = grind arith
+
 -- a line that lies in one piece
 pub joined_nothing : (p : List ℕ) (k : ℕ) → FeedAt p k → k ≤ LINE_MAX → Text (take k p) ≡ joined (Text []) (take k p)
 joined_nothing p k at fits = grind (arith, length-take-le k p (omega (arith, at.within)))

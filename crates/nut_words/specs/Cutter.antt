@@ -2,7 +2,8 @@
 use Rattle.std.specs.Prelude.{◌≡◌, ℕ, List, [], ◌∷◌, ◌++◌, length, Option, Some, None, OnSome}
 use Rattle.std.specs.Borrow.{Fml, MutBor}
 use Rattle.std.specs.Io.BufRead.{Rests}
-use Rattle.nut_words.specs.Lines.{LineText, Text, TooLong, rest}
+use Rattle.nut_words.specs.Bytes.{line_feed}
+use Rattle.nut_words.specs.Lines.{LineText, Text, TooLong, lines, rest}
 use Rattle.nut_words.specs.declared.cutter.Line.{Line}
 use Rattle.nut_words.specs.declared.cutter.Line.TheVariants as variants
 use Rattle.nut_words.specs.declared.cutter.LineCutter.{LineCutter}
@@ -31,3 +32,8 @@ Follows old new used = (b : List ℕ) → old ≡ rest b → new ≡ rest (b ++ 
 -- was returned, that rest is the empty line: a line is returned only at its line feed.
 abbrev pub LeavesRest : MutBor LineCutter → List ℕ → Option Line → Fml
 LeavesRest c used line = Rests the_row c (λ new. Follows c.now new used × OnSome line (new ≡ Text []))
+
+-- A piece begins with this whole line, which isn't too long, and these bytes follow its line feed.
+pub record IsFirstLine (text piece after : List ℕ) : Type 0 where
+  pub parted : piece ≡ text ++ line_feed ∷ after
+  pub whole : lines (text ++ line_feed ∷ []) ≡ Text text ∷ []

@@ -2,7 +2,7 @@
 ghost use Rattle.std.specs.Prelude.{◌≡◌, ◌≢◌, ◌≤◌, [], ◌∷◌, ◌++◌, List, ℕ, length, take, IfNone, IfSome, IsSome, OnSome, IsTrue, All, ◌<◌, ◌↔◌};
 ghost use Rattle.std.specs.Borrow.{sem};
 ghost use Rattle.nut_words.specs.Lines.{Text, joined, lines, lines_after, rest, rest_after};
-ghost use Rattle.nut_words.specs.Cutter.{LeavesRest, handed_out, kept_of};
+ghost use Rattle.nut_words.specs.Cutter.{IsFirstLine, LeavesRest, handed_out, kept_of};
 
 use crate::limits::LINE_MAX;
 use arrayvec::ArrayVec;
@@ -72,7 +72,7 @@ impl LineCutter {
     }
 
     /// Whether nothing is kept, so that the next byte begins a line.
-    fn is_at_start(&self) -> bool
+    pub fn is_at_start(&self) -> bool
         ensures { IsTrue result ↔ (self.now ≡ Text []) }
     {
         match self.stage {
@@ -102,26 +102,6 @@ impl LineCutter {
                 };
             }
         }
-    }
-
-    /// Returns the line, if no byte of it came before this piece and the piece ends with its line feed. The line then
-    /// lies in the piece, and the cutter stays at the start of a line. Returns `None` if the piece holds anything else,
-    /// or the line is longer than [`LINE_MAX`].
-    pub fn whole_line<'a>(&self, piece: &'a [u8]) -> Option<&'a [u8]>
-        ensures start { OnSome result (self.now ≡ Text []) }
-        ensures whole { IfSome result (λ line. piece.now ≡ line.now ++ 10 ∷ []) }
-        ensures line { IfSome result (λ line. lines piece.now ≡ Text line.now ∷ []) }
-        ensures taken { (text : List ℕ) → self.now ≡ Text [] → piece.now ≡ text ++ 10 ∷ [] → All (λ b. b ≢ 10) text
-            → length text ≤ LINE_MAX → IsSome result }
-    {
-        if !self.is_at_start() {
-            return None;
-        }
-        let at = memchr(b'\n', piece)?;
-        if at > LINE_MAX || at + 1 < piece.len() {
-            return None;
-        }
-        Some(&piece[..at])
     }
 
     /// Reads the next piece of the stream up to its first line feed. Returns the line that this completes, and how many
@@ -156,6 +136,19 @@ impl LineCutter {
         };
         (Some(line), at + 1)
     }
+}
+
+/// Returns the first line of a piece, without its line feed, and the bytes behind it. It is for a piece whose first byte
+/// begins a line. Returns `None` if the piece holds no line feed, or if the line is longer than [`LINE_MAX`].
+pub fn first_line<'a>(piece: &'a [u8]) -> Option<(&'a [u8], &'a [u8])>
+    ensures line { IfSome result (λ found. IsFirstLine found.0.now piece.now found.1.now) }
+    ensures taken { (text after : List ℕ) → piece.now ≡ text ++ 10 ∷ after → length text ≤ LINE_MAX → IsSome result }
+{
+    let at = memchr(b'\n', piece)?;
+    if at > LINE_MAX {
+        return None;
+    }
+    Some((&piece[..at], &piece[at + 1..]))
 }
 
 impl Default for LineCutter {

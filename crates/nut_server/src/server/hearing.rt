@@ -1,7 +1,6 @@
 //! Handles the lines of clients: decides on each, queues its answer and applies its effect.
 
-ghost use Rattle.std.specs.Prelude.{◌≡◌, ◌<◌, ℕ, Some, Ok, Err, false, IfErr, IsTrue, OnOk, OnErr, length, slice_get};
-ghost use Rattle.std.specs.Prelude.{not, ◌||◌, true};
+ghost use Rattle.std.specs.Prelude.{◌≡◌, ◌<◌, ℕ, Some, Ok, Err, false, IfErr, IsTrue, MatchOption, MatchResult, OnOk, OnErr, length, slice_get};
 ghost use Rattle.nut_proto.specs.PlainQueries.{request_of};
 ghost use Rattle.nut_words.specs.Cutter.{line_of};
 ghost use Rattle.nut_words.specs.Reader.{with_backslash};
@@ -14,7 +13,7 @@ ghost use Rattle.nut_server_spec.specs.machine.Machine.{answer_in, bytes_heard, 
 ghost use Rattle.nut_server_spec.specs.Outcome.{is_blank, line_takes};
 ghost use Rattle.nut_server_spec.specs.machine.MachineOutcome.{content_lost, RunsOut};
 ghost use Rattle.nut_server.specs.inside.Effects.{HasShortNames, answered_by};
-ghost use Rattle.nut_server.specs.inside.Lines.{line_heard_by};
+ghost use Rattle.nut_server.specs.inside.Lines.{IsHeard, IsMissed, line_heard_by};
 ghost use Rattle.nut_server.specs.inside.Place.{Stands};
 
 use crate::decision::{Decision, decide};
@@ -24,7 +23,7 @@ use crate::scene::Scene;
 use crate::server::Server;
 use crate::text::put_answer;
 use nut_proto::{PlainQuery, Refusal, Request, read, read_plain};
-use nut_words::{HearLine, Line, WordFault, Words, hear_lines, split};
+use nut_words::{HearLine, Line, WordFault, Words, first_line, hear_lines, split};
 use std::alloc::{AllocError, Global};
 
 impl Server {
@@ -50,6 +49,7 @@ impl Server {
             given: self.given,
             devices: self.devices.as_slice(),
             connections: &self.connections,
+            likely: self.likely,
         };
         let Decision { answer, effect } = decide(
             &scene,
@@ -88,6 +88,31 @@ impl Server {
         self.hear_request(at, &read(words))
     }
 
+    /// Answers a query of the connection at this place. If memory cannot be allocated, nothing changes.
+    fn hear_query(&mut self, at: usize, query: PlainQuery<'_>) -> Result<(), AllocError>
+        requires { at < length self.old.sessions }
+        ensures ok { (c : ℕ) (k : Session) → Stands c self.old.sessions at → slice_get self.old.sessions at ≡ Some k
+            → OnOk result (self.new ≡ answered_by c (Asks (request_of query.entry))
+            (answer (scene_of self.old) (caller_of k) (Asks (request_of query.entry))) self.old) }
+        ensures err { OnErr result (self.new ≡ self.old) }
+    {
+        let place = self.config.find_likely_ups(self.likely, query.ups());
+        self.likely = place.unwrap_or(0);
+        let scene = Scene {
+            config: &self.config,
+            numbers: self.numbers.as_slice(),
+            clock: self.clock,
+            given: self.given,
+            devices: self.devices.as_slice(),
+            connections: &self.connections,
+            likely: self.likely,
+        };
+        write_answer(&mut self.scratch, &scene, query)?;
+        self.connections
+            .answer(at, self.scratch.as_slice(), &Effect::Nothing)?;
+        Ok(())
+    }
+
     /// Handles a line of the connection at this place. It gets no answer if the client has logged out. If memory cannot
     /// be allocated, nothing changes.
     fn hear_line(&mut self, at: usize, line: Line<'_>) -> Result<(), AllocError>
@@ -102,46 +127,6 @@ impl Server {
         if self.connections.at(at).has_logged_out() {
             return Ok(());
         }
-        if let Line::Text(text) = line
-            && let Some(query) = read_plain(text)
-        {
-            return self.hear_query(at, query);
-        }
-        self.hear_spelled(at, line)
-    }
-
-    /// Answers a query of the connection at this place. If memory cannot be allocated, nothing changes.
-    fn hear_query(&mut self, at: usize, query: PlainQuery<'_>) -> Result<(), AllocError>
-        requires { at < length self.old.sessions }
-        ensures ok { (c : ℕ) (k : Session) → Stands c self.old.sessions at → slice_get self.old.sessions at ≡ Some k
-            → OnOk result (self.new ≡ answered_by c (Asks (request_of query.entry))
-            (answer (scene_of self.old) (caller_of k) (Asks (request_of query.entry))) self.old) }
-        ensures err { OnErr result (self.new ≡ self.old) }
-    {
-        let scene = Scene {
-            config: &self.config,
-            numbers: self.numbers.as_slice(),
-            clock: self.clock,
-            given: self.given,
-            devices: self.devices.as_slice(),
-            connections: &self.connections,
-        };
-        write_answer(&mut self.scratch, &scene, query)?;
-        self.connections
-            .answer(at, self.scratch.as_slice(), &Effect::Nothing)?;
-        Ok(())
-    }
-
-    /// Handles a line of the connection at this place, whose client hasn't logged out, whatever its form. If memory cannot
-    /// be allocated, nothing changes.
-    fn hear_spelled(&mut self, at: usize, line: Line<'_>) -> Result<(), AllocError>
-        requires { at < length self.old.sessions }
-        ensures ok { (c : ℕ) (k : Session) → Stands c self.old.sessions at → slice_get self.old.sessions at ≡ Some k
-            → k.logged_out ≡ false → OnOk result (self.new ≡ answered_by c (command_of (line_of line.entry))
-            (answer_in self.old (command_of (line_of line.entry)) k) self.old) }
-        ensures err { OnErr result (self.new ≡ self.old) }
-        ensures memory { OnErr result (not (is_blank (command_of (line_of line.entry))) || with_backslash (line_of line.entry) ≡ true) }
-    {
         match &words_of(self.alloc, line) {
             Ok(words) => self.hear_words(at, words),
             Err(WordFault::Memory) => Err(AllocError),
@@ -158,6 +143,35 @@ impl Server {
 }
 
 impl Server {
+    /// Handles the first line of these bytes of the connection at this place, if nothing of a line is kept and the line is
+    /// whole, and returns the bytes behind it. Returns `None` otherwise. If memory cannot be allocated, nothing changes.
+    ///
+    /// There are two ways to an answer. A plain line is read and answered at once; any other line becomes words, a request
+    /// and a decision.
+    fn hear_first<'p>(&mut self, at: usize, bytes: &'p [u8]) -> Result<Option<&'p [u8]>, AllocError>
+        requires { at < length self.old.sessions }
+        ensures ok { (c : ℕ) (k : Session) → Stands c self.old.sessions at → slice_get self.old.sessions at ≡ Some k
+            → MatchResult result
+            (λ heard. MatchOption heard (self.new ≡ self.old) (λ after. IsHeard c k bytes.now after.now self.old self.new))
+            (λ _. IsMissed k bytes.now self.old self.new) }
+    {
+        let client = self.connections.at(at);
+        if !client.is_at_start() {
+            return Ok(None);
+        }
+        if !client.has_logged_out()
+            && let Some((query, after)) = read_plain(bytes)
+        {
+            self.hear_query(at, query)?;
+            return Ok(Some(after));
+        }
+        let Some((text, after)) = first_line(bytes) else {
+            return Ok(None);
+        };
+        self.hear_line(at, Line::Text(text))?;
+        Ok(Some(after))
+    }
+
     /// Handles a piece of the connection with this number, at this place. If memory runs out, returns as an error how
     /// many lines of the piece were done; the connection is then closed.
     pub(super) fn hear(&mut self, c: u64, at: usize, piece: &[u8]) -> Result<(), usize>
@@ -167,18 +181,26 @@ impl Server {
         ensures few { IfErr result (λ done. done < line_feeds piece.now) }
         ensures memory { IfErr result (λ done. RunsOut c piece.now done self.old) }
     {
-        // Most pieces are one line, which can be read where it lies.
-        let Some(text) = self.connections.at(at).whole_line(piece) else {
-            return self.hear_lines(c, at, piece);
-        };
-        if self.hear_line(at, Line::Text(text)).is_err() {
-            self.connections.remove(c);
-            return Err(0);
+        let mut left = piece;
+        let mut done = 0;
+        while !left.is_empty() {
+            let Ok(heard) = self.hear_first(at, left) else {
+                self.connections.remove(c);
+                return Err(done);
+            };
+            let Some(after) = heard else {
+                return match self.hear_lines(c, at, left) {
+                    Ok(()) => Ok(()),
+                    Err(more) => Err(done + more),
+                };
+            };
+            left = after;
+            done += 1;
         }
         Ok(())
     }
 
-    /// Handles a piece line by line, as [`hear`](Self::hear) promises.
+    /// Handles a piece line by line, as [`hear`](Self::hear) promises: also the end of the line that was kept, and the beginning of the one to keep.
     fn hear_lines(&mut self, c: u64, at: usize, piece: &[u8]) -> Result<(), usize>
         requires { Stands c self.old.sessions at }
         ensures ok { OnOk result (self.new ≡ bytes_heard c piece.now self.old) }
