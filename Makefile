@@ -30,8 +30,8 @@ INSTALLER = PREFIX='$(PREFIX)' DESTDIR='$(DESTDIR)' CONFDIR='$(CONFDIR)' BIN='$(
 
 all: $(PROGRAMS) notices
 
-# The words of upsd's test run, and what it is asked. rt try compiles the sources with checks and runs the result; what it
-# says of the run, besides the program's output, is shown only if that fails.
+# rt try compiles the sources with checks and runs the result. What it says of the run, besides the program's output, is shown
+# only if that fails.
 try: toolchain
 	@mkdir -p bin
 	@echo "Nothing is proved here: upsd is compiled with checks at run time and asked LIST UPS, which takes about a minute."
