@@ -33,10 +33,11 @@ const PAUSE: u64 = 1;
 ///
 /// # Errors
 ///
-/// `Refused` with the name of the error if the server refuses a query; `BadAnswer` if a line doesn't answer the query;
-/// `Untracked` if a request that is to be tracked gets no number; `Unconfirmed` if it failed, is forgotten, or is still
-/// pending after ten pauses; `BadQuery` if a query isn't writable; `ConnectionLost` if the connection ends or fails
-/// before the last answer; `Memory` if memory cannot be allocated.
+/// `Refused` with the name of the error if the server refuses a query; `BadAnswer` if a line doesn't answer the query, or
+/// has more than [`LINE_MAX`](nut_words::LINE_MAX) bytes already; `Untracked` if a request that is to be tracked gets no
+/// number; `Unconfirmed` if it failed, is forgotten, or is still pending after ten pauses; `BadQuery` if a query isn't
+/// writable; `ConnectionLost` if the connection ends or fails before the last answer; `Memory` if memory cannot be
+/// allocated.
 pub fn ask_server<S: Stream>(
     rt: &(impl Wait + Clock),
     alloc: Global,

@@ -20,7 +20,7 @@ pub enum Failure {
     ConnectionLost,
     /// The server refused a query, with an error of this name.
     Refused(Text),
-    /// The server sent a line that doesn't answer the query.
+    /// The server sent a line that doesn't answer the query, or more than [`LINE_MAX`](nut_words::LINE_MAX) bytes of one.
     BadAnswer,
     /// The server accepted a request that was to be tracked, but gave it no number.
     Untracked,

@@ -20,9 +20,10 @@ use std::sync::Wait;
 ///
 /// # Errors
 ///
-/// `Refused` with the name of the error if the server refuses a query; `BadAnswer` if a line doesn't answer the query;
-/// `BadQuery` if a query isn't writable; `ConnectionLost` if the connection ends or fails before the last answer: if FSD
-/// was sent, the server may have accepted it; `Memory` if memory cannot be allocated.
+/// `Refused` with the name of the error if the server refuses a query; `BadAnswer` if a line doesn't answer the query, or
+/// has more than [`LINE_MAX`](nut_words::LINE_MAX) bytes already; `BadQuery` if a query isn't writable; `ConnectionLost`
+/// if the connection ends or fails before the last answer: if FSD was sent, the server may have accepted it; `Memory` if
+/// memory cannot be allocated.
 pub fn force_shutdown<S: Stream>(
     rt: &impl Wait,
     alloc: Global,
