@@ -35,6 +35,16 @@ def with_hosts(path):
     return apart("--mount", "sh", "-c", 'mount --bind "$0" /etc/hosts && exec "$@"', path)
 
 
+def with_hosts_alone(folder):
+    """Returns the words that run a program which knows only the names in the file `hosts` of a folder: it asks no name server."""
+    paths = [os.path.join(folder, name) for name in ("hosts", "nsswitch.conf")]
+    for path, text in zip(paths, ("", "hosts: files\n")):
+        with open(path, "w") as file:
+            file.write(text)
+    mounts = 'mount --bind "$0" /etc/hosts && mount --bind "$1" /etc/nsswitch.conf && shift && exec "$@"'
+    return apart("--mount", "sh", "-c", mounts, *paths)
+
+
 def why(error):
     """Returns how programs say an error of the system's."""
     return f"{os.strerror(error)} (os error {error})"
@@ -399,6 +409,31 @@ class Tests:
 
     def test_late_address_that_is_in_use(self):
         self.play_inside("play_late_address_in_use")
+
+    def test_name_that_comes_late(self):
+        """Nobody knows a host's name at the start. That is told once, clients are served meanwhile, and there once it is known."""
+        words = with_hosts_alone(self.folder)
+        unknown = "cannot listen on late.example:%d%s: failed to lookup address information: Name or service not known"
+        with self.room() as room:
+            upsd = [*words, self.programs[0], "--conf", room.folder, "-s", room.folder, "-q"]
+            put_listeners(room, ("late.example", "192.0.2.1"))
+            said = f"upsd: {unknown % (room.port, '')}\n".encode()
+            expect(self.run(*upsd), (1, b"", said), "no address at all")
+            put_listeners(room, ("late.example", "127.0.0.1"))
+            lines = Lines(room.start(upsd))
+            expect(lines.next("upsd: cannot listen"), f"upsd: {unknown % (room.port, ' yet')}", "what is told of it")
+            until(room.serves, "upsd listens at the other address")
+            with room.client() as client:
+                # it is looked up several times
+                time.sleep(3)
+                expect(client.ask(b"VER\n"), VERSION, "a client that was there before")
+                with open(os.path.join(self.folder, "hosts"), "w") as file:
+                    file.write("127.0.0.2 late.example\n")
+                with until(lambda: connected(("127.0.0.2", room.port)), "upsd listens at the name") as other:
+                    other.sendall(b"VER\n")
+                    expect(other.recv(100), VERSION, "at the name")
+                expect(client.ask(b"VER\n"), VERSION, "the client that was there before")
+            expect(lines.count("upsd: cannot listen"), 1, "how often it is told")
 
     def test_several_listeners(self):
         port = free_port()

@@ -1,11 +1,10 @@
 //! The host of a server, whose addresses are dialled one after the other.
 
 use crate::dialler::Dialler;
-use crate::look_ups::ADDRESSES_MAX;
 use crate::pause::Pause;
 use mio::net::TcpStream;
 use nut_conf::Target;
-use nut_poll::text_of;
+use nut_poll::{ADDRESSES_MAX, text_of};
 use std::alloc::{AllocError, Global};
 use std::io;
 use std::net::{IpAddr, Ipv4Addr, Ipv6Addr, Net, SocketAddr};

@@ -8,7 +8,6 @@ mod host;
 mod inquiry;
 mod limits;
 mod links;
-mod look_ups;
 mod mio_mon_world;
 mod pause;
 mod refusals;

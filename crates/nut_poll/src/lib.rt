@@ -1,10 +1,11 @@
 //! What the sockets of a server, of a monitor and of a dummy driver share: a connection's end whose reads and writes don't
 //! block, the sockets that may be ready, rounds over them, whole seconds, programs that are asked and the shell that starts
-//! them, and lines to an operator that nobody has to read.
+//! them, look-ups of hosts, and lines to an operator that nobody has to read.
 #![tactic(auto)]
 
 mod lateness;
 mod link;
+mod look_ups;
 mod lossy_lines;
 mod questions;
 mod ready;
@@ -16,6 +17,7 @@ mod text;
 
 pub use lateness::note_written;
 pub use link::{Heard, Link};
+pub use look_ups::{ADDRESSES_MAX, Found, HOST_UNKNOWN, LookUps};
 pub use lossy_lines::{ErrorLines, LossyLines, Outlet, OutputLines};
 pub use questions::{Program, Question, Questions};
 pub use ready::{Ready, SOCKETS_MAX, may_be_read};

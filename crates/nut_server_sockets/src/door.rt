@@ -3,11 +3,12 @@
 use crate::listeners::Listeners;
 use mio::Registry;
 use mio::net::TcpStream;
-use nut_poll::Reports;
+use nut_poll::{LookUps, Reports};
 use nut_server::Server;
 use std::io;
 use std::io::ErrorKind;
 use std::net::{IpAddr, Net};
+use std::process::Processes;
 
 /// A client that was accepted from a listener.
 #[derive(Drop)]
@@ -59,9 +60,15 @@ impl Door {
         })
     }
 
-    /// Tries again to listen at the hosts of which this machine had no address.
-    pub fn try_again(&mut self, net: &impl Net, registry: &Registry, reports: &mut Reports<'_>) {
-        self.listeners.try_again(net, registry, reports);
+    /// Tries again to listen at the hosts where that wasn't possible. It is called once a second.
+    pub fn try_again<R: Net + Processes>(
+        &mut self,
+        net: &R,
+        registry: &Registry,
+        look_ups: &mut LookUps<'_, R>,
+        reports: &mut Reports<'_>,
+    ) {
+        self.listeners.try_again(net, registry, look_ups, reports);
     }
 
     /// Accepts the next client that waits at a listener, and keeps it until the server is told of it.

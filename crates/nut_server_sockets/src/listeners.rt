@@ -6,20 +6,23 @@ use crate::source::Source;
 use libc::EAFNOSUPPORT;
 use mio::net::{TcpListener, TcpStream};
 use mio::{Interest, Registry};
-use nut_poll::Reports;
+use nut_poll::{Found, HOST_UNKNOWN, LookUps, Reports};
 use std::alloc::Global;
 use std::io;
 use std::io::ErrorKind;
 use std::net::{Net, SocketAddr, ToSocketAddrs};
+use std::process::Processes;
 
-/// A host of which this machine has no address yet.
+/// A host at which it isn't possible to listen yet: this machine has none of its addresses, or its name isn't known.
 pub struct Missing {
     host: String,
     port: u16,
-    /// The addresses that the host had at the start.
+    /// The addresses that the host had when its name was known for the first time: none before that.
     addresses: Vec<SocketAddr>,
     /// Why it was impossible to listen there at the last attempt.
     error: io::Error,
+    /// Why the last look-up of its name gave no addresses, if it has none.
+    reason: &'static str,
 }
 
 // A derived drop would be proved again in each crate that drops a value, with those of its parts.
@@ -30,6 +33,7 @@ impl Drop for Missing {
             port: _,
             addresses: _addresses,
             error: _error,
+            reason: _,
         } = self;
     }
 }
@@ -42,6 +46,24 @@ impl Missing {
         is_new
     }
 
+    /// Whether its name has to be looked up.
+    fn is_unknown(&self) -> bool {
+        self.addresses.is_empty()
+    }
+
+    /// Notes the result of a look-up of its name. Returns whether there are no addresses for another reason than before.
+    fn note_found(&mut self, found: &Found) -> bool {
+        for address in found.addresses.as_slice() {
+            let _ = self.addresses.push(SocketAddr::new(*address, self.port));
+        }
+        if !self.is_unknown() || self.reason == found.reason {
+            return false;
+        }
+        self.reason = found.reason;
+        self.error = io::Error::other(found.reason);
+        true
+    }
+
     /// Returns the host, as upsd.conf has it, the port, and why it was impossible to listen there at the last attempt.
     pub fn into_parts(self) -> (String, u16, io::Error) {
         let Missing {
@@ -49,6 +71,7 @@ impl Missing {
             port,
             addresses: _addresses,
             error,
+            reason: _,
         } = self;
         (host, port, error)
     }
@@ -85,24 +108,42 @@ impl Listeners {
     }
 
     /// Listens at the first of the host's addresses that this machine has, unless one of these listeners serves it already.
-    /// If this machine has none of them, they will be tried again.
+    /// If this machine has none of them, they will be tried again. If the host's name isn't known, it will be looked up again.
     ///
     /// # Errors
     ///
-    /// Why it is impossible to listen there for any other reason: the host's name isn't known, for example, or anyone else
-    /// listens at the first address that this machine has. At the next address upsd would run beside another one, each with
-    /// forced shutdowns and logins of its own. Also a lack of memory.
+    /// Why it is impossible to listen there for any other reason: anyone else listens at the first address that this machine
+    /// has, for example. At the next address upsd would run beside another one, each with forced shutdowns and logins of its
+    /// own. Also a lack of memory.
     pub fn add(&mut self, net: &impl Net, alloc: Global, host: &str, port: u16) -> io::Result<()> {
-        let addresses = addresses_of(net, alloc, host, port)?;
+        match addresses_of(net, alloc, host, port) {
+            Ok(addresses) => self.add_known(net, alloc, host, port, addresses),
+            Err(error) if error.kind() == ErrorKind::OutOfMemory => Err(error),
+            Err(error) => self.put_off(alloc, host, port, Vec::new(alloc), error),
+        }
+    }
+
+    /// Listens at the first of these addresses of a host, as [`add`](Listeners::add) does.
+    fn add_known(
+        &mut self,
+        net: &impl Net,
+        alloc: Global,
+        host: &str,
+        port: u16,
+        addresses: Vec<SocketAddr>,
+    ) -> io::Result<()> {
         match self.listen_at(net, addresses.as_slice()) {
             Ok(Some(listener)) => self.places.push(Place::Open(listener))?,
             Ok(None) => {}
-            Err(error) => self.put_off(alloc, host, port, addresses, error)?,
+            Err(error) if is_elsewhere(&error) => {
+                self.put_off(alloc, host, port, addresses, error)?;
+            }
+            Err(error) => return Err(error),
         }
         Ok(())
     }
 
-    /// Keeps a host to try it again, if this machine has none of its addresses. Else that error is returned.
+    /// Keeps a host to try it again.
     fn put_off(
         &mut self,
         alloc: Global,
@@ -111,15 +152,13 @@ impl Listeners {
         addresses: Vec<SocketAddr>,
         error: io::Error,
     ) -> io::Result<()> {
-        if !is_elsewhere(&error) {
-            return Err(error);
-        }
         let host = String::from_str(alloc, host)?;
         self.places.push(Place::Missing(Missing {
             host,
             port,
             addresses,
             error,
+            reason: HOST_UNKNOWN,
         }))?;
         Ok(())
     }
@@ -131,7 +170,7 @@ impl Listeners {
             .any(|place| matches!(place, Place::Open(_)))
     }
 
-    /// Takes out the first host of which this machine has no address, if clients can connect nowhere.
+    /// Takes out the first host at which it isn't possible to listen, if clients can connect nowhere.
     pub fn take_obstacle(&mut self) -> Option<Missing> {
         if self.is_open() || self.places.is_empty() {
             return None;
@@ -178,9 +217,64 @@ impl Listeners {
         }
     }
 
-    /// Tries again to listen at the hosts of which this machine had no address, and reports where that succeeds now, or fails
-    /// for another reason than before. Asks nobody for an address, so it doesn't wait.
-    pub fn try_again(&mut self, net: &impl Net, registry: &Registry, reports: &mut Reports<'_>) {
+    /// Tries again to listen at the hosts where that wasn't possible, and reports where it succeeds now, or fails for another
+    /// reason than before. Names are looked up by other processes, so it doesn't wait. It is called once a second.
+    pub fn try_again<R: Net + Processes>(
+        &mut self,
+        net: &R,
+        registry: &Registry,
+        look_ups: &mut LookUps<'_, R>,
+        reports: &mut Reports<'_>,
+    ) {
+        self.take_look_ups(look_ups, reports);
+        self.listen_again(net, registry, reports);
+        self.look_up(look_ups, reports);
+    }
+
+    /// Takes the results of the look-ups that have ended.
+    fn take_look_ups(
+        &mut self,
+        look_ups: &mut LookUps<'_, impl Processes>,
+        reports: &mut Reports<'_>,
+    ) {
+        look_ups.second();
+        for _ in 0..self.places.len() {
+            let Some(found) = look_ups.take() else {
+                return;
+            };
+            self.note_found(&found, reports);
+        }
+    }
+
+    /// Notes the result of a look-up, and reports why it gave no addresses unless that is as before.
+    fn note_found(&mut self, found: &Found, reports: &mut Reports<'_>) {
+        for place in self.places.iter_mut() {
+            if let Place::Missing(missing) = place
+                && missing.host == found.name
+                && missing.note_found(found)
+            {
+                tell_missing(missing, reports);
+            }
+        }
+    }
+
+    /// Begins to look up the hosts whose names aren't known, those apart that are being looked up.
+    fn look_up(&mut self, look_ups: &mut LookUps<'_, impl Processes>, reports: &mut Reports<'_>) {
+        for place in self.places.iter_mut() {
+            if let Place::Missing(missing) = place
+                && missing.is_unknown()
+                && look_ups.has_room()
+                && !look_ups.is_going(missing.host.as_str())
+                && let Err(error) = look_ups.start(missing.host.as_str())
+                && missing.note(error)
+            {
+                tell_missing(missing, reports);
+            }
+        }
+    }
+
+    /// Tries again to listen at the hosts of which this machine had no address.
+    fn listen_again(&mut self, net: &impl Net, registry: &Registry, reports: &mut Reports<'_>) {
         for i in 0..self.places.len() {
             match self.attempt(net, i) {
                 Ok(Some(listener)) => self.open(i, listener, registry, reports),
@@ -190,11 +284,14 @@ impl Listeners {
         }
     }
 
-    /// Listens at the first address of a host that this machine has. Returns `None` if that isn't needed.
+    /// Listens at the first address of a host that this machine has. Returns `None` if that isn't needed, or if the host's name
+    /// isn't known.
     fn attempt(&self, net: &impl Net, i: usize) -> io::Result<Option<TcpListener>> {
         match self.places.get(i) {
-            Some(Place::Missing(missing)) => self.listen_at(net, missing.addresses.as_slice()),
-            Some(Place::Open(_)) | None => Ok(None),
+            Some(Place::Missing(missing)) if !missing.is_unknown() => {
+                self.listen_at(net, missing.addresses.as_slice())
+            }
+            Some(Place::Missing(_) | Place::Open(_)) | None => Ok(None),
         }
     }
 

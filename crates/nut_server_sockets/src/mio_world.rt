@@ -14,12 +14,13 @@ use crate::sockets::{Services, Sockets};
 use arrayvec::ArrayVec;
 use nut_conf::{CONNECTIONS_MAX, UPSES_MAX};
 use nut_io::{Fault, Piece, Written};
-use nut_poll::{Reports, note_written};
+use nut_poll::{LookUps, Reports, note_written};
 use nut_server::Server;
 use nut_server_loop::{Next, World};
 use std::alloc::Global;
 use std::io;
 use std::net::Net;
+use std::process::Processes;
 use std::time::Clock;
 
 /// The greatest number of clients that are noted as late.
@@ -35,7 +36,7 @@ const LATE_MAX: usize = CONNECTIONS_MAX as usize;
 ///
 /// The world never ends. Only `next` returns a fault, that of the wait for the sockets or of the clock: a failure of
 /// one socket concerns no other. The world keeps no record.
-pub struct MioWorld<'r, 'e, R, L> {
+pub struct MioWorld<'r, 'e, R: Processes, L> {
     sockets: Sockets,
     services: Services<'r, 'e, R, L>,
     late: ArrayVec<u64, LATE_MAX>,
@@ -44,7 +45,7 @@ pub struct MioWorld<'r, 'e, R, L> {
 }
 
 // A derived drop would be proved again in each crate that drops a value, with those of its parts.
-impl<'r, 'e, R, L: Drop> Drop for MioWorld<'r, 'e, R, L> {
+impl<'r, 'e, R: Processes, L: Drop> Drop for MioWorld<'r, 'e, R, L> {
     fn drop(self) {
         let MioWorld {
             sockets: _sockets,
@@ -56,7 +57,7 @@ impl<'r, 'e, R, L: Drop> Drop for MioWorld<'r, 'e, R, L> {
     }
 }
 
-impl<'r, 'e, R: Net + Clock, L: Reloader + Drop> MioWorld<'r, 'e, R, L> {
+impl<'r, 'e, R: Net + Clock + Processes, L: Reloader + Drop> MioWorld<'r, 'e, R, L> {
     /// Returns the world of these listeners and these drivers, which asks this reloader for new configurations. Reports
     /// say when drivers come and go, what clients change, who logs in and out and who is refused, what keeps clients out,
     /// and which connections are closed for lack of memory.
@@ -79,6 +80,7 @@ impl<'r, 'e, R: Net + Clock, L: Reloader + Drop> MioWorld<'r, 'e, R, L> {
             sockets,
             services: Services {
                 rt,
+                look_ups: LookUps::none(rt, alloc),
                 reports,
                 reloader,
             },
@@ -91,7 +93,7 @@ impl<'r, 'e, R: Net + Clock, L: Reloader + Drop> MioWorld<'r, 'e, R, L> {
 
 ghost use Rattle.std.specs.Prelude.{◌≢◌, ◌<◌, ◌≤◌, IfOk, IfSome, Some, Ok};
 
-impl<'r, 'e, R: Net + Clock, L: Reloader + Drop> World for MioWorld<'r, 'e, R, L> {
+impl<'r, 'e, R: Net + Clock + Processes, L: Reloader + Drop> World for MioWorld<'r, 'e, R, L> {
     ghost log = { λ w. untold };
 
     ghost late = { λ w c. is_noted w.late.items c };

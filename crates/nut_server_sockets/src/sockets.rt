@@ -20,13 +20,14 @@ use crate::stall::Stall;
 use mio::Events;
 use nut_conf::LISTENERS_MAX;
 use nut_io::{Piece, Written};
-use nut_poll::{Heard, Ready, Reports, Rounds, SOCKETS_MAX, may_be_read};
+use nut_poll::{Heard, LookUps, Ready, Reports, Rounds, SOCKETS_MAX, may_be_read};
 use nut_server::{Config, Server, silence_before_ping};
 use nut_server_loop::{Address, Next};
 use std::alloc::Global;
 use std::io;
 use std::io::{ErrorKind, Write};
 use std::net::{IpAddr, Net};
+use std::process::Processes;
 use std::time::Clock;
 
 /// How many pieces of one driver are read in a second before the next driver is looked at: more than its socket holds.
@@ -34,9 +35,11 @@ const PIECES: usize = 1024;
 
 /// What the sockets are watched with, which the program gives.
 #[derive(Drop)]
-pub struct Services<'r, 'e, R, L> {
+pub struct Services<'r, 'e, R: Processes, L> {
     /// The system.
     pub rt: &'r R,
+    /// The look-ups of hosts that weren't known at the start.
+    pub look_ups: LookUps<'r, R>,
     /// Where drivers and clients are reported.
     pub reports: Reports<'e>,
     /// Where new configurations come from.
@@ -105,7 +108,7 @@ impl Sockets {
     /// # Errors
     ///
     /// The error of the wait or of the clock.
-    pub fn next<R: Net + Clock, L: Reloader>(
+    pub fn next<R: Net + Clock + Processes, L: Reloader>(
         &mut self,
         services: &mut Services<'_, '_, R, L>,
         server: &Server,
@@ -139,8 +142,12 @@ impl Sockets {
         if let Some(moment) = self.wait(services.rt)? {
             self.begin_second(server, moment, &mut services.reports);
             let registry = self.rounds.registry();
-            self.door
-                .try_again(services.rt, registry, &mut services.reports);
+            self.door.try_again(
+                services.rt,
+                registry,
+                &mut services.look_ups,
+                &mut services.reports,
+            );
             return Ok(Next::Moment(moment));
         }
         match self.look(server, piece, services.rt, &mut services.reports) {

@@ -22,6 +22,7 @@ use std::convert::AsStr;
 use std::env::Env;
 use std::io::{Read, Write};
 use std::net::Net;
+use std::process::Processes;
 use std::rt::Files;
 use std::sync::Wait;
 use std::time::Clock;
@@ -51,13 +52,13 @@ const ROOT: u32 = 0;
 /// let in, that one is closed for lack of memory, and that everybody can read the passwords of upsd.users, is written even
 /// then.
 ///
-/// If this machine doesn't have an address of a LISTEN line, `upsd: cannot listen on ADDRESS:PORT yet: WHY` is written, and
-/// it is tried again each second. If it has none of any line, or it is impossible to listen at one for any other reason,
-/// `upsd: cannot listen on ADDRESS:PORT: WHY` is written, and the status is 1.
+/// If this machine doesn't have an address of a LISTEN line, or nobody knows the name of its host, `upsd: cannot listen on
+/// ADDRESS:PORT yet: WHY` is written, and it is tried again each second. If that is so of all lines, or it is impossible to
+/// listen at one for any other reason, `upsd: cannot listen on ADDRESS:PORT: WHY` is written, and the status is 1.
 ///
 /// [`run_stdio`]: crate::run_stdio
 pub fn run_upsd<S: AsStr, I: Read, O: Write>(
-    rt: &(impl Wait + Files + Net + Clock + Env + Alloc),
+    rt: &(impl Wait + Files + Net + Clock + Env + Alloc + Processes),
     alloc: Global,
     words: &[S],
     input: &mut I,
@@ -69,7 +70,7 @@ pub fn run_upsd<S: AsStr, I: Read, O: Write>(
 }
 
 fn run<S: AsStr, I: Read, O: Write>(
-    rt: &(impl Wait + Files + Net + Clock + Env + Alloc),
+    rt: &(impl Wait + Files + Net + Clock + Env + Alloc + Processes),
     alloc: Global,
     words: &[S],
     input: &mut I,
@@ -82,7 +83,7 @@ fn run<S: AsStr, I: Read, O: Write>(
 
 /// Does what a command line asks for that clap has accepted.
 fn run_matches<I: Read, O: Write>(
-    rt: &(impl Wait + Files + Net + Clock + Env + Alloc),
+    rt: &(impl Wait + Files + Net + Clock + Env + Alloc + Processes),
     alloc: Global,
     matches: &ArgMatches<'_>,
     input: &mut I,
@@ -144,7 +145,7 @@ impl<'m> Options<'m> {
 
 /// Serves clients over sockets, and reports to the operator on `err` unless that is to be quiet. Returns only with a
 /// fault: of the files, of a listener, of memory, or of the world.
-fn serve_sockets<R: Wait + Files + Net + Clock>(
+fn serve_sockets<R: Wait + Files + Net + Clock + Processes>(
     rt: &R,
     alloc: Global,
     options: &Options<'_>,
@@ -156,7 +157,7 @@ fn serve_sockets<R: Wait + Files + Net + Clock>(
 }
 
 /// Serves clients with the files of a folder.
-fn serve_folder<R: Wait + Files + Net + Clock>(
+fn serve_folder<R: Wait + Files + Net + Clock + Processes>(
     rt: &R,
     alloc: Global,
     options: &Options<'_>,
@@ -168,7 +169,7 @@ fn serve_folder<R: Wait + Files + Net + Clock>(
 }
 
 /// Listens at the addresses of these settings, and serves clients with them.
-fn listen_and_serve<R: Wait + Files + Net + Clock>(
+fn listen_and_serve<R: Wait + Files + Net + Clock + Processes>(
     rt: &R,
     alloc: Global,
     settings: Settings,
@@ -189,7 +190,7 @@ fn paired<A: Drop, B: Drop, F: Drop>(made: Result<A, F>, value: B) -> Result<(A,
 }
 
 /// Serves all clients that connect to the listeners with this configuration, and then with those of the reloader.
-fn serve_config<R: Wait + Net + Clock, L: Reloader + Drop>(
+fn serve_config<R: Wait + Net + Clock + Processes, L: Reloader + Drop>(
     rt: &R,
     alloc: Global,
     config: Config,
@@ -208,7 +209,7 @@ fn serve_config<R: Wait + Net + Clock, L: Reloader + Drop>(
 }
 
 /// Serves all clients that connect to the listeners, first with the configuration that the server has.
-fn serve_listeners<R: Wait + Net + Clock, L: Reloader + Drop>(
+fn serve_listeners<R: Wait + Net + Clock + Processes, L: Reloader + Drop>(
     rt: &R,
     alloc: Global,
     server: &mut Server,

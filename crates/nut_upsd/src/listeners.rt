@@ -40,8 +40,8 @@ impl Reach {
 
 /// Listens at the LISTEN addresses of upsd.conf: first at those that are every address, then at those that are every
 /// address of IPv4, then at the others, each in the order of the file. If an address is in use and one of these listeners
-/// serves it, it needs none of its own. A host of which this machine has no address is tried again later, if there is one
-/// listener.
+/// serves it, it needs none of its own. A host of which this machine has no address, or whose name isn't known, is tried
+/// again later, if there is one listener.
 ///
 /// # Errors
 ///
@@ -100,7 +100,7 @@ fn cannot_listen(alloc: Global, host: &str, port: u16, error: io::Error) -> Fail
     }
 }
 
-/// Returns why upsd ends if this machine has no address of any host, this one being the first.
+/// Returns why upsd ends if it is possible to listen at no host yet, this one being the first.
 fn no_listener(missing: Missing) -> Failure<UpsdFault> {
     let (host, port, error) = missing.into_parts();
     Failure::Own(UpsdFault::Listen(host, port, error))

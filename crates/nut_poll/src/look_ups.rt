@@ -1,6 +1,6 @@
 //! Look-ups of hosts, which nobody waits for.
 
-use nut_poll::{Program, Question, Questions};
+use crate::questions::{Program, Question, Questions};
 use std::alloc::Global;
 use std::net::IpAddr;
 use std::process::{OpenProcess, Processes};
@@ -18,6 +18,9 @@ const OUTPUT_MAX: usize = 4096;
 
 /// Why there are no addresses if the look-up can't begin, or the shell finds no `getent`.
 const NOT_STARTED: &str = "getent, which looks its name up, cannot be started";
+
+/// Why there are no addresses if the resolver answered that it has none.
+pub const HOST_UNKNOWN: &str = "its name is not known";
 
 /// The result of a look-up.
 #[derive(Drop)]
@@ -105,7 +108,7 @@ fn reason_of<P: OpenProcess>(look_up: &mut Question<P, String>) -> &'static str 
     } else if look_up.is_unasked() {
         NOT_STARTED
     } else {
-        "its name is not known"
+        HOST_UNKNOWN
     }
 }
 
