@@ -29,7 +29,7 @@ fn bare_end(piece: &[u8], at: usize) -> usize
 /// a line. Returns `None` if the piece begins with anything else, whether or not that can be read.
 ///
 /// The words are those that [`split`](crate::split) reads. This function copies nothing, allocates no memory, and looks at
-/// each byte once, so it takes a fifth of the time that [`first_line`](crate::first_line) and `split` take.
+/// each byte once.
 pub fn plain_line<'a>(piece: &'a [u8]) -> Option<(ArrayVec<&'a [u8], PLAIN_WORDS_MAX>, &'a [u8])>
     ensures { IfSome result (λ found. (text : List ℕ) × IsFirstLine text piece.now found.1.now × (spelled text ≡ Ok (texts found.0.items))) }
 {
