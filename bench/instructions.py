@@ -68,7 +68,6 @@ class Driver(threading.Thread):
         self.listener.listen()
         self.link = None
         self.is_dumped = threading.Event()
-        self.pongs = 0
         self.start()
 
     def run(self):
@@ -80,7 +79,6 @@ class Driver(threading.Thread):
                     self.link.sendall(b"".join(told) + b"DATAOK\nDUMPDONE\n")
                     self.is_dumped.set()
                 elif line.startswith(b"PING"):
-                    self.pongs += 1
                     self.link.sendall(b"PONG\n")
 
     def tell(self, count):
@@ -96,15 +94,14 @@ class Driver(threading.Thread):
 
 @contextlib.contextmanager
 def counted(folder, words, environment=None):
-    """Runs a program under callgrind. Gives its process and a list, into which the number of instructions comes once it has
-    ended by SIGTERM."""
+    """Runs a program under callgrind. Gives a list, into which the number of instructions comes once it has ended by SIGTERM."""
     here = tempfile.mkdtemp(dir=folder)
     said = os.path.join(here, "callgrind.txt")
     counting = ["valgrind", "--tool=callgrind", f"--callgrind-out-file={here}/callgrind.out", f"--log-file={said}"]
     quiet = {"stdout": subprocess.DEVNULL, "stderr": subprocess.DEVNULL}
     process, found = subprocess.Popen(counting + words, env={**os.environ, **(environment or {})}, **quiet), []
     try:
-        yield process, found
+        yield found
         process.send_signal(signal.SIGTERM)
         process.wait(60)
         with open(said) as file:
@@ -126,64 +123,60 @@ class Upsd:
     def environment(self, folder):
         return {it: folder for it in NUT_PLACES} if self.is_nut else {}
 
-    def answers(self, folder, asked, count, upses=1, variables=VARIABLES, clients=0):
-        """Returns the instructions of a server that answers this many requests of one client. It has this many UPSes, each with
-        a status and this many other variables, and this many other clients, which are idle."""
-        _, requests, at_once, _ = asked
+    @contextlib.contextmanager
+    def served(self, folder, names, variables=VARIABLES):
+        """Runs the server under callgrind with UPSes of these names, each with a status and this many other variables. Gives its
+        port, its drivers, each of which has told its values, and the list of counted()."""
         here = tempfile.mkdtemp(dir=folder)
-        names = ["su700", *(f"u{it}" for it in range(1, upses))]
         drivers = [Driver(f"{here}/dummy-ups-{it}", variables) for it in names]
-        with written(here, names) as port, counted(folder, self.words(here), self.environment(here)) as (_, found):
+        port = written(here, names)
+        with counted(folder, self.words(here), self.environment(here)) as found:
+            # each call that isn't answered yet would count, too
             for it in drivers:
                 it.is_dumped.wait(60)
-            with until_served(port, "su700") as client:
-                others = [until_open(port) for _ in range(clients)]
-                ask(client, requests, at_once, count)
-                for it in others:
-                    it.close()
+            yield port, drivers, found
         for it in drivers:
             it.stop()
+
+    def answers(self, folder, asked, count, upses=1, variables=VARIABLES, clients=0):
+        """Returns the instructions of a server that answers this many requests of one client. It has this many UPSes, each with
+        this many variables beside its status, and this many other clients, which are idle."""
+        _, requests, at_once, _ = asked
+        names = ["su700", *(f"u{it}" for it in range(1, upses))]
+        with self.served(folder, names, variables) as (port, _, found), until_served(port, "su700") as client:
+            others = [until_open(port) for _ in range(clients)]
+            ask(client, requests, at_once, count)
+            for it in others:
+                it.close()
         return found[0]
 
     def reports(self, folder, count):
         """Returns the instructions of a server whose driver tells this many values."""
-        here = tempfile.mkdtemp(dir=folder)
-        driver = Driver(f"{here}/dummy-ups-su700")
-        with written(here, ["su700"]) as port, counted(folder, self.words(here), self.environment(here)) as (_, found):
-            with until_served(port, "su700") as client:
-                driver.tell(count)
-                last = b"%d.5" % ((count - 1) % 90)
-                while True:
-                    client.sendall(b"GET VAR su700 ambient.%d.temperature\n" % ((count - 1) % VARIABLES))
-                    if last in client.recv(200):
-                        break
-                    time.sleep(0.2)
-        driver.stop()
+        with self.served(folder, ["su700"]) as (port, (driver,), found), until_served(port, "su700") as client:
+            driver.tell(count)
+            last = b"%d.5" % ((count - 1) % 90)
+            while True:
+                client.sendall(b"GET VAR su700 ambient.%d.temperature\n" % ((count - 1) % VARIABLES))
+                if last in client.recv(200):
+                    break
+                time.sleep(0.2)
         return found[0]
 
     def seconds(self, folder, count):
         """Returns the instructions of a server with many idle clients and live drivers in this many seconds."""
-        here = tempfile.mkdtemp(dir=folder)
         names = [f"u{it}" for it in range(UPSES)]
-        drivers = [Driver(f"{here}/dummy-ups-{it}") for it in names]
-        with written(here, names) as port, counted(folder, self.words(here), self.environment(here)) as (_, found):
-            # each call that isn't answered yet would count, too
-            for it in drivers:
-                it.is_dumped.wait(60)
+        with self.served(folder, names) as (port, _, found):
             time.sleep(2)
             with until_served(port, names[-1]):
                 clients = [until_open(port) for _ in range(CLIENTS)]
                 time.sleep(1 + count)
                 for it in clients:
                     it.close()
-        for it in drivers:
-            it.stop()
         return found[0]
 
 
-@contextlib.contextmanager
 def written(here, names):
-    """Writes the files of a server with these UPSes, and gives its port."""
+    """Writes the files of a server with these UPSes, and returns its port."""
     port = free_port()
     for file, text in (
         ("ups.conf", "".join(f"[{it}]\ndriver = dummy-ups\nport = {it}.dev\n" for it in names)),
@@ -193,7 +186,7 @@ def written(here, names):
         with open(f"{here}/{file}", "w") as out:
             out.write(text)
         os.chmod(f"{here}/{file}", 0o600)
-    yield port
+    return port
 
 
 def until_open(port):
@@ -238,7 +231,7 @@ def polls(folder, upsmon, is_nut, seconds):
             out.write("POLLFREQALERT 1\n" if is_nut else "")
         os.chmod(f"{here}/upsmon.conf", 0o600)
         words = [upsmon, "-F", "-p"] if is_nut else [upsmon, "--conf", here, "-q"]
-        with counted(folder, words, {it: here for it in NUT_PLACES}) as (_, found):
+        with counted(folder, words, {it: here for it in NUT_PLACES}) as found:
             is_asked.wait(60)
             time.sleep(1 + seconds)
     return found[0]

@@ -16,7 +16,7 @@ import time
 
 from tests.support.harness import Shimmed, cannot_read, ensure, expect, refusals
 from tests.support.monitored import FLAG, FORCED, QUICK, SHUTDOWN, USERS, ByteByByte, Closing, Endless, Rubbish, Silent, Upstream, Watch, play
-from tests.support.room import STATUS, Room, free_port, until
+from tests.support.room import STATUS, Room, free_port
 
 PASSWORD = "not-to-be-shown"
 QUERIES = [b"USERNAME mon", f"PASSWORD {PASSWORD}".encode(), b"LOGIN su700", b"PRIMARY su700", b"FSD su700"]
