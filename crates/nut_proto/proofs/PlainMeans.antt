@@ -11,7 +11,7 @@ use Rattle.nut_proto.specs.declared.request.Request.TheVariants as requests
 use Rattle.nut_proto.specs.declared.request.ListQuery.{ListQuery}
 use Rattle.nut_proto.specs.Keywords.{all_commands, command_name, command_of, is_named}
 use Rattle.nut_proto.specs.Forms.{meaning, meaning_by}
-use Rattle.nut_proto.specs.Requests.{Form, about, first_named, get_forms, list_forms}
+use Rattle.nut_proto.specs.Requests.{Form, first_named, get_forms, list_forms}
 
 -- a word that names a form or a command counts as its name
 lowered : (word name : List ℕ) → true ≡ is_named word name → str_to_ascii_lowercase word ≡ str_to_ascii_lowercase name

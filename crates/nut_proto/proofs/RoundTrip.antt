@@ -100,24 +100,16 @@ numbered_back number h = ap (λ (read : Option ℕ). option_map (λ n. Some n) r
 
 ask_back : (ask : DriverAsk) → IsNumbered ask → ask_of (message_words (ask_parts ask)) ≡ Some ask
 unfolding ask_of
-ask_back asks.Ping h = refl
-ask_back asks.DumpAll h = refl
-ask_back (asks.Set variable value None) h = refl
 ask_back (asks.Set variable value (Some number)) h = ap (λ (read : Option (Option ℕ)). option_map (λ n. asks.Set variable value n) read) (numbered_back number h)
-ask_back (asks.InstCmd command None None) h = refl
-ask_back (asks.InstCmd command (Some parameter) None) h = refl
 ask_back (asks.InstCmd command None (Some number)) h = ap (λ (read : Option (Option ℕ)). option_map (λ n. asks.InstCmd command None n) read) (numbered_back number h)
 ask_back (asks.InstCmd command (Some parameter) (Some number)) h = ap (λ (read : Option (Option ℕ)). option_map (λ n. asks.InstCmd command (Some parameter) n) read) (numbered_back number h)
+ask_back ask h = refl
 
 short_ask : (ask : DriverAsk) → length (ask_parts ask) ≤ 32
-short_ask asks.Ping = omega arith
-short_ask asks.DumpAll = omega arith
-short_ask (asks.Set variable value None) = omega arith
 short_ask (asks.Set variable value (Some number)) = omega arith
-short_ask (asks.InstCmd command None None) = omega arith
-short_ask (asks.InstCmd command (Some parameter) None) = omega arith
 short_ask (asks.InstCmd command None (Some number)) = omega arith
 short_ask (asks.InstCmd command (Some parameter) (Some number)) = omega arith
+short_ask ask = omega arith
 
 pub asks_are_read : AsksAreRead
 asks_are_read ask writable numbered = (message_spelled (ask_parts ask) writable (short_ask ask), ask_back ask numbered)

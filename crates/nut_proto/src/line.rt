@@ -117,7 +117,8 @@ fn put_four<O: Out>(
     third: Part<'_>,
     fourth: Part<'_>,
 ) -> Result<(), O::Fault>
-    ensures { Puts O.most (O.held out.old) (O.held out.new) (line_from words.now (first.entry ∷ second.entry ∷ third.entry ∷ fourth.entry ∷ [])) result }
+    ensures { Puts O.most (O.held out.old) (O.held out.new)
+        (line_from words.now (first.entry ∷ second.entry ∷ third.entry ∷ fourth.entry ∷ [])) result }
 {
     put_line(out, words, &[first, second, third, fourth])
 }
