@@ -1,5 +1,5 @@
 -- Which lines match.
-use Rattle.std.proofs.Common.{◌≡◌, ℕ, ◌<◌, ◌||◌, ◌==◌, Bool, true, false, List, [], ◌∷◌, length, None, Ok, bytes_eq, decimal, refl, sym, ap, ◌∙◌, inl, inr, Result, arith}
+use Rattle.std.proofs.Common.{◌≡◌, ℕ, ◌<◌, ◌||◌, ◌==◌, Bool, true, false, List, [], ◌∷◌, length, bytes_eq, decimal, refl, sym, ap, ◌∙◌, inl, inr, Result, arith}
 use Rattle.std.specs.Prelude.{nat_lt}
 use Rattle.std.proofs.lemmas.Bool.{false≢true}
 use Rattle.std.proofs.lemmas.Bool.Decides.{nat_tests}
