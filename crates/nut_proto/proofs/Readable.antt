@@ -1,5 +1,5 @@
 -- A request that words make is within its own bounds.
-use Rattle.std.proofs.Common.{◌≡◌, ℕ, ◌+◌, ◌-◌, ◌*◌, ◌<◌, ◌≤◌, ◌==◌, Bool, true, false, List, [], ◌∷◌, fold, inl, inr, refl, subst, Option, Some, None, Ok, IsTrue, arith}
+use Rattle.std.proofs.Common.{◌≡◌, ℕ, ◌+◌, ◌-◌, ◌*◌, ◌<◌, ◌≤◌, ◌==◌, Bool, true, false, List, [], ◌∷◌, fold, inl, inr, refl, subst, Option, Some, None, Ok, IsTrue, arith, rules}
 use Rattle.std.specs.Prelude.{◌&&◌}
 use Rattle.std.specs.List.{AllByRecursion, list_all}
 use Rattle.std.specs.Char.{is_ascii_digit}
@@ -126,10 +126,10 @@ of_get_tracking [] = tt
 of_get_tracking (word ∷ words) = of_number (word ∷ words)
 
 get_readable : AllByRecursion (λ form. MakesReadable form.1) get_forms
-get_readable = (of_one _ (λ x. tt), (of_one _ (λ x. tt), (of_two _ (λ x y. tt), (of_two _ (λ x y. tt), (of_two _ (λ x y. tt), (of_two _ (λ x y. tt), (of_get_tracking, tt)))))))
+get_readable = search (rules, of_one, of_two, of_get_tracking)
 
 set_readable : AllByRecursion (λ form. MakesReadable form.1) set_forms
-set_readable = (of_three _ (λ x y z. tt), (of_switched _ (λ on. tt), tt))
+set_readable = search (rules, of_three, of_switched)
 
 readable : (command : Command) → MakesReadable (request_by command)
 readable commands.Get words = of_about get_forms get_readable words

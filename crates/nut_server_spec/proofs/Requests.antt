@@ -11,7 +11,7 @@ use Rattle.nut_proto.specs.declared.limits.TheConstants.{TRACKING_NUMBER_MAX}
 use Rattle.nut_proto.specs.DriverAsks.{ask_line}
 use Rattle.nut_state.specs.Table.{variable, has_command}
 use Rattle.nut_server_spec.specs.Configuration.{User, user_named, may_command}
-use Rattle.nut_server_spec.specs.Command.{Command, Blank, Malformed, Asks}
+use Rattle.nut_server_spec.specs.Command.{Command, Asks}
 use Rattle.nut_server_spec.specs.Device.{Device, trouble, fits}
 use Rattle.nut_server_spec.specs.Answer.{Answer, Silence, Scene, Caller, refused, require, check, unless, with_credentials, with_right, on_data, device_at, has_right, may_set, misfit, parameter_misfit, numbered, accepted, handed_on, set_answer, command_answer, answer, ups_number, numbering_in}
 use Rattle.nut_server_spec.specs.Effect.{number_in, target, request_of}
