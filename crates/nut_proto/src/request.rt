@@ -317,6 +317,7 @@ impl<'a> ListQuery<'a> {
     /// # Errors
     ///
     /// If memory cannot be allocated, or if the whole doesn't fit into a buffer of fixed size. `out` is then as it was.
+    #[tactic(auto, using(std::proofs::lemmas::Grind::common_steps, crate::proofs::Marks::begin_marked))]
     pub fn put_begin<O: Out>(&self, out: &mut O) -> Result<(), O::Fault>
         ensures ok { OnOk result (O.held out.new ≡ O.held out.old ++ begin_line self.now) }
         ensures err { OnErr result (O.held out.new ≡ O.held out.old) }
@@ -331,6 +332,7 @@ impl<'a> ListQuery<'a> {
     /// # Errors
     ///
     /// If memory cannot be allocated, or if the whole doesn't fit into a buffer of fixed size. `out` is then as it was.
+    #[tactic(auto, using(std::proofs::lemmas::Grind::common_steps, crate::proofs::Marks::end_marked))]
     pub fn put_end<O: Out>(&self, out: &mut O) -> Result<(), O::Fault>
         ensures ok { OnOk result (O.held out.new ≡ O.held out.old ++ end_line self.now) }
         ensures err { OnErr result (O.held out.new ≡ O.held out.old) }
