@@ -11,10 +11,9 @@ import sys
 import tempfile
 
 from tests.support.harness import Failed, ensure, expect, fewer, run_tests
-from tests.support.form_rows import FORMS, SHORTER_FORMS
-from tests.support.link_rows import ROWS
 from tests.support.model import LINE_MAX, words_of
 from tests.support.player import escaped
+from tests.support.request_rows import FORMS, LINK_ROWS, SHORTER_FORMS
 from tests.support.stage import Stage
 
 # the queries that begin with two command words
@@ -72,14 +71,14 @@ class Tests:
             lines = lines[len(row.steps) :]
 
     def test_rows_in_pieces_of_any_size(self):
-        self.play_rows([Row(row, pieces_of(row[1], size)) for row in ROWS for size in (1, 2, 3, 7, 512)])
+        self.play_rows([Row(row, pieces_of(row[1], size)) for row in LINK_ROWS for size in (1, 2, 3, 7, 512)])
 
     def test_rows_cut_at_each_place(self):
-        self.play_rows([Row(row, [row[1][:at], row[1][at:]]) for row in ROWS for at in range(len(row[1]) + 1)])
+        self.play_rows([Row(row, [row[1][:at], row[1][at:]]) for row in LINK_ROWS for at in range(len(row[1]) + 1)])
 
     def test_rows_with_each_allocation_refused(self):
         seen = 0
-        for row in ROWS:
+        for row in LINK_ROWS:
             it = Row(row, [row[1]])
             whole = self.stage.play(it.steps)
             for at, lines, is_whole in self.stage.refused_in_turn(it.steps):
@@ -92,7 +91,7 @@ class Tests:
                 ensure(lines[4] in (b"none", whole[4]), f"allocation {at} of {it.query}: {lines[4]!r}")
                 ensure(it.outcome != "done", f"allocation {at}: an answer without words takes no memory")
                 seen += 1
-        ensure(seen > len(ROWS) // 2, f"only {seen} refusals were answered")
+        ensure(seen > len(LINK_ROWS) // 2, f"only {seen} refusals were answered")
         print(f"   {seen} refusals were answered")
 
     def test_forms_of_queries(self):

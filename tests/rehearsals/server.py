@@ -18,11 +18,11 @@ import tempfile
 import time
 import urllib.parse
 
-from tests.support.form_rows import FORMS, NO_FORMS
 from tests.support.harness import Failed, ensure, expect, fewer, needs_proved_build, patience, refusals, run_tests, unread
 from tests.support.model import OPENED_MAX, Config
 from tests.support.player import Player, conf_steps, escaped, line_of, places, reload_steps
 from tests.support.reload_rows import RELOADS
+from tests.support.request_rows import FORMS, NO_FORMS
 from tests.support.server_rows import ONLINE, OPEN, PROBE, ROOM, ROWS, STATUS, Row, ask, err, listed, live, told
 from tests.support.schedules import UPSES, USERS, ScheduleMaker, shifted, variants
 from tests.support.stage import Stage

@@ -11,7 +11,7 @@ use Rattle.nut_state.specs.Verb.{verb_of}
 use Rattle.nut_proto.specs.Answers.{answer_of}
 use Rattle.nut_proto.specs.DriverAsks.{ask_line}
 use Rattle.nut_proto.specs.Forms.{meaning}
-use Rattle.nut_proto.specs.Keywords.{command_of, subject_of}
+use Rattle.nut_proto.specs.Keywords.{command_of}
 use Rattle.nut_proto.specs.Lines.{line}
 use Rattle.nut_proto.specs.Refusals.{refusal_name}
 use Rattle.nut_proto.specs.Replies.{reply_line}
@@ -76,15 +76,15 @@ never-shown word schedule front words all is w =
 -- ---- statuses
 
 goes-off-hides : each-front (hides (codes "OL") 2 3) goes_off ≡ true
-unfolding digits read named put asked heard accepts changed after applied verb_of ask_line meaning command_of subject_of line refusal_name reply_line request_line text_of answer_of entry_of
+unfolding digits read named put asked heard accepts changed after applied verb_of ask_line meaning command_of line refusal_name reply_line request_line text_of answer_of entry_of
 goes-off-hides = refl
 
 on-line-hides : each-front (hides (codes "OB") 0 1) (reverse (live (codes "OL"))) ≡ true
-unfolding digits read named put asked heard accepts changed after applied verb_of ask_line meaning command_of subject_of line refusal_name reply_line request_line text_of answer_of entry_of
+unfolding digits read named put asked heard accepts changed after applied verb_of ask_line meaning command_of line refusal_name reply_line request_line text_of answer_of entry_of
 on-line-hides = refl
 
 low-hides : each-front (hides (codes "OL") 0 1) (reverse (live (codes "OB LB"))) ≡ true
-unfolding digits read named put asked heard accepts changed after applied verb_of ask_line meaning command_of subject_of line refusal_name reply_line request_line text_of answer_of entry_of
+unfolding digits read named put asked heard accepts changed after applied verb_of ask_line meaning command_of line refusal_name reply_line request_line text_of answer_of entry_of
 low-hides = refl
 
 -- ---- reasons
@@ -148,7 +148,7 @@ number-of None = 0
 number-of (Some n) = n
 
 reads-two : logins 0 (seen pair (world_of pair counts_two) 0) ≡ Some 2
-unfolding digits read named put asked heard accepts changed after applied verb_of ask_line meaning command_of subject_of line refusal_name reply_line request_line text_of answer_of entry_of
+unfolding digits read named put asked heard accepts changed after applied verb_of ask_line meaning command_of line refusal_name reply_line request_line text_of answer_of entry_of
 reads-two = refl
 
 two-logins : WasAlone pair (reverse counts_two) 0 0 (seen pair (world_of pair counts_two) 0) → ⊥
@@ -164,7 +164,7 @@ answers-then (step ∷ early) =
     is-between 11 14 early && nat_lt (length (arrivals.steps (world alone early).server)) (length (arrivals.steps (world alone (step ∷ early)).server))
 
 none-answered : each-front (λ front. not (answers-then front)) forces ≡ true
-unfolding digits read named put asked heard accepts changed after applied verb_of ask_line meaning command_of subject_of line refusal_name reply_line request_line text_of answer_of entry_of
+unfolding digits read named put asked heard accepts changed after applied verb_of ask_line meaning command_of line refusal_name reply_line request_line text_of answer_of entry_of
 none-answered = refl
 
 too-early : WasAlone alone forces 0 0 (brings 0 NumLogins 11 (codes "1") ∷ pass 13) → ⊥

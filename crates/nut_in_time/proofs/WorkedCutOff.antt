@@ -9,7 +9,7 @@ use Rattle.nut_state.specs.Verb.{verb_of}
 use Rattle.nut_proto.specs.Answers.{answer_of}
 use Rattle.nut_proto.specs.DriverAsks.{ask_line}
 use Rattle.nut_proto.specs.Forms.{meaning}
-use Rattle.nut_proto.specs.Keywords.{command_of, subject_of}
+use Rattle.nut_proto.specs.Keywords.{command_of}
 use Rattle.nut_proto.specs.Lines.{line}
 use Rattle.nut_proto.specs.Refusals.{refusal_name}
 use Rattle.nut_proto.specs.Replies.{reply_line}
@@ -28,19 +28,19 @@ use Rattle.nut_in_time.proofs.Testing.{front-append, steady-holds}
 -- ---- what is computed
 
 silent-on-battery : each_since (hears_nothing alone 0 0 (lost (codes "OB"))) (lost (codes "OB")) (later 33) ≡ true
-unfolding digits read named put asked heard accepts changed after applied verb_of ask_line meaning command_of subject_of line refusal_name reply_line request_line text_of answer_of entry_of
+unfolding digits read named put asked heard accepts changed after applied verb_of ask_line meaning command_of line refusal_name reply_line request_line text_of answer_of entry_of
 silent-on-battery = refl
 
 silent-on-line : each_since (hears_nothing alone 0 0 (lost (codes "OL"))) (lost (codes "OL")) (later 60) ≡ true
-unfolding digits read named put asked heard accepts changed after applied verb_of ask_line meaning command_of subject_of line refusal_name reply_line request_line text_of answer_of entry_of
+unfolding digits read named put asked heard accepts changed after applied verb_of ask_line meaning command_of line refusal_name reply_line request_line text_of answer_of entry_of
 silent-on-line = refl
 
 steady-is : is_steady alone pace 0 (lost (codes "OB")) (later 33) ≡ true
-unfolding digits read named put asked heard accepts changed after applied verb_of ask_line meaning command_of subject_of line refusal_name reply_line request_line text_of answer_of entry_of
+unfolding digits read named put asked heard accepts changed after applied verb_of ask_line meaning command_of line refusal_name reply_line request_line text_of answer_of entry_of
 steady-is = refl
 
 is-cut-off : IsCutOff alone 0 all 0 (lost (codes "OB")) (later 33 ++ lost (codes "OB"))
-unfolding digits read named put asked heard accepts changed after applied verb_of ask_line meaning command_of subject_of line refusal_name reply_line request_line text_of answer_of entry_of
+unfolding digits read named put asked heard accepts changed after applied verb_of ask_line meaning command_of line refusal_name reply_line request_line text_of answer_of entry_of
 is-cut-off = record {
   front = front-append (later 33) (lost (codes "OB"));
   needs = record { one = 0; there = omega arith; passes = refl; short = omega arith };
@@ -63,7 +63,7 @@ is-cut-off = record {
     read (suc i) less is = absurd (omega (arith, less))
 
 pub cut_off-examples : CutOffExamples
-unfolding digits read named put asked heard accepts changed after applied verb_of ask_line meaning command_of subject_of line refusal_name reply_line request_line text_of answer_of entry_of
+unfolding digits read named put asked heard accepts changed after applied verb_of ask_line meaning command_of line refusal_name reply_line request_line text_of answer_of entry_of
 cut_off-examples = record {
   down = refl;
   cut_off = is-cut-off;

@@ -9,7 +9,7 @@ use Rattle.nut_state.specs.Verb.{verb_of}
 use Rattle.nut_proto.specs.Answers.{answer_of}
 use Rattle.nut_proto.specs.DriverAsks.{ask_line}
 use Rattle.nut_proto.specs.Forms.{meaning}
-use Rattle.nut_proto.specs.Keywords.{command_of, subject_of}
+use Rattle.nut_proto.specs.Keywords.{command_of}
 use Rattle.nut_proto.specs.Lines.{line}
 use Rattle.nut_proto.specs.Refusals.{refusal_name}
 use Rattle.nut_proto.specs.Replies.{reply_line}
@@ -26,27 +26,27 @@ use Rattle.nut_in_time.proofs.Testing.{front-append, steady-holds, watched-holds
 use Rattle.nut_in_time.proofs.Worked.{spoken, spoken-too}
 
 skips-watched-is : is_watched alone skipping 0 0 is_low start leaps ≡ true
-unfolding digits read named put asked heard accepts changed after applied verb_of ask_line meaning command_of subject_of line refusal_name reply_line request_line text_of answer_of entry_of
+unfolding digits read named put asked heard accepts changed after applied verb_of ask_line meaning command_of line refusal_name reply_line request_line text_of answer_of entry_of
 skips-watched-is = refl
 
 skips-steady-is : is_steady alone skipping 0 start leaps ≡ true
-unfolding digits read named put asked heard accepts changed after applied verb_of ask_line meaning command_of subject_of line refusal_name reply_line request_line text_of answer_of entry_of
+unfolding digits read named put asked heard accepts changed after applied verb_of ask_line meaning command_of line refusal_name reply_line request_line text_of answer_of entry_of
 skips-steady-is = refl
 
 late-watched-is : is_watched alone sluggish 0 0 is_low on_its_way comes_at_last ≡ true
-unfolding digits read named put asked heard accepts changed after applied verb_of ask_line meaning command_of subject_of line refusal_name reply_line request_line text_of answer_of entry_of
+unfolding digits read named put asked heard accepts changed after applied verb_of ask_line meaning command_of line refusal_name reply_line request_line text_of answer_of entry_of
 late-watched-is = refl
 
 late-steady-is : is_steady alone sluggish 0 on_its_way comes_at_last ≡ true
-unfolding digits read named put asked heard accepts changed after applied verb_of ask_line meaning command_of subject_of line refusal_name reply_line request_line text_of answer_of entry_of
+unfolding digits read named put asked heard accepts changed after applied verb_of ask_line meaning command_of line refusal_name reply_line request_line text_of answer_of entry_of
 late-steady-is = refl
 
 first-watched-is : is_watched needs_both pace 0 0 is_low first_low reads_first ≡ true
-unfolding digits read named put asked heard accepts changed after applied verb_of ask_line meaning command_of subject_of line refusal_name reply_line request_line text_of answer_of entry_of
+unfolding digits read named put asked heard accepts changed after applied verb_of ask_line meaning command_of line refusal_name reply_line request_line text_of answer_of entry_of
 first-watched-is = refl
 
 first-steady-is : is_steady needs_both pace 0 first_low reads_first ≡ true
-unfolding digits read named put asked heard accepts changed after applied verb_of ask_line meaning command_of subject_of line refusal_name reply_line request_line text_of answer_of entry_of
+unfolding digits read named put asked heard accepts changed after applied verb_of ask_line meaning command_of line refusal_name reply_line request_line text_of answer_of entry_of
 first-steady-is = refl
 
 skip-fails : IsFailing alone skipping 0 is_low all start (leaps ++ start)
@@ -88,7 +88,7 @@ first-fails =
     }
 
 pub pace-examples : PaceExamples
-unfolding digits read named put asked heard accepts changed after applied verb_of ask_line meaning command_of subject_of line refusal_name reply_line request_line text_of answer_of entry_of
+unfolding digits read named put asked heard accepts changed after applied verb_of ask_line meaning command_of line refusal_name reply_line request_line text_of answer_of entry_of
 pace-examples = record {
   skips = skip-fails;
   skips_by = refl;

@@ -9,7 +9,7 @@ use Rattle.nut_state.specs.Verb.{verb_of}
 use Rattle.nut_proto.specs.Answers.{answer_of}
 use Rattle.nut_proto.specs.DriverAsks.{ask_line}
 use Rattle.nut_proto.specs.Forms.{meaning}
-use Rattle.nut_proto.specs.Keywords.{command_of, subject_of}
+use Rattle.nut_proto.specs.Keywords.{command_of}
 use Rattle.nut_proto.specs.Lines.{line}
 use Rattle.nut_proto.specs.Refusals.{refusal_name}
 use Rattle.nut_proto.specs.Replies.{reply_line}
@@ -95,153 +95,153 @@ module _ (dead_time host_sync : ℕ) where
 -- ---- what is computed
 
 polled-early-first : is_polled (last_query 0 (seen_at (distant 1 9) 0 low)) ≡ true
-unfolding digits read named put asked heard accepts changed after applied verb_of ask_line meaning command_of subject_of line refusal_name reply_line request_line text_of answer_of entry_of
+unfolding digits read named put asked heard accepts changed after applied verb_of ask_line meaning command_of line refusal_name reply_line request_line text_of answer_of entry_of
 polled-early-first = refl
 
 polled-early-second : is_polled (last_query 0 (seen_at (distant 1 9) 1 low)) ≡ true
-unfolding digits read named put asked heard accepts changed after applied verb_of ask_line meaning command_of subject_of line refusal_name reply_line request_line text_of answer_of entry_of
+unfolding digits read named put asked heard accepts changed after applied verb_of ask_line meaning command_of line refusal_name reply_line request_line text_of answer_of entry_of
 polled-early-second = refl
 
 step-early-first : keeps_step (distant 1 9) (paces 0) 1 0 0 0 0 0 low too_early ≡ true
-unfolding digits read named put asked heard accepts changed after applied verb_of ask_line meaning command_of subject_of line refusal_name reply_line request_line text_of answer_of entry_of
+unfolding digits read named put asked heard accepts changed after applied verb_of ask_line meaning command_of line refusal_name reply_line request_line text_of answer_of entry_of
 step-early-first = refl
 
 step-early-second : keeps_step (distant 1 9) (paces 1) 1 0 1 0 0 1 low too_early ≡ true
-unfolding digits read named put asked heard accepts changed after applied verb_of ask_line meaning command_of subject_of line refusal_name reply_line request_line text_of answer_of entry_of
+unfolding digits read named put asked heard accepts changed after applied verb_of ask_line meaning command_of line refusal_name reply_line request_line text_of answer_of entry_of
 step-early-second = refl
 
 shown-early : each_since (is_shown_low (distant 1 9) (codes "su700") 0) low too_early ≡ true
-unfolding digits read named put asked heard accepts changed after applied verb_of ask_line meaning command_of subject_of line refusal_name reply_line request_line text_of answer_of entry_of
+unfolding digits read named put asked heard accepts changed after applied verb_of ask_line meaning command_of line refusal_name reply_line request_line text_of answer_of entry_of
 shown-early = refl
 
 logged-early-first : WasGranted (distant 1 9) 0 0 Login low
-unfolding digits read named put asked heard accepts changed after applied verb_of ask_line meaning command_of subject_of line refusal_name reply_line request_line text_of answer_of entry_of
+unfolding digits read named put asked heard accepts changed after applied verb_of ask_line meaning command_of line refusal_name reply_line request_line text_of answer_of entry_of
 logged-early-first = inr (inr (inl (refl, refl)))
 
 logged-early-second : WasGranted (distant 1 9) 1 0 Login low
-unfolding digits read named put asked heard accepts changed after applied verb_of ask_line meaning command_of subject_of line refusal_name reply_line request_line text_of answer_of entry_of
+unfolding digits read named put asked heard accepts changed after applied verb_of ask_line meaning command_of line refusal_name reply_line request_line text_of answer_of entry_of
 logged-early-second = inr (inl (refl, refl))
 
 granted-early : WasGranted (distant 1 9) 0 0 Primary low
-unfolding digits read named put asked heard accepts changed after applied verb_of ask_line meaning command_of subject_of line refusal_name reply_line request_line text_of answer_of entry_of
+unfolding digits read named put asked heard accepts changed after applied verb_of ask_line meaning command_of line refusal_name reply_line request_line text_of answer_of entry_of
 granted-early = inr (inl (refl, refl))
 
 polled-late-first : is_polled (last_query 0 (seen_at (distant 1 10) 0 low)) ≡ true
-unfolding digits read named put asked heard accepts changed after applied verb_of ask_line meaning command_of subject_of line refusal_name reply_line request_line text_of answer_of entry_of
+unfolding digits read named put asked heard accepts changed after applied verb_of ask_line meaning command_of line refusal_name reply_line request_line text_of answer_of entry_of
 polled-late-first = refl
 
 polled-late-second : is_polled (last_query 0 (seen_at (distant 1 10) 1 low)) ≡ true
-unfolding digits read named put asked heard accepts changed after applied verb_of ask_line meaning command_of subject_of line refusal_name reply_line request_line text_of answer_of entry_of
+unfolding digits read named put asked heard accepts changed after applied verb_of ask_line meaning command_of line refusal_name reply_line request_line text_of answer_of entry_of
 polled-late-second = refl
 
 step-late-first : keeps_step (distant 1 10) (paces 0) 1 0 0 0 0 0 low in_time ≡ true
-unfolding digits read named put asked heard accepts changed after applied verb_of ask_line meaning command_of subject_of line refusal_name reply_line request_line text_of answer_of entry_of
+unfolding digits read named put asked heard accepts changed after applied verb_of ask_line meaning command_of line refusal_name reply_line request_line text_of answer_of entry_of
 step-late-first = refl
 
 step-late-second : keeps_step (distant 1 10) (paces 1) 1 0 1 0 0 1 low in_time ≡ true
-unfolding digits read named put asked heard accepts changed after applied verb_of ask_line meaning command_of subject_of line refusal_name reply_line request_line text_of answer_of entry_of
+unfolding digits read named put asked heard accepts changed after applied verb_of ask_line meaning command_of line refusal_name reply_line request_line text_of answer_of entry_of
 step-late-second = refl
 
 shown-late : each_since (is_shown_low (distant 1 10) (codes "su700") 0) low in_time ≡ true
-unfolding digits read named put asked heard accepts changed after applied verb_of ask_line meaning command_of subject_of line refusal_name reply_line request_line text_of answer_of entry_of
+unfolding digits read named put asked heard accepts changed after applied verb_of ask_line meaning command_of line refusal_name reply_line request_line text_of answer_of entry_of
 shown-late = refl
 
 logged-late-first : WasGranted (distant 1 10) 0 0 Login low
-unfolding digits read named put asked heard accepts changed after applied verb_of ask_line meaning command_of subject_of line refusal_name reply_line request_line text_of answer_of entry_of
+unfolding digits read named put asked heard accepts changed after applied verb_of ask_line meaning command_of line refusal_name reply_line request_line text_of answer_of entry_of
 logged-late-first = inr (inr (inl (refl, refl)))
 
 logged-late-second : WasGranted (distant 1 10) 1 0 Login low
-unfolding digits read named put asked heard accepts changed after applied verb_of ask_line meaning command_of subject_of line refusal_name reply_line request_line text_of answer_of entry_of
+unfolding digits read named put asked heard accepts changed after applied verb_of ask_line meaning command_of line refusal_name reply_line request_line text_of answer_of entry_of
 logged-late-second = inr (inl (refl, refl))
 
 granted-late : WasGranted (distant 1 10) 0 0 Primary low
-unfolding digits read named put asked heard accepts changed after applied verb_of ask_line meaning command_of subject_of line refusal_name reply_line request_line text_of answer_of entry_of
+unfolding digits read named put asked heard accepts changed after applied verb_of ask_line meaning command_of line refusal_name reply_line request_line text_of answer_of entry_of
 granted-late = inr (inl (refl, refl))
 
 polled-early-later-first : is_polled (last_query 0 (seen_at (distant 3 8) 0 low_later)) ≡ true
-unfolding digits read named put asked heard accepts changed after applied verb_of ask_line meaning command_of subject_of line refusal_name reply_line request_line text_of answer_of entry_of
+unfolding digits read named put asked heard accepts changed after applied verb_of ask_line meaning command_of line refusal_name reply_line request_line text_of answer_of entry_of
 polled-early-later-first = refl
 
 polled-early-later-second : is_polled (last_query 0 (seen_at (distant 3 8) 1 low_later)) ≡ true
-unfolding digits read named put asked heard accepts changed after applied verb_of ask_line meaning command_of subject_of line refusal_name reply_line request_line text_of answer_of entry_of
+unfolding digits read named put asked heard accepts changed after applied verb_of ask_line meaning command_of line refusal_name reply_line request_line text_of answer_of entry_of
 polled-early-later-second = refl
 
 step-early-later-first : keeps_step (distant 3 8) (paces 0) 1 0 0 0 0 0 low_later too_early_later ≡ true
-unfolding digits read named put asked heard accepts changed after applied verb_of ask_line meaning command_of subject_of line refusal_name reply_line request_line text_of answer_of entry_of
+unfolding digits read named put asked heard accepts changed after applied verb_of ask_line meaning command_of line refusal_name reply_line request_line text_of answer_of entry_of
 step-early-later-first = refl
 
 step-early-later-second : keeps_step (distant 3 8) (paces 1) 1 0 1 0 0 1 low_later too_early_later ≡ true
-unfolding digits read named put asked heard accepts changed after applied verb_of ask_line meaning command_of subject_of line refusal_name reply_line request_line text_of answer_of entry_of
+unfolding digits read named put asked heard accepts changed after applied verb_of ask_line meaning command_of line refusal_name reply_line request_line text_of answer_of entry_of
 step-early-later-second = refl
 
 shown-early-later : each_since (is_shown_low (distant 3 8) (codes "su700") 0) low_later too_early_later ≡ true
-unfolding digits read named put asked heard accepts changed after applied verb_of ask_line meaning command_of subject_of line refusal_name reply_line request_line text_of answer_of entry_of
+unfolding digits read named put asked heard accepts changed after applied verb_of ask_line meaning command_of line refusal_name reply_line request_line text_of answer_of entry_of
 shown-early-later = refl
 
 logged-early-later-first : WasGranted (distant 3 8) 0 0 Login low_later
-unfolding digits read named put asked heard accepts changed after applied verb_of ask_line meaning command_of subject_of line refusal_name reply_line request_line text_of answer_of entry_of
+unfolding digits read named put asked heard accepts changed after applied verb_of ask_line meaning command_of line refusal_name reply_line request_line text_of answer_of entry_of
 logged-early-later-first = inr (inr (inr (inr (inl (refl, refl)))))
 
 logged-early-later-second : WasGranted (distant 3 8) 1 0 Login low_later
-unfolding digits read named put asked heard accepts changed after applied verb_of ask_line meaning command_of subject_of line refusal_name reply_line request_line text_of answer_of entry_of
+unfolding digits read named put asked heard accepts changed after applied verb_of ask_line meaning command_of line refusal_name reply_line request_line text_of answer_of entry_of
 logged-early-later-second = inr (inr (inl (refl, refl)))
 
 granted-early-later : WasGranted (distant 3 8) 0 0 Primary low_later
-unfolding digits read named put asked heard accepts changed after applied verb_of ask_line meaning command_of subject_of line refusal_name reply_line request_line text_of answer_of entry_of
+unfolding digits read named put asked heard accepts changed after applied verb_of ask_line meaning command_of line refusal_name reply_line request_line text_of answer_of entry_of
 granted-early-later = inr (inr (inr (inl (refl, refl))))
 
 polled-late-later-first : is_polled (last_query 0 (seen_at (distant 3 9) 0 low_later)) ≡ true
-unfolding digits read named put asked heard accepts changed after applied verb_of ask_line meaning command_of subject_of line refusal_name reply_line request_line text_of answer_of entry_of
+unfolding digits read named put asked heard accepts changed after applied verb_of ask_line meaning command_of line refusal_name reply_line request_line text_of answer_of entry_of
 polled-late-later-first = refl
 
 polled-late-later-second : is_polled (last_query 0 (seen_at (distant 3 9) 1 low_later)) ≡ true
-unfolding digits read named put asked heard accepts changed after applied verb_of ask_line meaning command_of subject_of line refusal_name reply_line request_line text_of answer_of entry_of
+unfolding digits read named put asked heard accepts changed after applied verb_of ask_line meaning command_of line refusal_name reply_line request_line text_of answer_of entry_of
 polled-late-later-second = refl
 
 step-late-later-first : keeps_step (distant 3 9) (paces 0) 1 0 0 0 0 0 low_later in_time_later ≡ true
-unfolding digits read named put asked heard accepts changed after applied verb_of ask_line meaning command_of subject_of line refusal_name reply_line request_line text_of answer_of entry_of
+unfolding digits read named put asked heard accepts changed after applied verb_of ask_line meaning command_of line refusal_name reply_line request_line text_of answer_of entry_of
 step-late-later-first = refl
 
 step-late-later-second : keeps_step (distant 3 9) (paces 1) 1 0 1 0 0 1 low_later in_time_later ≡ true
-unfolding digits read named put asked heard accepts changed after applied verb_of ask_line meaning command_of subject_of line refusal_name reply_line request_line text_of answer_of entry_of
+unfolding digits read named put asked heard accepts changed after applied verb_of ask_line meaning command_of line refusal_name reply_line request_line text_of answer_of entry_of
 step-late-later-second = refl
 
 shown-late-later : each_since (is_shown_low (distant 3 9) (codes "su700") 0) low_later in_time_later ≡ true
-unfolding digits read named put asked heard accepts changed after applied verb_of ask_line meaning command_of subject_of line refusal_name reply_line request_line text_of answer_of entry_of
+unfolding digits read named put asked heard accepts changed after applied verb_of ask_line meaning command_of line refusal_name reply_line request_line text_of answer_of entry_of
 shown-late-later = refl
 
 logged-late-later-first : WasGranted (distant 3 9) 0 0 Login low_later
-unfolding digits read named put asked heard accepts changed after applied verb_of ask_line meaning command_of subject_of line refusal_name reply_line request_line text_of answer_of entry_of
+unfolding digits read named put asked heard accepts changed after applied verb_of ask_line meaning command_of line refusal_name reply_line request_line text_of answer_of entry_of
 logged-late-later-first = inr (inr (inr (inr (inl (refl, refl)))))
 
 logged-late-later-second : WasGranted (distant 3 9) 1 0 Login low_later
-unfolding digits read named put asked heard accepts changed after applied verb_of ask_line meaning command_of subject_of line refusal_name reply_line request_line text_of answer_of entry_of
+unfolding digits read named put asked heard accepts changed after applied verb_of ask_line meaning command_of line refusal_name reply_line request_line text_of answer_of entry_of
 logged-late-later-second = inr (inr (inl (refl, refl)))
 
 granted-late-later : WasGranted (distant 3 9) 0 0 Primary low_later
-unfolding digits read named put asked heard accepts changed after applied verb_of ask_line meaning command_of subject_of line refusal_name reply_line request_line text_of answer_of entry_of
+unfolding digits read named put asked heard accepts changed after applied verb_of ask_line meaning command_of line refusal_name reply_line request_line text_of answer_of entry_of
 granted-late-later = inr (inr (inr (inl (refl, refl))))
 
 watched-early : is_watched (distant 3 8) (paces 0) 0 0 (λ words. true) known watches ≡ true
-unfolding digits read named put asked heard accepts changed after applied verb_of ask_line meaning command_of subject_of line refusal_name reply_line request_line text_of answer_of entry_of
+unfolding digits read named put asked heard accepts changed after applied verb_of ask_line meaning command_of line refusal_name reply_line request_line text_of answer_of entry_of
 watched-early = refl
 
 steady-early : is_steady (distant 3 8) (paces 0) 0 known watches ≡ true
-unfolding digits read named put asked heard accepts changed after applied verb_of ask_line meaning command_of subject_of line refusal_name reply_line request_line text_of answer_of entry_of
+unfolding digits read named put asked heard accepts changed after applied verb_of ask_line meaning command_of line refusal_name reply_line request_line text_of answer_of entry_of
 steady-early = refl
 
 watched-late : is_watched (distant 3 9) (paces 0) 0 0 (λ words. true) known watches ≡ true
-unfolding digits read named put asked heard accepts changed after applied verb_of ask_line meaning command_of subject_of line refusal_name reply_line request_line text_of answer_of entry_of
+unfolding digits read named put asked heard accepts changed after applied verb_of ask_line meaning command_of line refusal_name reply_line request_line text_of answer_of entry_of
 watched-late = refl
 
 steady-late : is_steady (distant 3 9) (paces 0) 0 known watches ≡ true
-unfolding digits read named put asked heard accepts changed after applied verb_of ask_line meaning command_of subject_of line refusal_name reply_line request_line text_of answer_of entry_of
+unfolding digits read named put asked heard accepts changed after applied verb_of ask_line meaning command_of line refusal_name reply_line request_line text_of answer_of entry_of
 steady-late = refl
 
 -- ---- what that shows
 
 ready-early : OneUpsReady (distant 1 9) 0 0 low
-unfolding digits read named put asked heard accepts changed after applied verb_of ask_line meaning command_of subject_of line refusal_name reply_line request_line text_of answer_of entry_of
+unfolding digits read named put asked heard accepts changed after applied verb_of ask_line meaning command_of line refusal_name reply_line request_line text_of answer_of entry_of
 ready-early = record { polled = polled; logged_in = logged; primary = granted-early; not_begun = refl; not_forced = refl }
   where
     polled : (m : ℕ) → m < 2 → IsPolled 0 (seen_at (distant 1 9) m low)
@@ -263,7 +263,7 @@ stops-early = stopping-one (distant 1 9) (codes "su700") 0 0 (is-room 1 9) paces
     by (suc (suc m)) less = absurd (omega (arith, less))
 
 ready-late : OneUpsReady (distant 1 10) 0 0 low
-unfolding digits read named put asked heard accepts changed after applied verb_of ask_line meaning command_of subject_of line refusal_name reply_line request_line text_of answer_of entry_of
+unfolding digits read named put asked heard accepts changed after applied verb_of ask_line meaning command_of line refusal_name reply_line request_line text_of answer_of entry_of
 ready-late = record { polled = polled; logged_in = logged; primary = granted-late; not_begun = refl; not_forced = refl }
   where
     polled : (m : ℕ) → m < 2 → IsPolled 0 (seen_at (distant 1 10) m low)
@@ -285,7 +285,7 @@ stops-late = stopping-one (distant 1 10) (codes "su700") 0 0 (is-room 1 10) pace
     by (suc (suc m)) less = absurd (omega (arith, less))
 
 ready-early-later : OneUpsReady (distant 3 8) 0 0 low_later
-unfolding digits read named put asked heard accepts changed after applied verb_of ask_line meaning command_of subject_of line refusal_name reply_line request_line text_of answer_of entry_of
+unfolding digits read named put asked heard accepts changed after applied verb_of ask_line meaning command_of line refusal_name reply_line request_line text_of answer_of entry_of
 ready-early-later = record { polled = polled; logged_in = logged; primary = granted-early-later; not_begun = refl; not_forced = refl }
   where
     polled : (m : ℕ) → m < 2 → IsPolled 0 (seen_at (distant 3 8) m low_later)
@@ -307,7 +307,7 @@ stops-early-later = stopping-one (distant 3 8) (codes "su700") 0 0 (is-room 3 8)
     by (suc (suc m)) less = absurd (omega (arith, less))
 
 ready-late-later : OneUpsReady (distant 3 9) 0 0 low_later
-unfolding digits read named put asked heard accepts changed after applied verb_of ask_line meaning command_of subject_of line refusal_name reply_line request_line text_of answer_of entry_of
+unfolding digits read named put asked heard accepts changed after applied verb_of ask_line meaning command_of line refusal_name reply_line request_line text_of answer_of entry_of
 ready-late-later = record { polled = polled; logged_in = logged; primary = granted-late-later; not_begun = refl; not_forced = refl }
   where
     polled : (m : ℕ) → m < 2 → IsPolled 0 (seen_at (distant 3 9) m low_later)
@@ -329,7 +329,7 @@ stops-late-later = stopping-one (distant 3 9) (codes "su700") 0 0 (is-room 3 9) 
     by (suc (suc m)) less = absurd (omega (arith, less))
 
 patient-early : IsPatient (distant 3 8) (paces 0) 0 low_later
-unfolding digits read named put asked heard accepts changed after applied verb_of ask_line meaning command_of subject_of line refusal_name reply_line request_line text_of answer_of entry_of
+unfolding digits read named put asked heard accepts changed after applied verb_of ask_line meaning command_of line refusal_name reply_line request_line text_of answer_of entry_of
 patient-early = record {
   patient = omega arith;
   early = known;
@@ -340,7 +340,7 @@ patient-early = record {
 }
 
 patient-late : IsPatient (distant 3 9) (paces 0) 0 low_later
-unfolding digits read named put asked heard accepts changed after applied verb_of ask_line meaning command_of subject_of line refusal_name reply_line request_line text_of answer_of entry_of
+unfolding digits read named put asked heard accepts changed after applied verb_of ask_line meaning command_of line refusal_name reply_line request_line text_of answer_of entry_of
 patient-late = record {
   patient = omega arith;
   early = known;
@@ -351,7 +351,7 @@ patient-late = record {
 }
 
 pub room-pace-examples : RoomPaceExamples
-unfolding digits read named put asked heard accepts changed after applied verb_of ask_line meaning command_of subject_of line refusal_name reply_line request_line text_of answer_of entry_of
+unfolding digits read named put asked heard accepts changed after applied verb_of ask_line meaning command_of line refusal_name reply_line request_line text_of answer_of entry_of
 room-pace-examples = record {
   setup_five = ((spoken true, tt), ((spoken false, tt), ((spoken false, tt), ((spoken false, tt), ((spoken false, tt), tt)))));
   room_five = leading five (codes "su700") 0 0 room-five;

@@ -9,7 +9,7 @@ use Rattle.nut_state.specs.Verb.{verb_of}
 use Rattle.nut_proto.specs.Answers.{answer_of}
 use Rattle.nut_proto.specs.DriverAsks.{ask_line}
 use Rattle.nut_proto.specs.Forms.{meaning}
-use Rattle.nut_proto.specs.Keywords.{command_of, subject_of}
+use Rattle.nut_proto.specs.Keywords.{command_of}
 use Rattle.nut_proto.specs.Lines.{line}
 use Rattle.nut_proto.specs.Refusals.{refusal_name}
 use Rattle.nut_proto.specs.Replies.{reply_line}
@@ -61,73 +61,73 @@ module _ (host_sync : ℕ) where
 -- ---- what is computed
 
 polled-first-is : is_polled (last_query 0 (seen_at (room 1) 0 low)) ≡ true
-unfolding digits read named put asked heard accepts changed after applied verb_of ask_line meaning command_of subject_of line refusal_name reply_line request_line text_of answer_of entry_of
+unfolding digits read named put asked heard accepts changed after applied verb_of ask_line meaning command_of line refusal_name reply_line request_line text_of answer_of entry_of
 polled-first-is = refl
 
 polled-second-is : is_polled (last_query 0 (seen_at (room 1) 1 low)) ≡ true
-unfolding digits read named put asked heard accepts changed after applied verb_of ask_line meaning command_of subject_of line refusal_name reply_line request_line text_of answer_of entry_of
+unfolding digits read named put asked heard accepts changed after applied verb_of ask_line meaning command_of line refusal_name reply_line request_line text_of answer_of entry_of
 polled-second-is = refl
 
 polled-first-too : is_polled (last_query 0 (seen_at (room 2) 0 low)) ≡ true
-unfolding digits read named put asked heard accepts changed after applied verb_of ask_line meaning command_of subject_of line refusal_name reply_line request_line text_of answer_of entry_of
+unfolding digits read named put asked heard accepts changed after applied verb_of ask_line meaning command_of line refusal_name reply_line request_line text_of answer_of entry_of
 polled-first-too = refl
 
 polled-second-too : is_polled (last_query 0 (seen_at (room 2) 1 low)) ≡ true
-unfolding digits read named put asked heard accepts changed after applied verb_of ask_line meaning command_of subject_of line refusal_name reply_line request_line text_of answer_of entry_of
+unfolding digits read named put asked heard accepts changed after applied verb_of ask_line meaning command_of line refusal_name reply_line request_line text_of answer_of entry_of
 polled-second-too = refl
 
 early-first : keeps_step (room 1) at_once 1 0 0 0 0 0 low too_early ≡ true
-unfolding digits read named put asked heard accepts changed after applied verb_of ask_line meaning command_of subject_of line refusal_name reply_line request_line text_of answer_of entry_of
+unfolding digits read named put asked heard accepts changed after applied verb_of ask_line meaning command_of line refusal_name reply_line request_line text_of answer_of entry_of
 early-first = refl
 
 early-second : keeps_step (room 1) at_once 1 0 1 0 1 0 low too_early ≡ true
-unfolding digits read named put asked heard accepts changed after applied verb_of ask_line meaning command_of subject_of line refusal_name reply_line request_line text_of answer_of entry_of
+unfolding digits read named put asked heard accepts changed after applied verb_of ask_line meaning command_of line refusal_name reply_line request_line text_of answer_of entry_of
 early-second = refl
 
 early-shown : each_since (is_shown_low (room 1) (codes "su700") 0) low too_early ≡ true
-unfolding digits read named put asked heard accepts changed after applied verb_of ask_line meaning command_of subject_of line refusal_name reply_line request_line text_of answer_of entry_of
+unfolding digits read named put asked heard accepts changed after applied verb_of ask_line meaning command_of line refusal_name reply_line request_line text_of answer_of entry_of
 early-shown = refl
 
 over-first : keeps_step (room 2) at_once 1 0 0 0 0 0 low over ≡ true
-unfolding digits read named put asked heard accepts changed after applied verb_of ask_line meaning command_of subject_of line refusal_name reply_line request_line text_of answer_of entry_of
+unfolding digits read named put asked heard accepts changed after applied verb_of ask_line meaning command_of line refusal_name reply_line request_line text_of answer_of entry_of
 over-first = refl
 
 over-second : keeps_step (room 2) at_once 1 0 1 0 1 0 low over ≡ true
-unfolding digits read named put asked heard accepts changed after applied verb_of ask_line meaning command_of subject_of line refusal_name reply_line request_line text_of answer_of entry_of
+unfolding digits read named put asked heard accepts changed after applied verb_of ask_line meaning command_of line refusal_name reply_line request_line text_of answer_of entry_of
 over-second = refl
 
 over-shown : each_since (is_shown_low (room 2) (codes "su700") 0) low over ≡ true
-unfolding digits read named put asked heard accepts changed after applied verb_of ask_line meaning command_of subject_of line refusal_name reply_line request_line text_of answer_of entry_of
+unfolding digits read named put asked heard accepts changed after applied verb_of ask_line meaning command_of line refusal_name reply_line request_line text_of answer_of entry_of
 over-shown = refl
 
 logged-first : WasGranted (room 1) 0 0 Login low
-unfolding digits read named put asked heard accepts changed after applied verb_of ask_line meaning command_of subject_of line refusal_name reply_line request_line text_of answer_of entry_of
+unfolding digits read named put asked heard accepts changed after applied verb_of ask_line meaning command_of line refusal_name reply_line request_line text_of answer_of entry_of
 logged-first = inr (inr (inl (refl, refl)))
 
 logged-second : WasGranted (room 1) 1 0 Login low
-unfolding digits read named put asked heard accepts changed after applied verb_of ask_line meaning command_of subject_of line refusal_name reply_line request_line text_of answer_of entry_of
+unfolding digits read named put asked heard accepts changed after applied verb_of ask_line meaning command_of line refusal_name reply_line request_line text_of answer_of entry_of
 logged-second = inr (inl (refl, refl))
 
 granted-first : WasGranted (room 1) 0 0 Primary low
-unfolding digits read named put asked heard accepts changed after applied verb_of ask_line meaning command_of subject_of line refusal_name reply_line request_line text_of answer_of entry_of
+unfolding digits read named put asked heard accepts changed after applied verb_of ask_line meaning command_of line refusal_name reply_line request_line text_of answer_of entry_of
 granted-first = inr (inl (refl, refl))
 
 logged-first-too : WasGranted (room 2) 0 0 Login low
-unfolding digits read named put asked heard accepts changed after applied verb_of ask_line meaning command_of subject_of line refusal_name reply_line request_line text_of answer_of entry_of
+unfolding digits read named put asked heard accepts changed after applied verb_of ask_line meaning command_of line refusal_name reply_line request_line text_of answer_of entry_of
 logged-first-too = inr (inr (inl (refl, refl)))
 
 logged-second-too : WasGranted (room 2) 1 0 Login low
-unfolding digits read named put asked heard accepts changed after applied verb_of ask_line meaning command_of subject_of line refusal_name reply_line request_line text_of answer_of entry_of
+unfolding digits read named put asked heard accepts changed after applied verb_of ask_line meaning command_of line refusal_name reply_line request_line text_of answer_of entry_of
 logged-second-too = inr (inl (refl, refl))
 
 granted-first-too : WasGranted (room 2) 0 0 Primary low
-unfolding digits read named put asked heard accepts changed after applied verb_of ask_line meaning command_of subject_of line refusal_name reply_line request_line text_of answer_of entry_of
+unfolding digits read named put asked heard accepts changed after applied verb_of ask_line meaning command_of line refusal_name reply_line request_line text_of answer_of entry_of
 granted-first-too = inr (inl (refl, refl))
 
 -- ---- what that shows
 
 ready-early : OneUpsReady (room 1) 0 0 low
-unfolding digits read named put asked heard accepts changed after applied verb_of ask_line meaning command_of subject_of line refusal_name reply_line request_line text_of answer_of entry_of
+unfolding digits read named put asked heard accepts changed after applied verb_of ask_line meaning command_of line refusal_name reply_line request_line text_of answer_of entry_of
 ready-early = record { polled = polled; logged_in = logged; primary = granted-first; not_begun = refl; not_forced = refl }
   where
     polled : (m : ℕ) → m < 2 → IsPolled 0 (seen_at (room 1) m low)
@@ -141,7 +141,7 @@ ready-early = record { polled = polled; logged_in = logged; primary = granted-fi
     logged (suc (suc m)) less = absurd (omega (arith, less))
 
 ready-later : OneUpsReady (room 2) 0 0 low
-unfolding digits read named put asked heard accepts changed after applied verb_of ask_line meaning command_of subject_of line refusal_name reply_line request_line text_of answer_of entry_of
+unfolding digits read named put asked heard accepts changed after applied verb_of ask_line meaning command_of line refusal_name reply_line request_line text_of answer_of entry_of
 ready-later = record { polled = polled; logged_in = logged; primary = granted-first-too; not_begun = refl; not_forced = refl }
   where
     polled : (m : ℕ) → m < 2 → IsPolled 0 (seen_at (room 2) m low)
@@ -171,7 +171,7 @@ stops = stopping-one (room 2) (codes "su700") 0 0 (is-room 2) (λ m. at_once) 1 
     by (suc (suc m)) less = absurd (omega (arith, less))
 
 pub room-examples : RoomExamples
-unfolding digits read named put asked heard accepts changed after applied verb_of ask_line meaning command_of subject_of line refusal_name reply_line request_line text_of answer_of entry_of
+unfolding digits read named put asked heard accepts changed after applied verb_of ask_line meaning command_of line refusal_name reply_line request_line text_of answer_of entry_of
 room-examples = record {
   setups = (((spoken true, tt), ((spoken false, tt), tt)), ((spoken true, tt), ((spoken false, tt), tt)));
   rooms = (leading (room 1) (codes "su700") 0 0 (is-room 1), leading (room 2) (codes "su700") 0 0 (is-room 2));

@@ -10,7 +10,7 @@ use Rattle.nut_state.specs.Verb.{verb_of}
 use Rattle.nut_proto.specs.Answers.{answer_of}
 use Rattle.nut_proto.specs.DriverAsks.{ask_line}
 use Rattle.nut_proto.specs.Forms.{meaning}
-use Rattle.nut_proto.specs.Keywords.{command_of, subject_of}
+use Rattle.nut_proto.specs.Keywords.{command_of}
 use Rattle.nut_proto.specs.Lines.{line}
 use Rattle.nut_proto.specs.Refusals.{refusal_name}
 use Rattle.nut_proto.specs.Replies.{reply_line}
@@ -159,113 +159,113 @@ module _ (host_sync : ℕ) where
 -- ---- what is computed
 
 polled-early-first : is_polled (last_query 0 (seen_at (both 6) 0 one_is_low)) ≡ true
-unfolding digits read named put asked heard accepts changed after applied verb_of ask_line meaning command_of subject_of line refusal_name reply_line request_line text_of answer_of entry_of
+unfolding digits read named put asked heard accepts changed after applied verb_of ask_line meaning command_of line refusal_name reply_line request_line text_of answer_of entry_of
 polled-early-first = refl
 
 logged-early-first : WasGranted (both 6) 0 0 Login one_is_low
-unfolding digits read named put asked heard accepts changed after applied verb_of ask_line meaning command_of subject_of line refusal_name reply_line request_line text_of answer_of entry_of
+unfolding digits read named put asked heard accepts changed after applied verb_of ask_line meaning command_of line refusal_name reply_line request_line text_of answer_of entry_of
 logged-early-first = inr (inr (inl (refl, refl)))
 
 step-early-first : keeps_step (both 6) (unequal 0) 1 0 0 0 0 0 one_is_low leaves_early ≡ true
-unfolding digits read named put asked heard accepts changed after applied verb_of ask_line meaning command_of subject_of line refusal_name reply_line request_line text_of answer_of entry_of
+unfolding digits read named put asked heard accepts changed after applied verb_of ask_line meaning command_of line refusal_name reply_line request_line text_of answer_of entry_of
 step-early-first = refl
 
 polled-early-first-too : is_polled (last_query 1 (seen_at (both 6) 0 one_is_low)) ≡ true
-unfolding digits read named put asked heard accepts changed after applied verb_of ask_line meaning command_of subject_of line refusal_name reply_line request_line text_of answer_of entry_of
+unfolding digits read named put asked heard accepts changed after applied verb_of ask_line meaning command_of line refusal_name reply_line request_line text_of answer_of entry_of
 polled-early-first-too = refl
 
 logged-early-first-too : WasGranted (both 6) 0 1 Login one_is_low
-unfolding digits read named put asked heard accepts changed after applied verb_of ask_line meaning command_of subject_of line refusal_name reply_line request_line text_of answer_of entry_of
+unfolding digits read named put asked heard accepts changed after applied verb_of ask_line meaning command_of line refusal_name reply_line request_line text_of answer_of entry_of
 logged-early-first-too = inr (inr (inl (refl, refl)))
 
 step-early-first-too : keeps_step (both 6) (unequal 0) 1 0 0 1 0 0 one_is_low leaves_early ≡ true
-unfolding digits read named put asked heard accepts changed after applied verb_of ask_line meaning command_of subject_of line refusal_name reply_line request_line text_of answer_of entry_of
+unfolding digits read named put asked heard accepts changed after applied verb_of ask_line meaning command_of line refusal_name reply_line request_line text_of answer_of entry_of
 step-early-first-too = refl
 
 polled-early-second : is_polled (last_query 0 (seen_at (both 6) 1 one_is_low)) ≡ true
-unfolding digits read named put asked heard accepts changed after applied verb_of ask_line meaning command_of subject_of line refusal_name reply_line request_line text_of answer_of entry_of
+unfolding digits read named put asked heard accepts changed after applied verb_of ask_line meaning command_of line refusal_name reply_line request_line text_of answer_of entry_of
 polled-early-second = refl
 
 logged-early-second : WasGranted (both 6) 1 0 Login one_is_low
-unfolding digits read named put asked heard accepts changed after applied verb_of ask_line meaning command_of subject_of line refusal_name reply_line request_line text_of answer_of entry_of
+unfolding digits read named put asked heard accepts changed after applied verb_of ask_line meaning command_of line refusal_name reply_line request_line text_of answer_of entry_of
 logged-early-second = inr (inl (refl, refl))
 
 step-early-second : keeps_step (both 6) (unequal 1) 1 0 1 0 0 1 one_is_low leaves_early ≡ true
-unfolding digits read named put asked heard accepts changed after applied verb_of ask_line meaning command_of subject_of line refusal_name reply_line request_line text_of answer_of entry_of
+unfolding digits read named put asked heard accepts changed after applied verb_of ask_line meaning command_of line refusal_name reply_line request_line text_of answer_of entry_of
 step-early-second = refl
 
 granted-early-first : WasGranted (both 6) 0 0 Primary one_is_low
-unfolding digits read named put asked heard accepts changed after applied verb_of ask_line meaning command_of subject_of line refusal_name reply_line request_line text_of answer_of entry_of
+unfolding digits read named put asked heard accepts changed after applied verb_of ask_line meaning command_of line refusal_name reply_line request_line text_of answer_of entry_of
 granted-early-first = inr (inl (refl, refl))
 
 granted-early-first-too : WasGranted (both 6) 0 1 Primary one_is_low
-unfolding digits read named put asked heard accepts changed after applied verb_of ask_line meaning command_of subject_of line refusal_name reply_line request_line text_of answer_of entry_of
+unfolding digits read named put asked heard accepts changed after applied verb_of ask_line meaning command_of line refusal_name reply_line request_line text_of answer_of entry_of
 granted-early-first-too = inr (inl (refl, refl))
 
 low-early : each_since (is_shown_low (both 6) (codes "su700") 0) one_is_low leaves_early ≡ true
-unfolding digits read named put asked heard accepts changed after applied verb_of ask_line meaning command_of subject_of line refusal_name reply_line request_line text_of answer_of entry_of
+unfolding digits read named put asked heard accepts changed after applied verb_of ask_line meaning command_of line refusal_name reply_line request_line text_of answer_of entry_of
 low-early = refl
 
 shown-early : each_since (λ e. says (λ words. true) (shown_at (both 6) e (codes "su800"))) one_is_low leaves_early ≡ true
-unfolding digits read named put asked heard accepts changed after applied verb_of ask_line meaning command_of subject_of line refusal_name reply_line request_line text_of answer_of entry_of
+unfolding digits read named put asked heard accepts changed after applied verb_of ask_line meaning command_of line refusal_name reply_line request_line text_of answer_of entry_of
 shown-early = refl
 
 polled-late-first : is_polled (last_query 0 (seen_at (both 7) 0 one_is_low)) ≡ true
-unfolding digits read named put asked heard accepts changed after applied verb_of ask_line meaning command_of subject_of line refusal_name reply_line request_line text_of answer_of entry_of
+unfolding digits read named put asked heard accepts changed after applied verb_of ask_line meaning command_of line refusal_name reply_line request_line text_of answer_of entry_of
 polled-late-first = refl
 
 logged-late-first : WasGranted (both 7) 0 0 Login one_is_low
-unfolding digits read named put asked heard accepts changed after applied verb_of ask_line meaning command_of subject_of line refusal_name reply_line request_line text_of answer_of entry_of
+unfolding digits read named put asked heard accepts changed after applied verb_of ask_line meaning command_of line refusal_name reply_line request_line text_of answer_of entry_of
 logged-late-first = inr (inr (inl (refl, refl)))
 
 step-late-first : keeps_step (both 7) (unequal 0) 1 0 0 0 0 0 one_is_low leaves_in_time ≡ true
-unfolding digits read named put asked heard accepts changed after applied verb_of ask_line meaning command_of subject_of line refusal_name reply_line request_line text_of answer_of entry_of
+unfolding digits read named put asked heard accepts changed after applied verb_of ask_line meaning command_of line refusal_name reply_line request_line text_of answer_of entry_of
 step-late-first = refl
 
 polled-late-first-too : is_polled (last_query 1 (seen_at (both 7) 0 one_is_low)) ≡ true
-unfolding digits read named put asked heard accepts changed after applied verb_of ask_line meaning command_of subject_of line refusal_name reply_line request_line text_of answer_of entry_of
+unfolding digits read named put asked heard accepts changed after applied verb_of ask_line meaning command_of line refusal_name reply_line request_line text_of answer_of entry_of
 polled-late-first-too = refl
 
 logged-late-first-too : WasGranted (both 7) 0 1 Login one_is_low
-unfolding digits read named put asked heard accepts changed after applied verb_of ask_line meaning command_of subject_of line refusal_name reply_line request_line text_of answer_of entry_of
+unfolding digits read named put asked heard accepts changed after applied verb_of ask_line meaning command_of line refusal_name reply_line request_line text_of answer_of entry_of
 logged-late-first-too = inr (inr (inl (refl, refl)))
 
 step-late-first-too : keeps_step (both 7) (unequal 0) 1 0 0 1 0 0 one_is_low leaves_in_time ≡ true
-unfolding digits read named put asked heard accepts changed after applied verb_of ask_line meaning command_of subject_of line refusal_name reply_line request_line text_of answer_of entry_of
+unfolding digits read named put asked heard accepts changed after applied verb_of ask_line meaning command_of line refusal_name reply_line request_line text_of answer_of entry_of
 step-late-first-too = refl
 
 polled-late-second : is_polled (last_query 0 (seen_at (both 7) 1 one_is_low)) ≡ true
-unfolding digits read named put asked heard accepts changed after applied verb_of ask_line meaning command_of subject_of line refusal_name reply_line request_line text_of answer_of entry_of
+unfolding digits read named put asked heard accepts changed after applied verb_of ask_line meaning command_of line refusal_name reply_line request_line text_of answer_of entry_of
 polled-late-second = refl
 
 logged-late-second : WasGranted (both 7) 1 0 Login one_is_low
-unfolding digits read named put asked heard accepts changed after applied verb_of ask_line meaning command_of subject_of line refusal_name reply_line request_line text_of answer_of entry_of
+unfolding digits read named put asked heard accepts changed after applied verb_of ask_line meaning command_of line refusal_name reply_line request_line text_of answer_of entry_of
 logged-late-second = inr (inl (refl, refl))
 
 step-late-second : keeps_step (both 7) (unequal 1) 1 0 1 0 0 1 one_is_low leaves_in_time ≡ true
-unfolding digits read named put asked heard accepts changed after applied verb_of ask_line meaning command_of subject_of line refusal_name reply_line request_line text_of answer_of entry_of
+unfolding digits read named put asked heard accepts changed after applied verb_of ask_line meaning command_of line refusal_name reply_line request_line text_of answer_of entry_of
 step-late-second = refl
 
 granted-late-first : WasGranted (both 7) 0 0 Primary one_is_low
-unfolding digits read named put asked heard accepts changed after applied verb_of ask_line meaning command_of subject_of line refusal_name reply_line request_line text_of answer_of entry_of
+unfolding digits read named put asked heard accepts changed after applied verb_of ask_line meaning command_of line refusal_name reply_line request_line text_of answer_of entry_of
 granted-late-first = inr (inl (refl, refl))
 
 granted-late-first-too : WasGranted (both 7) 0 1 Primary one_is_low
-unfolding digits read named put asked heard accepts changed after applied verb_of ask_line meaning command_of subject_of line refusal_name reply_line request_line text_of answer_of entry_of
+unfolding digits read named put asked heard accepts changed after applied verb_of ask_line meaning command_of line refusal_name reply_line request_line text_of answer_of entry_of
 granted-late-first-too = inr (inl (refl, refl))
 
 low-late : each_since (is_shown_low (both 7) (codes "su700") 0) one_is_low leaves_in_time ≡ true
-unfolding digits read named put asked heard accepts changed after applied verb_of ask_line meaning command_of subject_of line refusal_name reply_line request_line text_of answer_of entry_of
+unfolding digits read named put asked heard accepts changed after applied verb_of ask_line meaning command_of line refusal_name reply_line request_line text_of answer_of entry_of
 low-late = refl
 
 shown-late : each_since (λ e. says (λ words. true) (shown_at (both 7) e (codes "su800"))) one_is_low leaves_in_time ≡ true
-unfolding digits read named put asked heard accepts changed after applied verb_of ask_line meaning command_of subject_of line refusal_name reply_line request_line text_of answer_of entry_of
+unfolding digits read named put asked heard accepts changed after applied verb_of ask_line meaning command_of line refusal_name reply_line request_line text_of answer_of entry_of
 shown-late = refl
 
 -- ---- what that shows
 
 ready-early : IsReady (both 6) numbers 0 one_is_low
-unfolding digits read named put asked heard accepts changed after applied verb_of ask_line meaning command_of subject_of line refusal_name reply_line request_line text_of answer_of entry_of
+unfolding digits read named put asked heard accepts changed after applied verb_of ask_line meaning command_of line refusal_name reply_line request_line text_of answer_of entry_of
 ready-early = record {
   polled = λ m follows i less led. each-link 6 (λ k j. IsPolled j (seen_at (both 6) k one_is_low))
       (polled-holds (last_query 0 (seen_at (both 6) 0 one_is_low)) polled-early-first) (polled-holds (last_query 1 (seen_at (both 6) 0 one_is_low)) polled-early-first-too)
@@ -290,7 +290,7 @@ stops-early : IsStopping (both 6) unequal 1 only_first numbers 0 one_is_low (lea
 stops-early = stopping 6 leaves_early step-early-first step-early-first-too step-early-second low-early shown-early
 
 ready-late : IsReady (both 7) numbers 0 one_is_low
-unfolding digits read named put asked heard accepts changed after applied verb_of ask_line meaning command_of subject_of line refusal_name reply_line request_line text_of answer_of entry_of
+unfolding digits read named put asked heard accepts changed after applied verb_of ask_line meaning command_of line refusal_name reply_line request_line text_of answer_of entry_of
 ready-late = record {
   polled = λ m follows i less led. each-link 7 (λ k j. IsPolled j (seen_at (both 7) k one_is_low))
       (polled-holds (last_query 0 (seen_at (both 7) 0 one_is_low)) polled-late-first) (polled-holds (last_query 1 (seen_at (both 7) 0 one_is_low)) polled-late-first-too)
@@ -315,7 +315,7 @@ stops-late : IsStopping (both 7) unequal 1 only_first numbers 0 one_is_low (leav
 stops-late = stopping 7 leaves_in_time step-late-first step-late-first-too step-late-second low-late shown-late
 
 pub several-examples : SeveralExamples
-unfolding digits read named put asked heard accepts changed after applied verb_of ask_line meaning command_of subject_of line refusal_name reply_line request_line text_of answer_of entry_of
+unfolding digits read named put asked heard accepts changed after applied verb_of ask_line meaning command_of line refusal_name reply_line request_line text_of answer_of entry_of
 several-examples = record {
   setups = (((spoken true, (spoken-too true, tt)), ((spoken-too false, tt), tt)), ((spoken true, (spoken-too true, tt)), ((spoken-too false, tt), tt)));
   rooms = (is-room 6, is-room 7);

@@ -1,5 +1,5 @@
 -- Which lines match.
-use Rattle.std.proofs.Common.{◌≡◌, ℕ, ◌<◌, ◌||◌, Bool, true, false, List, [], ◌∷◌, length, None, Ok, bytes_eq, decimal, refl, sym, ap, ◌∙◌, inl, inr, Result, arith}
+use Rattle.std.proofs.Common.{◌≡◌, ℕ, ◌<◌, ◌||◌, ◌==◌, Bool, true, false, List, [], ◌∷◌, length, bytes_eq, decimal, refl, sym, ap, ◌∙◌, inl, inr, Result, arith}
 use Rattle.std.specs.Prelude.{nat_lt}
 use Rattle.std.proofs.lemmas.Bool.{false≢true}
 use Rattle.std.proofs.lemmas.Bool.Decides.{nat_tests}
@@ -13,14 +13,11 @@ use Rattle.nut_proto.proofs.Numbers.{decimal_natural, number_back}
 use Rattle.nut_proto.specs.declared.limits.TheConstants.{ROWS_MAX}
 use Rattle.nut_proto.specs.declared.reply.Reply.TheVariants as replies
 use Rattle.nut_proto.specs.declared.reply.VariableKind.{VariableKind}
-use Rattle.nut_proto.specs.declared.request.ListQuery.{ListQuery}
 use Rattle.nut_proto.specs.declared.request.Request.TheVariants as requests
-use Rattle.nut_proto.specs.declared.request.ListQuery.TheVariants as queries
 use Rattle.nut_link.specs.Hearing.{Feeds, may_take_memory}
 use Rattle.nut_link.specs.laws.Laws.{Answers, OkTakesNoMemory, RepliesMatch, type_words}
 use Rattle.nut_link.specs.Link.{LinkValue, fed}
-use Rattle.nut_link.specs.Matching.{Listing, Complete, listing, next, progress}
-use Rattle.nut_proto.specs.declared.answer.Answer.TheVariants as answers
+use Rattle.nut_link.specs.Matching.{begins, is_heading}
 use Rattle.nut_proto.specs.Lines.{message_words}
 use Rattle.nut_proto.specs.Requests.{query_parts}
 use Rattle.nut_link.specs.declared.outcome.Outcome.TheVariants as outcomes
@@ -53,23 +50,15 @@ pub ok_takes_no_memory : OkTakesNoMemory
 unfolding answer_of read
 ok_takes_no_memory = refl
 
-begins : (query : ListQuery) → progress (listing query) None (answers.Begin (message_words (query_parts query))) ≡ Ok (Listing [])
-begins queries.Ups = refl
-begins (queries.Var ups) = rw (bytes_same ups) refl
-begins (queries.Rw ups) = rw (bytes_same ups) refl
-begins (queries.Cmd ups) = rw (bytes_same ups) refl
-begins (queries.Enum ups variable) = rw (bytes_same ups, bytes_same variable) refl
-begins (queries.Range ups variable) = rw (bytes_same ups, bytes_same variable) refl
-begins (queries.Client ups) = rw (bytes_same ups) refl
+begins_itself : (heading : List (List ℕ)) → begins heading heading ≡ true
+begins_itself [] = refl
+begins_itself (word ∷ words) = rw (bytes_same word, begins_itself words) refl
 
-ends : (query : ListQuery) (rows : List (List (List ℕ))) → next (listing query) rows (answers.End (message_words (query_parts query))) ≡ Ok (Complete (outcomes.List rows))
-ends queries.Ups rows = refl
-ends (queries.Var ups) rows = rw (bytes_same ups) refl
-ends (queries.Rw ups) rows = rw (bytes_same ups) refl
-ends (queries.Cmd ups) rows = rw (bytes_same ups) refl
-ends (queries.Enum ups variable) rows = rw (bytes_same ups, bytes_same variable) refl
-ends (queries.Range ups variable) rows = rw (bytes_same ups, bytes_same variable) refl
-ends (queries.Client ups) rows = rw (bytes_same ups) refl
+same_length : (n : ℕ) → (n == n) ≡ true
+same_length n = grind (arith, nat_tests)
+
+heading_itself : (heading : List (List ℕ)) → is_heading heading heading ≡ true
+heading_itself heading = rw (same_length (length heading), begins_itself heading) refl
 
 types : (ups variable : List ℕ) (writable : Bool) (kind : VariableKind) →
     Answers (requests.GetType ups variable) (replies.Type ups variable writable kind) (outcomes.Said (type_words writable kind))
@@ -104,7 +93,7 @@ replies_match = record {
   version = refl;
   network_version = refl;
   commands = refl;
-  begins = begins;
+  begins = λ query. rw (heading_itself (message_words (query_parts query))) refl;
   of_ups = λ ups text rows few. rw (has_room rows few) refl;
   of_var = λ ups variable text rows few. rw (bytes_same ups, has_room rows few) refl;
   of_rw = λ ups variable text rows few. rw (bytes_same ups, has_room rows few) refl;
@@ -112,5 +101,5 @@ replies_match = record {
   of_enum = λ ups variable text rows few. rw (bytes_same ups, bytes_same variable, has_room rows few) refl;
   of_range = λ ups variable minimum maximum rows few. rw (bytes_same ups, bytes_same variable, has_room rows few) refl;
   of_client = λ ups address rows few. rw (bytes_same ups, has_room rows few) refl;
-  ends = ends;
+  ends = λ query rows. rw (heading_itself (message_words (query_parts query))) refl;
 }

@@ -1,5 +1,5 @@
 -- What answer a request expects, and when a line matches it (RFC 9271).
-use Rattle.std.specs.Prelude.{ℕ, ◌+◌, ◌==◌, ◌&&◌, nat_le, nat_lt, Bool, true, false, List, [], ◌∷◌, ◌++◌, length, drop, Option, Some, None, is_some, Result, Ok, Err, codes, decimal, if◌then◌else◌}
+use Rattle.std.specs.Prelude.{ℕ, ◌+◌, ◌==◌, ◌&&◌, nat_le, nat_lt, Bool, true, false, List, [], ◌∷◌, ◌++◌, length, drop, Option, Some, None, is_some, Result, Ok, Err, codes, if◌then◌else◌}
 use Rattle.std.specs.List.{list_all}
 use Rattle.std.specs.Str.{bytes_eq}
 use Rattle.nut_words.specs.Number.{is_natural}
@@ -10,7 +10,9 @@ use Rattle.nut_proto.specs.declared.request.ListQuery.{ListQuery}
 use Rattle.nut_proto.specs.declared.request.ListQuery.TheVariants as queries
 use Rattle.nut_proto.specs.declared.request.Request.{Request}
 use Rattle.nut_proto.specs.declared.request.Request.TheVariants as requests
+use Rattle.nut_proto.specs.Lines.{message_words}
 use Rattle.nut_proto.specs.Positions.{word_at}
+use Rattle.nut_proto.specs.Requests.{query_parts, request_parts}
 use Rattle.nut_proto.specs.Tracking.{tracking_number}
 use Rattle.nut_link.specs.declared.expected.Expected.{Expected}
 use Rattle.nut_link.specs.declared.expected.Expected.TheVariants as expects
@@ -22,29 +24,34 @@ use Rattle.nut_link.specs.declared.outcome.Outcome.{Outcome}
 use Rattle.nut_link.specs.declared.outcome.Outcome.TheVariants as outcomes
 use Rattle.nut_proto.specs.declared.limits.TheConstants.{ROWS_MAX}
 
+-- the words behind GET in a request, which its answer repeats
+abbrev pub heading_of : Request → List (List ℕ)
+heading_of request = drop 1 (message_words (request_parts request))
+
+-- which words follow those of the query in the answer to a GET: one, which for NUMLOGINS is a number; for TYPE one or more
+abbrev pub more_of : Request → More
+more_of (requests.GetNumLogins ups) = mores.Number
+more_of (requests.GetType ups variable) = mores.OneOrMore
+more_of request = mores.One
+
+-- how many words follow those of the query in a row of a list
+abbrev pub columns : ListQuery → ℕ
+columns queries.Ups = 2
+columns (queries.Var ups) = 2
+columns (queries.Rw ups) = 2
+columns (queries.Cmd ups) = 1
+columns (queries.Enum ups variable) = 1
+columns (queries.Range ups variable) = 2
+columns (queries.Client ups) = 1
+
 -- what a LIST expects: the words behind LIST in its first and last line, and rows that begin with them and have this
 -- many further words
 abbrev pub listing : ListQuery → Expected
-listing queries.Ups = expects.Listing (codes "UPS" ∷ []) 2
-listing (queries.Var ups) = expects.Listing (codes "VAR" ∷ ups ∷ []) 2
-listing (queries.Rw ups) = expects.Listing (codes "RW" ∷ ups ∷ []) 2
-listing (queries.Cmd ups) = expects.Listing (codes "CMD" ∷ ups ∷ []) 1
-listing (queries.Enum ups variable) = expects.Listing (codes "ENUM" ∷ ups ∷ variable ∷ []) 1
-listing (queries.Range ups variable) = expects.Listing (codes "RANGE" ∷ ups ∷ variable ∷ []) 2
-listing (queries.Client ups) = expects.Listing (codes "CLIENT" ∷ ups ∷ []) 1
+listing query = expects.Listing (message_words (query_parts query)) (columns query)
 
--- What a request expects. A GET: the words behind GET and one more, which for NUMLOGINS is a number; for TYPE one or
--- more. The commands that are answered `OK`: that, for SET VAR and INSTCMD perhaps with the number under which they are
--- tracked. VER, NETVER and HELP: any line. STARTTLS: only a refusal.
+-- What a request expects. The commands that are answered `OK`: that, for SET VAR and INSTCMD perhaps with the number under
+-- which they are tracked. VER, NETVER and HELP: any line. STARTTLS: only a refusal. Each GET: the words behind it and more.
 abbrev pub expected : Request → Expected
-expected (requests.GetNumLogins ups) = expects.Line (codes "NUMLOGINS" ∷ ups ∷ []) mores.Number
-expected (requests.GetUpsDesc ups) = expects.Line (codes "UPSDESC" ∷ ups ∷ []) mores.One
-expected (requests.GetVar ups variable) = expects.Line (codes "VAR" ∷ ups ∷ variable ∷ []) mores.One
-expected (requests.GetType ups variable) = expects.Line (codes "TYPE" ∷ ups ∷ variable ∷ []) mores.OneOrMore
-expected (requests.GetDesc ups variable) = expects.Line (codes "DESC" ∷ ups ∷ variable ∷ []) mores.One
-expected (requests.GetCmdDesc ups command) = expects.Line (codes "CMDDESC" ∷ ups ∷ command ∷ []) mores.One
-expected requests.GetTracking = expects.Line (codes "TRACKING" ∷ []) mores.One
-expected (requests.GetTrackingOf number) = expects.Line (codes "TRACKING" ∷ decimal number ∷ []) mores.One
 expected (requests.List query) = listing query
 expected (requests.SetVar ups variable value) = expects.NumberedSuccess
 expected (requests.SetTracking on) = expects.Success
@@ -59,6 +66,7 @@ expected requests.Ver = expects.AnyLine
 expected requests.NetVer = expects.AnyLine
 expected requests.Help = expects.AnyLine
 expected requests.StartTls = expects.Refusal
+expected request = expects.Line (heading_of request) (more_of request)
 
 -- These words begin with those of the heading, byte for byte.
 abbrev pub begins : List (List ℕ) → List (List ℕ) → Bool

@@ -3,10 +3,10 @@ ghost use Rattle.std.specs.Prelude.{◌≡◌, ◌≤◌, [], MatchOption, IsTru
 ghost use Rattle.std.specs.List.{list_any};
 ghost use Rattle.nut_words.specs.Quoting.{texts};
 ghost use Rattle.nut_proto.specs.Lines.{message_words};
-ghost use Rattle.nut_proto.specs.Requests.{query_parts, request_parts};
+ghost use Rattle.nut_proto.specs.Requests.{query_parts};
 ghost use Rattle.nut_proto.specs.declared.answer.Answer.TheVariants as answers;
 ghost use Rattle.nut_link.specs.inside.Parts.{Gives};
-ghost use Rattle.nut_link.specs.Matching.{expected, first, listing, has_more, is_line, is_long, is_numbered};
+ghost use Rattle.nut_link.specs.Matching.{expected, first, heading_of, listing, has_more, is_line, is_long, is_numbered};
 
 use crate::copied::Fields;
 use crate::fault::LinkFault;
@@ -138,7 +138,7 @@ impl Expected {
 
 /// What a request expects, unless a word of it that an answer repeats is longer than a line may be. Takes no memory.
 pub(crate) fn expected_of(request: &Request<'_>) -> Option<Expected>
-    ensures { MatchOption result (IsTrue (list_any is_long (drop 1 (message_words (request_parts request.now))))) (λ e. e ≡ expected request.now) }
+    ensures { MatchOption result (IsTrue (list_any is_long (heading_of request.now))) (λ e. e ≡ expected request.now) }
 {
     match request {
         Request::GetNumLogins { ups } => line(&[b"NUMLOGINS", ups.as_bytes()], More::Number),

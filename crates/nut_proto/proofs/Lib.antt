@@ -1,5 +1,4 @@
 pub mod Cursors
-pub mod Agreement
 pub mod PlainMeans
 pub mod Room
 pub mod Places

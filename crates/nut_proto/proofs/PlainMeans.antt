@@ -1,47 +1,46 @@
 -- What the words of a plain query mean.
-use Rattle.std.proofs.Common.{◌≡◌, ℕ, ◌≤◌, ◌<◌, List, [], ◌∷◌, Option, Some, length, ap, refl, sym, ◌∙◌, arith}
-use Rattle.std.specs.Prelude.{slice_index_or, codes, find, true}
+use Rattle.std.proofs.Common.{◌≡◌, ℕ, ◌≤◌, ◌<◌, List, [], ◌∷◌, Option, length, ap, refl, sym, ◌∙◌, arith}
+use Rattle.std.specs.Prelude.{slice_index_or, codes, find, true, if◌then◌else◌}
+use Rattle.std.specs.Option.{ok_or, option_map}
 use Rattle.std.specs.Str.{bytes_eq, str_to_ascii_lowercase}
 use Rattle.std.proofs.lemmas.Slice.Eq.{bytes_eq-Decides}
-use Rattle.std.specs.Option.{ok_or}
+use Rattle.nut_proto.specs.declared.keyword.Command.{Command}
 use Rattle.nut_proto.specs.declared.refusal.Refusal.TheVariants.{InvalidArgument}
-use Rattle.nut_proto.specs.declared.keyword.Command.TheVariants as commands
-use Rattle.nut_proto.specs.declared.keyword.Subject.{Subject}
-use Rattle.nut_proto.specs.declared.keyword.Subject.TheVariants as subjects
-use Rattle.nut_proto.specs.Keywords.{all_commands, all_subjects, command_name, command_of, is_named, subject_name, subject_of}
-use Rattle.nut_proto.specs.Forms.{meaning}
-use Rattle.nut_proto.specs.inside.Steps.{get_about, list_about}
-use Rattle.nut_proto.proofs.Agreement.{command_means}
+use Rattle.nut_proto.specs.declared.request.Request.{Request}
+use Rattle.nut_proto.specs.declared.request.Request.TheVariants as requests
+use Rattle.nut_proto.specs.declared.request.ListQuery.{ListQuery}
+use Rattle.nut_proto.specs.Keywords.{all_commands, command_name, command_of, is_named}
+use Rattle.nut_proto.specs.Forms.{meaning, meaning_by}
+use Rattle.nut_proto.specs.Requests.{Form, first_named, get_forms, list_forms}
 
-pub get_means : (verb s : List ℕ) (words : List (List ℕ)) (k : Subject) → command_of verb ≡ Some commands.Get → subject_of s ≡ Some k
-    → meaning (verb ∷ s ∷ words) ≡ ok_or (get_about (Some k) words) InvalidArgument
-get_means verb s words k is about =
-    sym (command_means (verb ∷ s ∷ words) verb (s ∷ words) commands.Get refl is) ∙ ap (λ (o : Option Subject). ok_or (get_about o words) InvalidArgument) about
-
-pub list_means : (verb s : List ℕ) (words : List (List ℕ)) (k : Subject) → command_of verb ≡ Some commands.List → subject_of s ≡ Some k
-    → meaning (verb ∷ s ∷ words) ≡ ok_or (list_about (Some k) words) InvalidArgument
-list_means verb s words k is about =
-    sym (command_means (verb ∷ s ∷ words) verb (s ∷ words) commands.List refl is) ∙ ap (λ (o : Option Subject). ok_or (list_about o words) InvalidArgument) about
-
--- words that name a command or a subject
+-- a word that names a form or a command counts as its name
 lowered : (word name : List ℕ) → true ≡ is_named word name → str_to_ascii_lowercase word ≡ str_to_ascii_lowercase name
 lowered word name is = (bytes_eq-Decides _ _).0 (sym is)
 
-pub names_get : (word : List ℕ) → true ≡ is_named word (codes "GET") → command_of word ≡ Some commands.Get
+named_alike : {A : Type 0} (forms : List (Form A)) (word name : List ℕ) (words : List (List ℕ)) → str_to_ascii_lowercase word ≡ str_to_ascii_lowercase name
+    → first_named forms word words ≡ first_named forms name words
+named_alike [] word name words same = refl
+named_alike (form ∷ forms) word name words same =
+    ap (λ w. if bytes_eq w (str_to_ascii_lowercase form.0) then form.1 words else first_named forms word words) same
+    ∙ ap (λ made. if is_named name form.0 then form.1 words else made) (named_alike forms word name words same)
+
+command_alike : (word name : List ℕ) → true ≡ is_named word name → command_of word ≡ command_of name
 unfolding command_of
-names_get word is = ap (λ w. find (λ command. bytes_eq w (str_to_ascii_lowercase (command_name command))) all_commands) (lowered word (codes "GET") is)
+command_alike word name is = ap (λ w. find (λ command. bytes_eq w (str_to_ascii_lowercase (command_name command))) all_commands) (lowered word name is)
 
-pub names_list : (word : List ℕ) → true ≡ is_named word (codes "LIST") → command_of word ≡ Some commands.List
-unfolding command_of
-names_list word is = ap (λ w. find (λ command. bytes_eq w (str_to_ascii_lowercase (command_name command))) all_commands) (lowered word (codes "LIST") is)
+pub get_means : (verb s name : List ℕ) (words : List (List ℕ)) → true ≡ is_named verb (codes "GET") → true ≡ is_named s name
+    → meaning (verb ∷ s ∷ words) ≡ ok_or (first_named get_forms name words) InvalidArgument
+unfolding meaning command_of
+get_means verb s name words gets is =
+    ap (λ (command : Option Command). meaning_by command (s ∷ words)) (command_alike verb (codes "GET") gets)
+    ∙ ap (λ (made : Option Request). ok_or made InvalidArgument) (named_alike get_forms s name words (lowered s name is))
 
-pub names_var : (word : List ℕ) → true ≡ is_named word (codes "VAR") → subject_of word ≡ Some subjects.Var
-unfolding subject_of
-names_var word is = ap (λ w. find (λ subject. bytes_eq w (str_to_ascii_lowercase (subject_name subject))) all_subjects) (lowered word (codes "VAR") is)
-
-pub names_upsdesc : (word : List ℕ) → true ≡ is_named word (codes "UPSDESC") → subject_of word ≡ Some subjects.UpsDesc
-unfolding subject_of
-names_upsdesc word is = ap (λ w. find (λ subject. bytes_eq w (str_to_ascii_lowercase (subject_name subject))) all_subjects) (lowered word (codes "UPSDESC") is)
+pub list_means : (verb s name : List ℕ) (words : List (List ℕ)) → true ≡ is_named verb (codes "LIST") → true ≡ is_named s name
+    → meaning (verb ∷ s ∷ words) ≡ ok_or (option_map (λ query. requests.List query) (first_named list_forms name words)) InvalidArgument
+unfolding meaning command_of
+list_means verb s name words lists is =
+    ap (λ (command : Option Command). meaning_by command (s ∷ words)) (command_alike verb (codes "LIST") lists)
+    ∙ ap (λ (made : Option ListQuery). ok_or (option_map (λ query. requests.List query) made) InvalidArgument) (named_alike list_forms s name words (lowered s name is))
 
 -- lists of one and of two
 pub one_of : {A : Type 0} (xs : List A) (d : A) → 1 ≤ length xs → length xs < 2 → xs ≡ slice_index_or xs 0 d ∷ []

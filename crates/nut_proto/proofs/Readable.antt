@@ -1,22 +1,22 @@
 -- A request that words make is within its own bounds.
-use Rattle.std.proofs.Common.{◌≡◌, ℕ, ◌+◌, ◌-◌, ◌*◌, ◌<◌, ◌≤◌, ◌==◌, Bool, true, false, List, [], ◌∷◌, fold, inl, inr, refl, subst, Option, Some, None, Ok, IsTrue, arith}
-use Rattle.std.specs.Prelude.{◌&&◌, if◌then◌else◌}
-use Rattle.std.specs.List.{list_all}
+use Rattle.std.proofs.Common.{◌≡◌, ℕ, ◌+◌, ◌-◌, ◌*◌, ◌<◌, ◌≤◌, ◌==◌, Bool, true, false, List, [], ◌∷◌, fold, inl, inr, refl, subst, Option, Some, None, Ok, IsTrue, arith, rules}
+use Rattle.std.specs.Prelude.{◌&&◌}
+use Rattle.std.specs.List.{AllByRecursion, list_all}
 use Rattle.std.specs.Char.{is_ascii_digit}
-use Rattle.std.specs.Option.{ok_or, option_map, option_or}
+use Rattle.std.specs.Option.{ok_or, option_map}
 use Rattle.std.proofs.lemmas.Bool.{cases_Bool}
 use Rattle.std.proofs.lemmas.Bool.Decides.{nat_tests}
 use Rattle.nut_words.specs.Number.{digits_value, is_natural}
 use Rattle.nut_proto.specs.declared.request.Request.{Request}
 use Rattle.nut_proto.specs.declared.request.Request.TheVariants as requests
-use Rattle.nut_proto.specs.declared.request.ListQuery.TheVariants as queries
+use Rattle.nut_proto.specs.declared.request.ListQuery.{ListQuery}
 use Rattle.nut_proto.specs.declared.refusal.Refusal.TheVariants.{InvalidArgument}
 use Rattle.nut_proto.specs.declared.keyword.Command.{Command}
-use Rattle.nut_proto.specs.declared.keyword.Subject.{Subject}
-use Rattle.nut_proto.specs.declared.keyword.Subject.TheVariants as subjects
-use Rattle.nut_proto.specs.Keywords.{subject_of, is_subject, is_command, command_of}
+use Rattle.nut_proto.specs.declared.keyword.Command.TheVariants as commands
+use Rattle.nut_proto.specs.Keywords.{command_of, is_named}
 use Rattle.nut_proto.specs.Rules.{none, one, two, three, credential, is_credential, numbered, switched}
-use Rattle.nut_proto.specs.Forms.{Rule, Form, about, forms, first_fit, meaning_by, meaning}
+use Rattle.nut_proto.specs.Forms.{meaning_by, meaning}
+use Rattle.nut_proto.specs.Requests.{Rule, Form, about, first_named, get_forms, get_tracking, inst_cmd, list_forms, request_by, set_forms}
 use Rattle.nut_proto.specs.Tracking.{IsTrackingNumber, switch, tracking_number}
 use Rattle.nut_proto.specs.laws.ReadBack.{IsReadable, ReadRequestsAreReadable}
 use Rattle.nut_proto.proofs.Numbers.{natural_below, natural_parts}
@@ -25,12 +25,8 @@ abbrev IsMade : Option Request → Type 0
 IsMade None = Unit {0}
 IsMade (Some request) = IsReadable request
 
-abbrev MakesReadable : Rule → Type 0
+abbrev MakesReadable : Rule Request → Type 0
 MakesReadable rule = (words : List (List ℕ)) → IsMade (rule words)
-
-abbrev AllMakeReadable : List Form → Type 0
-AllMakeReadable [] = Unit {0}
-AllMakeReadable (f ∷ fs) = MakesReadable f.rule × AllMakeReadable fs
 
 of_none : (made : Request) → IsReadable made → MakesReadable (none made)
 of_none made is [] = is
@@ -107,110 +103,49 @@ of_number (x ∷ y ∷ ys) = tt
 
 -- ---- all forms
 
-of_about : (subject : Subject) (rule : Rule) → MakesReadable rule → MakesReadable (about subject rule)
-of_about subject rule is [] = tt
-of_about subject rule is (x ∷ xs) = elim (cases_Bool (is_subject subject (subject_of x))) [ inl e ↦ rw e (is xs) | inr e ↦ rw e tt ]
+of_query : (query : Option ListQuery) → IsMade (option_map (λ query. requests.List query) query)
+of_query None = tt
+of_query (Some query) = tt
 
-all_readable : AllMakeReadable forms
-all_readable = (
-  of_about subjects.NumLogins (one (λ x. requests.GetNumLogins x)) (of_one (λ x. requests.GetNumLogins x) (λ x. tt)),
-  (
-    of_about subjects.UpsDesc (one (λ x. requests.GetUpsDesc x)) (of_one (λ x. requests.GetUpsDesc x) (λ x. tt)),
-    (
-      of_about subjects.Var (two (λ x y. requests.GetVar x y)) (of_two (λ x y. requests.GetVar x y) (λ x y. tt)),
-      (
-        of_about subjects.Type (two (λ x y. requests.GetType x y)) (of_two (λ x y. requests.GetType x y) (λ x y. tt)),
-        (
-          of_about subjects.Desc (two (λ x y. requests.GetDesc x y)) (of_two (λ x y. requests.GetDesc x y) (λ x y. tt)),
-          (
-            of_about subjects.CmdDesc (two (λ x y. requests.GetCmdDesc x y)) (of_two (λ x y. requests.GetCmdDesc x y) (λ x y. tt)),
-            (
-              of_about subjects.Tracking (none requests.GetTracking) (of_none requests.GetTracking tt),
-              (
-                of_about subjects.Tracking (numbered (λ n. requests.GetTrackingOf n)) of_number,
-                (
-                  of_about subjects.Ups (none (requests.List queries.Ups)) (of_none (requests.List queries.Ups) tt),
-                  (
-                    of_about subjects.Var (one (λ x. requests.List (queries.Var x))) (of_one (λ x. requests.List (queries.Var x)) (λ x. tt)),
-                    (
-                      of_about subjects.Rw (one (λ x. requests.List (queries.Rw x))) (of_one (λ x. requests.List (queries.Rw x)) (λ x. tt)),
-                      (
-                        of_about subjects.Cmd (one (λ x. requests.List (queries.Cmd x))) (of_one (λ x. requests.List (queries.Cmd x)) (λ x. tt)),
-                        (
-                          of_about subjects.Enum (two (λ x y. requests.List (queries.Enum x y))) (of_two (λ x y. requests.List (queries.Enum x y)) (λ x y. tt)),
-                          (
-                            of_about subjects.Range (two (λ x y. requests.List (queries.Range x y))) (of_two (λ x y. requests.List (queries.Range x y)) (λ x y. tt)),
-                            (
-                              of_about subjects.Client (one (λ x. requests.List (queries.Client x))) (of_one (λ x. requests.List (queries.Client x)) (λ x. tt)),
-                              (
-                                of_about subjects.Var (three (λ x y z. requests.SetVar x y z)) (of_three (λ x y z. requests.SetVar x y z) (λ x y z. tt)),
-                                (
-                                  of_about subjects.Tracking (switched (λ on. requests.SetTracking on)) (of_switched (λ on. requests.SetTracking on) (λ on. tt)),
-                                  (
-                                    of_two (λ x y. requests.InstCmd x y None) (λ x y. tt),
-                                    (
-                                      of_three (λ x y z. requests.InstCmd x y (Some z)) (λ x y z. tt),
-                                      (
-                                        of_credential (λ x. requests.Username x) (λ x is. is),
-                                        (
-                                          of_credential (λ x. requests.Password x) (λ x is. is),
-                                          (
-                                            of_one (λ x. requests.Login x) (λ x. tt),
-                                            (
-                                              of_one (λ x. requests.Primary x) (λ x. tt),
-                                              (
-                                                of_one (λ x. requests.Fsd x) (λ x. tt),
-                                                (
-                                                  of_none requests.Logout tt,
-                                                  (
-                                                    of_none requests.Ver tt,
-                                                    (
-                                                      of_none requests.NetVer tt,
-                                                      (
-                                                        of_none requests.Help tt,
-                                                        (
-                                                          of_none requests.StartTls tt,
-                                                          tt,
-                                                        ),
-                                                      ),
-                                                    ),
-                                                  ),
-                                                ),
-                                              ),
-                                            ),
-                                          ),
-                                        ),
-                                      ),
-                                    ),
-                                  ),
-                                ),
-                              ),
-                            ),
-                          ),
-                        ),
-                      ),
-                    ),
-                  ),
-                ),
-              ),
-            ),
-          ),
-        ),
-      ),
-    ),
-  ),
-)
+of_about : (forms : List (Form Request)) → AllByRecursion (λ form. MakesReadable form.1) forms → MakesReadable (about forms)
+of_about forms all [] = tt
+of_about forms all (word ∷ words) = go forms all where
+  go : (forms : List (Form Request)) → AllByRecursion (λ form. MakesReadable form.1) forms → IsMade (first_named forms word words)
+  go [] all = tt
+  go (form ∷ forms) all = elim (cases_Bool (is_named word form.0)) [ inl e ↦ rw e (all.0 words) | inr e ↦ rw e (go forms all.1) ]
 
-of_either : (a b : Option Request) → IsMade a → IsMade b → IsMade (option_or a b)
-of_either None b is is' = is'
-of_either (Some r) b is is' = is
+of_inst_cmd : MakesReadable inst_cmd
+of_inst_cmd [] = tt
+of_inst_cmd (ups ∷ []) = tt
+of_inst_cmd (ups ∷ command ∷ []) = tt
+of_inst_cmd (ups ∷ command ∷ parameter ∷ []) = tt
+of_inst_cmd (ups ∷ command ∷ parameter ∷ word ∷ words) = tt
 
-of_fit : (fs : List Form) (command : Command) (words : List (List ℕ)) → AllMakeReadable fs → IsMade (first_fit fs command words)
-of_fit [] command words all = tt
-of_fit (f ∷ fs) command words all = of_either _ _ (here (is_command f.command command)) (of_fit fs command words all.1) where
-  here : (b : Bool) → IsMade (if b then f.rule words else None)
-  here true = all.0 words
-  here false = tt
+of_get_tracking : MakesReadable get_tracking
+of_get_tracking [] = tt
+of_get_tracking (word ∷ words) = of_number (word ∷ words)
+
+get_readable : AllByRecursion (λ form. MakesReadable form.1) get_forms
+get_readable = search (rules, of_one, of_two, of_get_tracking)
+
+set_readable : AllByRecursion (λ form. MakesReadable form.1) set_forms
+set_readable = search (rules, of_three, of_switched)
+
+readable : (command : Command) → MakesReadable (request_by command)
+readable commands.Get words = of_about get_forms get_readable words
+readable commands.List words = of_query (about list_forms words)
+readable commands.Set words = of_about set_forms set_readable words
+readable commands.InstCmd words = of_inst_cmd words
+readable commands.Username words = of_credential requests.Username (λ x is. is) words
+readable commands.Password words = of_credential requests.Password (λ x is. is) words
+readable commands.Login words = of_one requests.Login (λ x. tt) words
+readable commands.Primary words = of_one requests.Primary (λ x. tt) words
+readable commands.Fsd words = of_one requests.Fsd (λ x. tt) words
+readable commands.Logout words = of_none requests.Logout tt words
+readable commands.Ver words = of_none requests.Ver tt words
+readable commands.NetVer words = of_none requests.NetVer tt words
+readable commands.Help words = of_none requests.Help tt words
+readable commands.StartTls words = of_none requests.StartTls tt words
 
 of_result : (o : Option Request) (request : Request) → IsMade o → ok_or o InvalidArgument ≡ Ok request → IsReadable request
 of_result None request is e = cc
@@ -220,7 +155,7 @@ of_result (Some r) request is e =
 
 of_meaning : (o : Option Command) (words : List (List ℕ)) (request : Request) → meaning_by o words ≡ Ok request → IsReadable request
 of_meaning None words request e = cc
-of_meaning (Some command) words request e = of_result (first_fit forms command words) request (of_fit forms command words all_readable) e
+of_meaning (Some command) words request e = of_result (request_by command words) request (readable command words) e
 
 pub read_requests_are_readable : ReadRequestsAreReadable
 unfolding meaning

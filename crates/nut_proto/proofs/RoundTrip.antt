@@ -1,8 +1,7 @@
 -- The words in which a message is written are read as what was meant.
 use Rattle.std.proofs.Common.{◌≡◌, ℕ, ◌≤◌, Bool, true, false, List, [], ◌∷◌, length, IsTrue, refl, ◌∙◌, cond, ap, arith, Option, Some, None, Ok, codes, decimal}
-use Rattle.std.specs.Option.{option_map, option_or, ok_or}
+use Rattle.std.specs.Option.{option_map, ok_or}
 use Rattle.nut_words.specs.Quoting.{IsPrintable}
-use Rattle.nut_proto.specs.declared.refusal.Refusal.{Refusal}
 use Rattle.nut_proto.specs.declared.refusal.Refusal.TheVariants.{InvalidArgument}
 use Rattle.nut_proto.specs.declared.request.Request.{Request}
 use Rattle.nut_proto.specs.declared.request.Request.TheVariants as requests
@@ -14,10 +13,10 @@ use Rattle.nut_proto.specs.declared.answer.Answer.TheVariants as answers
 use Rattle.nut_proto.specs.declared.driver_ask.DriverAsk.{DriverAsk}
 use Rattle.nut_proto.specs.declared.driver_ask.DriverAsk.TheVariants as asks
 use Rattle.nut_proto.specs.Lines.{message_words}
-use Rattle.nut_proto.specs.Keywords.{command_of, subject_of}
+use Rattle.nut_proto.specs.Keywords.{command_of}
 use Rattle.nut_proto.specs.Rules.{is_credential}
 use Rattle.nut_proto.specs.Forms.{meaning}
-use Rattle.nut_proto.specs.Requests.{request_parts, query_parts, begin_parts, end_parts}
+use Rattle.nut_proto.specs.Requests.{about, begin_parts, end_parts, list_forms, query_parts, request_parts}
 use Rattle.nut_proto.specs.Replies.{reply_parts}
 use Rattle.nut_proto.specs.DriverAsks.{ask_parts, ask_of, number_of}
 use Rattle.nut_proto.specs.Answers.{answer_of, answer_for}
@@ -26,51 +25,29 @@ use Rattle.nut_proto.specs.Tracking.{IsTrackingNumber}
 use Rattle.nut_proto.proofs.Spelling.{message_spelled}
 use Rattle.nut_proto.proofs.Numbers.{number_back}
 
-accepted : (b : Bool) (x : List ℕ) (request : List ℕ → Request) (refusal : Refusal) → IsTrue b → ok_or (option_or (option_map (λ y. request y) (cond b (Some x) None)) None) refusal ≡ Ok (request x)
-accepted true x request refusal h = refl
-accepted false x request refusal h = cc
+accepted : (b : Bool) (x : List ℕ) (request : List ℕ → Request) → IsTrue b → ok_or (option_map (λ y. request y) (cond b (Some x) None)) InvalidArgument ≡ Ok (request x)
+accepted true x request h = refl
+accepted false x request h = cc
+
+query_back : (query : ListQuery) → about list_forms (message_words (query_parts query)) ≡ Some query
+query_back queries.Ups = refl
+query_back query = refl
 
 meaning_back : (request : Request) → IsReadable request → meaning (message_words (request_parts request)) ≡ Ok request
-unfolding meaning command_of subject_of
-meaning_back (requests.GetNumLogins ups) h = refl
-meaning_back (requests.GetUpsDesc ups) h = refl
-meaning_back (requests.GetVar ups variable) h = refl
-meaning_back (requests.GetType ups variable) h = refl
-meaning_back (requests.GetDesc ups variable) h = refl
-meaning_back (requests.GetCmdDesc ups command) h = refl
-meaning_back (requests.List queries.Ups) h = refl
-meaning_back (requests.List (queries.Var ups)) h = refl
-meaning_back (requests.List (queries.Rw ups)) h = refl
-meaning_back (requests.List (queries.Cmd ups)) h = refl
-meaning_back (requests.List (queries.Enum ups variable)) h = refl
-meaning_back (requests.List (queries.Range ups variable)) h = refl
-meaning_back (requests.List (queries.Client ups)) h = refl
-meaning_back (requests.SetVar ups variable value) h = refl
-meaning_back requests.GetTracking h = refl
-meaning_back (requests.GetTrackingOf number) h = ap (λ (read : Option ℕ). ok_or (option_or (option_map (λ n. requests.GetTrackingOf n) read) None) InvalidArgument) (number_back number h)
+unfolding meaning command_of
+meaning_back (requests.List query) h = ap (λ (made : Option ListQuery). ok_or (option_map (λ q. requests.List q) made) InvalidArgument) (query_back query)
+meaning_back (requests.GetTrackingOf number) h = ap (λ (read : Option ℕ). ok_or (option_map (λ n. requests.GetTrackingOf n) read) InvalidArgument) (number_back number h)
 meaning_back (requests.SetTracking true) h = refl
 meaning_back (requests.SetTracking false) h = refl
 meaning_back (requests.InstCmd ups command None) h = refl
 meaning_back (requests.InstCmd ups command (Some parameter)) h = refl
-meaning_back (requests.Login ups) h = refl
-meaning_back (requests.Primary ups) h = refl
-meaning_back (requests.Fsd ups) h = refl
-meaning_back requests.Logout h = refl
-meaning_back requests.Ver h = refl
-meaning_back requests.NetVer h = refl
-meaning_back requests.Help h = refl
-meaning_back requests.StartTls h = refl
-meaning_back (requests.Username name) h = accepted (is_credential name) name requests.Username _ h
-meaning_back (requests.Password password) h = accepted (is_credential password) password requests.Password _ h
+meaning_back (requests.Username name) h = accepted (is_credential name) name requests.Username h
+meaning_back (requests.Password password) h = accepted (is_credential password) password requests.Password h
+meaning_back request h = refl
 
 short_query : (query : ListQuery) → length (query_parts query) ≤ 3
 short_query queries.Ups = omega arith
-short_query (queries.Var ups) = omega arith
-short_query (queries.Rw ups) = omega arith
-short_query (queries.Cmd ups) = omega arith
-short_query (queries.Enum ups variable) = omega arith
-short_query (queries.Range ups variable) = omega arith
-short_query (queries.Client ups) = omega arith
+short_query query = omega arith
 
 short_request : (request : Request) → length (request_parts request) ≤ 32
 short_request (requests.List query) = omega (arith, short_query query)
@@ -123,24 +100,16 @@ numbered_back number h = ap (λ (read : Option ℕ). option_map (λ n. Some n) r
 
 ask_back : (ask : DriverAsk) → IsNumbered ask → ask_of (message_words (ask_parts ask)) ≡ Some ask
 unfolding ask_of
-ask_back asks.Ping h = refl
-ask_back asks.DumpAll h = refl
-ask_back (asks.Set variable value None) h = refl
 ask_back (asks.Set variable value (Some number)) h = ap (λ (read : Option (Option ℕ)). option_map (λ n. asks.Set variable value n) read) (numbered_back number h)
-ask_back (asks.InstCmd command None None) h = refl
-ask_back (asks.InstCmd command (Some parameter) None) h = refl
 ask_back (asks.InstCmd command None (Some number)) h = ap (λ (read : Option (Option ℕ)). option_map (λ n. asks.InstCmd command None n) read) (numbered_back number h)
 ask_back (asks.InstCmd command (Some parameter) (Some number)) h = ap (λ (read : Option (Option ℕ)). option_map (λ n. asks.InstCmd command (Some parameter) n) read) (numbered_back number h)
+ask_back ask h = refl
 
 short_ask : (ask : DriverAsk) → length (ask_parts ask) ≤ 32
-short_ask asks.Ping = omega arith
-short_ask asks.DumpAll = omega arith
-short_ask (asks.Set variable value None) = omega arith
 short_ask (asks.Set variable value (Some number)) = omega arith
-short_ask (asks.InstCmd command None None) = omega arith
-short_ask (asks.InstCmd command (Some parameter) None) = omega arith
 short_ask (asks.InstCmd command None (Some number)) = omega arith
 short_ask (asks.InstCmd command (Some parameter) (Some number)) = omega arith
+short_ask ask = omega arith
 
 pub asks_are_read : AsksAreRead
 asks_are_read ask writable numbered = (message_spelled (ask_parts ask) writable (short_ask ask), ask_back ask numbered)

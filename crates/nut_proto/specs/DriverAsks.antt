@@ -19,7 +19,8 @@ abbrev pub ask_parts : DriverAsk → List Part
 ask_parts asks.Ping = Word (codes "PING") ∷ []
 ask_parts asks.DumpAll = Word (codes "DUMPALL") ∷ []
 ask_parts (asks.Set variable value number) = Word (codes "SET") ∷ Word variable ∷ Quoted value ∷ number_parts number
-ask_parts (asks.InstCmd command parameter number) = Word (codes "INSTCMD") ∷ Word command ∷ (parameter_parts parameter ++ number_parts number)
+ask_parts (asks.InstCmd command parameter number) =
+    Word (codes "INSTCMD") ∷ Word command ∷ (parameter_parts parameter ++ number_parts number)
 
 -- the line of a request
 unfoldable pub ask_line : DriverAsk → List ℕ
@@ -42,7 +43,8 @@ command_of [] = None
 command_of (command ∷ []) = Some (asks.InstCmd command None None)
 command_of (command ∷ parameter ∷ []) = Some (asks.InstCmd command (Some parameter) None)
 command_of (command ∷ a ∷ b ∷ []) = option_map (λ number. asks.InstCmd command None number) (number_of (a ∷ b ∷ []))
-command_of (command ∷ parameter ∷ a ∷ b ∷ words) = option_map (λ number. asks.InstCmd command (Some parameter) number) (number_of (a ∷ b ∷ words))
+command_of (command ∷ parameter ∷ a ∷ b ∷ words) =
+    option_map (λ number. asks.InstCmd command (Some parameter) number) (number_of (a ∷ b ∷ words))
 
 -- the request to a driver that the words of a line make, if they make one; the number of words must match exactly
 unfoldable pub ask_of : List (List ℕ) → Option DriverAsk

@@ -3,6 +3,7 @@ use Rattle.std.specs.Prelude.{ℕ, ◌<◌, ◌^◌, List, [], ◌∷◌, ◌++�
 use Rattle.std.specs.Fmt.{signed_decimal}
 use Rattle.std.specs.Int.Signed.{mag}
 use Rattle.std.specs.List.{AllByRecursion, join_by}
+use Rattle.nut_words.specs.Bytes.{blank, line_feed}
 use Rattle.nut_words.specs.Quoting.{IsPrintable, word_text, quoted}
 use Rattle.nut_proto.specs.declared.part.Part.{Part}
 use Rattle.nut_proto.specs.declared.part.Part.TheVariants.{Word, Quoted, Number, QuotedNumber, StringOf}
@@ -29,11 +30,11 @@ message_words parts = map part_word parts
 
 -- the parts with a space between two
 abbrev pub message : List Part → List ℕ
-message parts = join_by part_text (32 ∷ []) parts
+message parts = join_by part_text (blank ∷ []) parts
 
 -- a message and its line feed
 unfoldable pub line : List Part → List ℕ
-line parts = message parts ++ 10 ∷ []
+line parts = message parts ++ line_feed ∷ []
 
 -- The bytes of the part are 0x20 to 0x7E, or its number is one of 32 bits.
 abbrev pub IsWritable : Part → Type 0

@@ -14,7 +14,8 @@ use Rattle.nut_proto.specs.Tracking.{status_word, switch_word}
 -- the reply to VER
 abbrev pub version_parts : List Part
 version_parts =
-    Word (codes "Network") ∷ Word (codes "UPS") ∷ Word (codes "Tools") ∷ Word (codes "upsd") ∷ Word (codes "profile") ∷ Word (codes "1.3") ∷ []
+    Word (codes "Network") ∷ Word (codes "UPS") ∷ Word (codes "Tools") ∷
+    Word (codes "upsd") ∷ Word (codes "profile") ∷ Word (codes "1.3") ∷ []
 
 -- the reply to HELP
 abbrev pub commands_parts : List Part
@@ -55,7 +56,8 @@ reply_parts (replies.Ups ups description) = Word (codes "UPS") ∷ Word ups ∷ 
 reply_parts (replies.Rw ups variable value) = Word (codes "RW") ∷ Word ups ∷ Word variable ∷ Quoted value ∷ []
 reply_parts (replies.Cmd ups command) = Word (codes "CMD") ∷ Word ups ∷ Word command ∷ []
 reply_parts (replies.Enum ups variable value) = Word (codes "ENUM") ∷ Word ups ∷ Word variable ∷ Quoted value ∷ []
-reply_parts (replies.Range ups variable min max) = Word (codes "RANGE") ∷ Word ups ∷ Word variable ∷ QuotedNumber min ∷ QuotedNumber max ∷ []
+reply_parts (replies.Range ups variable min max) =
+    Word (codes "RANGE") ∷ Word ups ∷ Word variable ∷ QuotedNumber min ∷ QuotedNumber max ∷ []
 reply_parts (replies.Client ups address) = Word (codes "CLIENT") ∷ Word ups ∷ Word address ∷ []
 
 -- the line of a reply

@@ -1,13 +1,96 @@
--- How requests are written, and the lines before and after the rows of a list (RFC 9271).
-use Rattle.std.specs.Prelude.{ℕ, List, [], ◌∷◌, Option, Some, None, codes}
+-- The requests of a client: the forms in which they are read, how they are written, and the lines before and after the rows
+-- of a list (RFC 9271).
+use Rattle.std.specs.Prelude.{ℕ, List, [], ◌∷◌, Option, Some, None, codes, if◌then◌else◌}
+use Rattle.std.specs.Option.{option_map}
 use Rattle.nut_proto.specs.declared.request.Request.{Request}
 use Rattle.nut_proto.specs.declared.request.Request.TheVariants as requests
 use Rattle.nut_proto.specs.declared.request.ListQuery.{ListQuery}
 use Rattle.nut_proto.specs.declared.request.ListQuery.TheVariants as queries
+use Rattle.nut_proto.specs.declared.keyword.Command.{Command}
+use Rattle.nut_proto.specs.declared.keyword.Command.TheVariants as commands
 use Rattle.nut_proto.specs.declared.part.Part.{Part}
 use Rattle.nut_proto.specs.declared.part.Part.TheVariants.{Word, Quoted, Number}
+use Rattle.nut_proto.specs.Keywords.{is_named}
 use Rattle.nut_proto.specs.Lines.{line}
+use Rattle.nut_proto.specs.Rules.{none, one, two, three, credential, numbered, switched, optional_word}
 use Rattle.nut_proto.specs.Tracking.{switch_word}
+
+-- ---- how requests are read
+
+-- what the words after a command word make, if they make anything
+abbrev pub Rule : Type 0 → Type 0
+Rule A = List (List ℕ) → Option A
+
+-- A form has a word and a rule for the words behind it.
+abbrev pub Form : Type 0 → Type 0
+Form A = List ℕ × Rule A
+
+-- what the rule of the first form whose word this is makes of the words behind it
+abbrev pub first_named : {A : Type 0} → List (Form A) → List ℕ → Rule A
+first_named [] word words = None
+first_named (form ∷ forms) word words = if is_named word form.0 then form.1 words else first_named forms word words
+
+-- what words make the first of which names a form
+abbrev pub about : {A : Type 0} → List (Form A) → Rule A
+about forms [] = None
+about forms (word ∷ words) = first_named forms word words
+
+-- GET TRACKING, with a number or without one
+abbrev pub get_tracking : Rule Request
+get_tracking [] = Some requests.GetTracking
+get_tracking (number ∷ words) = numbered requests.GetTrackingOf (number ∷ words)
+
+-- INSTCMD, with a parameter or without one
+abbrev pub inst_cmd : Rule Request
+inst_cmd (ups ∷ command ∷ words) = option_map (λ parameter. requests.InstCmd ups command parameter) (optional_word words)
+inst_cmd words = None
+
+-- the forms of GET
+abbrev pub get_forms : List (Form Request)
+get_forms =
+    (codes "NUMLOGINS", one requests.GetNumLogins) ∷
+    (codes "UPSDESC", one requests.GetUpsDesc) ∷
+    (codes "VAR", two requests.GetVar) ∷
+    (codes "TYPE", two requests.GetType) ∷
+    (codes "DESC", two requests.GetDesc) ∷
+    (codes "CMDDESC", two requests.GetCmdDesc) ∷
+    (codes "TRACKING", get_tracking) ∷
+    []
+
+-- the forms of LIST
+abbrev pub list_forms : List (Form ListQuery)
+list_forms =
+    (codes "UPS", none queries.Ups) ∷
+    (codes "VAR", one queries.Var) ∷
+    (codes "RW", one queries.Rw) ∷
+    (codes "CMD", one queries.Cmd) ∷
+    (codes "ENUM", two queries.Enum) ∷
+    (codes "RANGE", two queries.Range) ∷
+    (codes "CLIENT", one queries.Client) ∷
+    []
+
+-- the forms of SET
+abbrev pub set_forms : List (Form Request)
+set_forms = (codes "VAR", three requests.SetVar) ∷ (codes "TRACKING", switched requests.SetTracking) ∷ []
+
+-- the request that a command and the words behind it make, if they make one
+abbrev pub request_by : Command → Rule Request
+request_by commands.Get words = about get_forms words
+request_by commands.List words = option_map (λ query. requests.List query) (about list_forms words)
+request_by commands.Set words = about set_forms words
+request_by commands.InstCmd words = inst_cmd words
+request_by commands.Username words = credential requests.Username words
+request_by commands.Password words = credential requests.Password words
+request_by commands.Login words = one requests.Login words
+request_by commands.Primary words = one requests.Primary words
+request_by commands.Fsd words = one requests.Fsd words
+request_by commands.Logout words = none requests.Logout words
+request_by commands.Ver words = none requests.Ver words
+request_by commands.NetVer words = none requests.NetVer words
+request_by commands.Help words = none requests.Help words
+request_by commands.StartTls words = none requests.StartTls words
+
+-- ---- how requests are written
 
 -- the words after LIST
 abbrev pub query_parts : ListQuery → List Part

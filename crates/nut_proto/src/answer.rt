@@ -114,6 +114,7 @@ impl ErrorName<'_> {
 ///
 /// [`AnswerFault::Unreadable`] if the line doesn't read as words, [`AnswerFault::Empty`] if it has none, and
 /// [`AnswerFault::Memory`] if memory cannot be allocated, which can happen only if the line has a backslash.
+#[tactic(auto, using(std::proofs::lemmas::Grind::common_steps))]
 pub fn read_answer<'a>(alloc: Global, line: &'a [u8]) -> Result<Answer<'a>, AnswerFault>
     ensures answer { result ≢ Err AnswerFault.Memory → result ≡ answer_in line.now }
     ensures memory { result ≡ Err AnswerFault.Memory → IsTrue (has_backslash line.now) }

@@ -1,9 +1,8 @@
 //! The requests that the server sends to a driver.
-ghost use Rattle.std.specs.Prelude.{◌≡◌, ◌++◌, length, OnOk, OnErr};
-ghost use Rattle.nut_proto.specs.Lines.{line};
+ghost use Rattle.std.specs.Prelude.{◌≡◌, ◌++◌, ◌∷◌, length, OnOk, OnErr};
 ghost use Rattle.nut_words.specs.Out.{Fits, Exceeds};
-ghost use Rattle.nut_proto.specs.DriverAsks.{ask_line, ask_of, ask_parts, command_of, number_of, set_of};
-ghost use Rattle.nut_proto.specs.inside.Written.{written};
+ghost use Rattle.nut_proto.specs.DriverAsks.{ask_line, ask_of, command_of, number_of, number_parts, set_of};
+ghost use Rattle.nut_proto.specs.inside.Written.{line_from, written};
 
 use crate::cursor::Cursor;
 use crate::keyword::is_named;
@@ -85,74 +84,46 @@ impl<'a> DriverAsk<'a> {
                 variable,
                 value,
                 number,
-            } => set_line(variable, value, *number),
+            } => valued_line(b"SET", variable, value, *number),
             DriverAsk::InstCmd {
                 command,
-                parameter,
+                parameter: None,
                 number,
-            } => command_line(command, parameter, *number),
+            } => named_line(b"INSTCMD", command, *number),
+            DriverAsk::InstCmd {
+                command,
+                parameter: Some(parameter),
+                number,
+            } => valued_line(b"INSTCMD", command, parameter, *number),
         }
     }
 }
 
-/// Returns the line of a request to set a variable.
-#[tactic(auto, unfolding(crate::specs::Lines::line))]
-fn set_line<'a>(variable: &Word<'a>, value: &Word<'a>, number: Option<u32>) -> Line<'a>
-    ensures { written result ≡ line (ask_parts (DriverAsk.Set variable.now value.now number)) }
+/// Returns the line of these words and this name, with the number if the request has one.
+fn named_line<'a>(words: &'static [u8], name: &Word<'a>, number: Option<u32>) -> Line<'a>
+    ensures { written result ≡ line_from words.entry.now (Part.Word name.now ∷ number_parts number) }
 {
     match number {
-        None => Line::of_name_and_text(b"SET", variable, value),
-        Some(number) => Line::Four(
-            b"SET",
-            word(variable),
-            quoted(value),
-            text(b"TRACKING"),
-            Part::Number(number),
-        ),
+        None => Line::of_name(words, name),
+        Some(number) => Line::Three(words, word(name), text(b"TRACKING"), Part::Number(number)),
     }
 }
 
-/// Returns the line of a request to run a command.
-fn command_line<'a>(
-    command: &Word<'a>,
-    parameter: &Option<Word<'a>>,
+/// Returns the line of these words, this name and this text, with the number if the request has one.
+fn valued_line<'a>(
+    words: &'static [u8],
+    name: &Word<'a>,
+    value: &Word<'a>,
     number: Option<u32>,
 ) -> Line<'a>
-    ensures { written result ≡ line (ask_parts (DriverAsk.InstCmd command.now parameter.now number)) }
-{
-    match parameter {
-        None => plain_command_line(command, number),
-        Some(parameter) => command_line_with(command, parameter, number),
-    }
-}
-
-/// Returns the line of a request to run a command that has no parameter.
-#[tactic(auto, unfolding(crate::specs::Lines::line))]
-fn plain_command_line<'a>(command: &Word<'a>, number: Option<u32>) -> Line<'a>
-    ensures { written result ≡ line (ask_parts (DriverAsk.InstCmd command.now None number)) }
+    ensures { written result ≡ line_from words.entry.now (Part.Word name.now ∷ Part.Quoted value.now ∷ number_parts number) }
 {
     match number {
-        None => Line::of_name(b"INSTCMD", command),
-        Some(number) => Line::Three(
-            b"INSTCMD",
-            word(command),
-            text(b"TRACKING"),
-            Part::Number(number),
-        ),
-    }
-}
-
-/// Returns the line of a request to run a command with a parameter.
-#[tactic(auto, unfolding(crate::specs::Lines::line))]
-fn command_line_with<'a>(command: &Word<'a>, parameter: &Word<'a>, number: Option<u32>) -> Line<'a>
-    ensures { written result ≡ line (ask_parts (DriverAsk.InstCmd command.now (Some parameter.now) number)) }
-{
-    match number {
-        None => Line::of_name_and_text(b"INSTCMD", command, parameter),
+        None => Line::of_name_and_text(words, name, value),
         Some(number) => Line::Four(
-            b"INSTCMD",
-            word(command),
-            quoted(parameter),
+            words,
+            word(name),
+            quoted(value),
             text(b"TRACKING"),
             Part::Number(number),
         ),

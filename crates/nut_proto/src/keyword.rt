@@ -1,6 +1,6 @@
 //! The command words of a client's line.
 ghost use Rattle.std.specs.Prelude.{◌≡◌};
-ghost use Rattle.nut_proto.specs.Keywords.{command_name, command_of, is_named, subject_name, subject_of};
+ghost use Rattle.nut_proto.specs.Keywords.{command_name, command_of, is_named};
 
 /// The command that the first word of a request names.
 #[derive(Clone, Copy)]
@@ -21,24 +21,6 @@ pub enum Command {
     StartTls,
 }
 
-/// The word after GET, LIST or SET.
-#[derive(Clone, Copy)]
-pub enum Subject {
-    NumLogins,
-    UpsDesc,
-    Ups,
-    Var,
-    Type,
-    Desc,
-    CmdDesc,
-    Rw,
-    Cmd,
-    Enum,
-    Range,
-    Client,
-    Tracking,
-}
-
 const COMMANDS: [Command; 14] = [
     Command::Get,
     Command::List,
@@ -54,22 +36,6 @@ const COMMANDS: [Command; 14] = [
     Command::NetVer,
     Command::Help,
     Command::StartTls,
-];
-
-const SUBJECTS: [Subject; 13] = [
-    Subject::NumLogins,
-    Subject::UpsDesc,
-    Subject::Ups,
-    Subject::Var,
-    Subject::Type,
-    Subject::Desc,
-    Subject::CmdDesc,
-    Subject::Rw,
-    Subject::Cmd,
-    Subject::Enum,
-    Subject::Range,
-    Subject::Client,
-    Subject::Tracking,
 ];
 
 /// Whether the word is `name`, without regard to ASCII case.
@@ -109,39 +75,6 @@ impl Command {
             Command::NetVer => b"NETVER",
             Command::Help => b"HELP",
             Command::StartTls => b"STARTTLS",
-        }
-    }
-}
-
-impl Subject {
-    /// Returns the subject that the word after GET, LIST or SET names, if it names one.
-    #[tactic(auto, unfolding(crate::specs::Keywords::subject_of))]
-    pub fn of(word: &[u8]) -> Option<Subject>
-        ensures { result ≡ subject_of word.now }
-    {
-        SUBJECTS
-            .iter()
-            .copied()
-            .find(|subject| is_named(word, subject.name()))
-    }
-
-    fn name(self) -> &'static [u8]
-        ensures { result.now ≡ subject_name self }
-    {
-        match self {
-            Subject::NumLogins => b"NUMLOGINS",
-            Subject::UpsDesc => b"UPSDESC",
-            Subject::Ups => b"UPS",
-            Subject::Var => b"VAR",
-            Subject::Type => b"TYPE",
-            Subject::Desc => b"DESC",
-            Subject::CmdDesc => b"CMDDESC",
-            Subject::Rw => b"RW",
-            Subject::Cmd => b"CMD",
-            Subject::Enum => b"ENUM",
-            Subject::Range => b"RANGE",
-            Subject::Client => b"CLIENT",
-            Subject::Tracking => b"TRACKING",
         }
     }
 }

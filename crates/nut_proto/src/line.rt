@@ -74,6 +74,7 @@ impl<'a> Line<'a> {
 
 // A function for each number of parts: a match whose arms make arrays is costly to prove.
 
+#[tactic(auto, using(std::proofs::lemmas::Grind::common_steps))]
 fn put_bare<O: Out>(out: &mut O, words: &[u8]) -> Result<(), O::Fault>
     ensures { Puts O.most (O.held out.old) (O.held out.new) (line_from words.now []) result }
 {
@@ -117,7 +118,8 @@ fn put_four<O: Out>(
     third: Part<'_>,
     fourth: Part<'_>,
 ) -> Result<(), O::Fault>
-    ensures { Puts O.most (O.held out.old) (O.held out.new) (line_from words.now (first.entry ∷ second.entry ∷ third.entry ∷ fourth.entry ∷ [])) result }
+    ensures { Puts O.most (O.held out.old) (O.held out.new)
+        (line_from words.now (first.entry ∷ second.entry ∷ third.entry ∷ fourth.entry ∷ [])) result }
 {
     put_line(out, words, &[first, second, third, fourth])
 }

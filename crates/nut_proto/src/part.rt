@@ -1,6 +1,7 @@
 //! Writes the parts of a message.
 ghost use Rattle.std.specs.Prelude.{◌≡◌, ◌∷◌, [], ◌++◌, length, take, OnOk, OnErr, codes, decimal};
 ghost use Rattle.std.specs.List.{flat_map};
+ghost use Rattle.nut_words.specs.Bytes.{blank};
 ghost use Rattle.nut_words.specs.Out.{Exceeds};
 ghost use Rattle.nut_proto.specs.Lines.{part_text};
 ghost use Rattle.nut_proto.specs.inside.Written.{Puts};
@@ -61,9 +62,9 @@ impl Part<'_> {
 
     /// Appends a space and the part. If that fails, `out` still begins with what it held.
     fn put_behind<O: Out>(&self, out: &mut O) -> Result<(), O::Fault>
-        ensures ok { OnOk result (O.held out.new ≡ O.held out.old ++ 32 ∷ part_text self.now) }
+        ensures ok { OnOk result (O.held out.new ≡ O.held out.old ++ blank ∷ part_text self.now) }
         ensures err { OnErr result (take (length (O.held out.old)) (O.held out.new) ≡ O.held out.old) }
-        ensures full { OnErr result (Exceeds O.most (length (O.held out.old ++ 32 ∷ part_text self.now))) }
+        ensures full { OnErr result (Exceeds O.most (length (O.held out.old ++ blank ∷ part_text self.now))) }
     {
         out.push(b' ')?;
         self.put(out)
@@ -82,9 +83,9 @@ fn string_of(limit: u32) -> ArrayVec<u8, 18>
 
 /// Appends the parts, each after a space. If that fails, `out` still begins with what it held.
 pub fn append_parts<O: Out>(out: &mut O, parts: &[Part<'_>]) -> Result<(), O::Fault>
-    ensures ok { OnOk result (O.held out.new ≡ O.held out.old ++ flat_map (λ part. 32 ∷ part_text part) parts.now) }
+    ensures ok { OnOk result (O.held out.new ≡ O.held out.old ++ flat_map (λ part. blank ∷ part_text part) parts.now) }
     ensures err { OnErr result (take (length (O.held out.old)) (O.held out.new) ≡ O.held out.old) }
-    ensures full { OnErr result (Exceeds O.most (length (O.held out.old ++ flat_map (λ part. 32 ∷ part_text part) parts.now))) }
+    ensures full { OnErr result (Exceeds O.most (length (O.held out.old ++ flat_map (λ part. blank ∷ part_text part) parts.now))) }
 {
     for part in parts {
         part.put_behind(out)?;

@@ -137,6 +137,7 @@ impl<'a> Reply<'a> {
     /// # Errors
     ///
     /// If memory cannot be allocated, or if the whole doesn't fit into a buffer of fixed size. `out` is then as it was.
+    #[tactic(auto, using(std::proofs::lemmas::Grind::common_steps))]
     pub fn put<O: Out>(&self, out: &mut O) -> Result<(), O::Fault>
         ensures ok { OnOk result (O.held out.new ≡ O.held out.old ++ reply_line self.now) }
         ensures err { OnErr result (O.held out.new ≡ O.held out.old) }

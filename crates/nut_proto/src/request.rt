@@ -1,9 +1,11 @@
-//! The requests of a client, and how they are written.
+//! The requests of a client: how the words after GET, LIST and SET are read, and how requests are written.
 ghost use Rattle.std.specs.Prelude.{◌≡◌, ◌++◌, length, OnOk, OnErr};
 ghost use Rattle.nut_words.specs.Out.{Fits, Exceeds};
-ghost use Rattle.nut_proto.specs.Requests.{request_line, begin_line, end_line};
+ghost use Rattle.nut_proto.specs.Requests.{about, begin_line, end_line, get_forms, get_tracking, list_forms, request_line, set_forms};
 ghost use Rattle.nut_proto.specs.inside.Written.{Puts, written};
 
+use crate::cursor::Cursor;
+use crate::keyword::is_named;
 use crate::line::Line;
 use crate::part::{Part, text};
 use crate::tracking::switch_word;
@@ -122,6 +124,60 @@ pub enum ListQuery<'a> {
 }
 
 impl<'a> Request<'a> {
+    /// Reads the words after GET.
+    pub(crate) fn get(mut rest: Cursor<'a, '_>) -> Option<Request<'a>>
+        ensures { result ≡ about get_forms rest.entry }
+    {
+        let word = rest.next()?;
+        let subject = word.as_bytes();
+        if is_named(subject, b"NUMLOGINS") {
+            return Some(Request::GetNumLogins { ups: rest.one()? });
+        }
+        if is_named(subject, b"UPSDESC") {
+            return Some(Request::GetUpsDesc { ups: rest.one()? });
+        }
+        if is_named(subject, b"VAR") {
+            let (ups, variable) = rest.two()?;
+            return Some(Request::GetVar { ups, variable });
+        }
+        if is_named(subject, b"TYPE") {
+            let (ups, variable) = rest.two()?;
+            return Some(Request::GetType { ups, variable });
+        }
+        if is_named(subject, b"DESC") {
+            let (ups, variable) = rest.two()?;
+            return Some(Request::GetDesc { ups, variable });
+        }
+        if is_named(subject, b"CMDDESC") {
+            let (ups, command) = rest.two()?;
+            return Some(Request::GetCmdDesc { ups, command });
+        }
+        if is_named(subject, b"TRACKING") {
+            return get_tracking(rest);
+        }
+        None
+    }
+
+    /// Reads the words after SET.
+    pub(crate) fn set(mut rest: Cursor<'a, '_>) -> Option<Request<'a>>
+        ensures { result ≡ about set_forms rest.entry }
+    {
+        let word = rest.next()?;
+        let subject = word.as_bytes();
+        if is_named(subject, b"VAR") {
+            let (ups, variable, value) = rest.three()?;
+            return Some(Request::SetVar {
+                ups,
+                variable,
+                value,
+            });
+        }
+        if is_named(subject, b"TRACKING") {
+            return Some(Request::SetTracking { on: rest.switch()? });
+        }
+        None
+    }
+
     /// Appends the request's line with its line feed.
     ///
     /// Words are written bare if they can be, the value of SET and the parameter of INSTCMD always in quotes. Words of
@@ -183,7 +239,51 @@ impl<'a> Request<'a> {
     }
 }
 
+/// Reads the words after GET TRACKING.
+fn get_tracking<'a>(rest: Cursor<'a, '_>) -> Option<Request<'a>>
+    ensures { result ≡ get_tracking rest.entry }
+{
+    if rest.is_empty() {
+        return Some(Request::GetTracking);
+    }
+    Some(Request::GetTrackingOf {
+        number: rest.tracking_number()?,
+    })
+}
+
 impl<'a> ListQuery<'a> {
+    /// Reads the words after LIST.
+    pub(crate) fn read(mut rest: Cursor<'a, '_>) -> Option<ListQuery<'a>>
+        ensures { result ≡ about list_forms rest.entry }
+    {
+        let word = rest.next()?;
+        let subject = word.as_bytes();
+        if is_named(subject, b"UPS") {
+            return rest.end().and(Some(ListQuery::Ups));
+        }
+        if is_named(subject, b"VAR") {
+            return Some(ListQuery::Var { ups: rest.one()? });
+        }
+        if is_named(subject, b"RW") {
+            return Some(ListQuery::Rw { ups: rest.one()? });
+        }
+        if is_named(subject, b"CMD") {
+            return Some(ListQuery::Cmd { ups: rest.one()? });
+        }
+        if is_named(subject, b"ENUM") {
+            let (ups, variable) = rest.two()?;
+            return Some(ListQuery::Enum { ups, variable });
+        }
+        if is_named(subject, b"RANGE") {
+            let (ups, variable) = rest.two()?;
+            return Some(ListQuery::Range { ups, variable });
+        }
+        if is_named(subject, b"CLIENT") {
+            return Some(ListQuery::Client { ups: rest.one()? });
+        }
+        None
+    }
+
     #[tactic(auto, unfolding(crate::specs::Requests::request_line, crate::specs::Lines::line))]
     fn line(&self) -> Line<'a>
         ensures { written result ≡ request_line (Request.List self.now) }
@@ -217,6 +317,7 @@ impl<'a> ListQuery<'a> {
     /// # Errors
     ///
     /// If memory cannot be allocated, or if the whole doesn't fit into a buffer of fixed size. `out` is then as it was.
+    #[tactic(auto, using(std::proofs::lemmas::Grind::common_steps, crate::proofs::Marks::begin_marked))]
     pub fn put_begin<O: Out>(&self, out: &mut O) -> Result<(), O::Fault>
         ensures ok { OnOk result (O.held out.new ≡ O.held out.old ++ begin_line self.now) }
         ensures err { OnErr result (O.held out.new ≡ O.held out.old) }
@@ -231,6 +332,7 @@ impl<'a> ListQuery<'a> {
     /// # Errors
     ///
     /// If memory cannot be allocated, or if the whole doesn't fit into a buffer of fixed size. `out` is then as it was.
+    #[tactic(auto, using(std::proofs::lemmas::Grind::common_steps, crate::proofs::Marks::end_marked))]
     pub fn put_end<O: Out>(&self, out: &mut O) -> Result<(), O::Fault>
         ensures ok { OnOk result (O.held out.new ≡ O.held out.old ++ end_line self.now) }
         ensures err { OnErr result (O.held out.new ≡ O.held out.old) }

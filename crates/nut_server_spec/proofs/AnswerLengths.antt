@@ -1,9 +1,10 @@
 -- How long answers are, if what the server knows is within its limits.
-use Rattle.std.proofs.Common.{◌≡◌, ℕ, zero, suc, ◌+◌, ◌*◌, ◌<◌, ◌≤◌, Bool, true, false, List, [], ◌∷◌, ◌++◌, length, map, refl, sym, subst, ◌∙◌, arith, inl, inr, Option, Some, None, Result, Ok, Err, codes, length-append}
+use Rattle.std.proofs.Common.{◌≡◌, ℕ, zero, suc, ◌+◌, ◌*◌, ◌<◌, ◌≤◌, Bool, true, false, List, [], ◌∷◌, ◌++◌, length, map, refl, sym, subst, ◌∙◌, arith, inl, inr, Option, Some, None, Result, Ok, Err, codes, decimal, length-append}
 use Rattle.std.specs.Prelude.{◌&&◌, if◌then◌else◌, filter, not, slice_index_or, is_none, nat_lt, slice_get}
 use Rattle.std.specs.List.{AllByRecursion, flat_map, position_or_len}
 use Rattle.std.specs.Str.{bytes_eq}
 use Rattle.std.proofs.lemmas.Bool.{cases_Bool, ltb-true}
+use Rattle.std.proofs.lemmas.Fmt.{length-decimal-le}
 use Rattle.std.proofs.lemmas.Map.Text.{is_eq-slice_cmp}
 use Rattle.std.proofs.lemmas.Slice.Eq.{bytes_eq-Decides}
 use Rattle.nut_conf.specs.declared.limits.TheConstants.{CONNECTIONS_MAX}
@@ -28,7 +29,7 @@ use Rattle.nut_proto.specs.declared.driver_ask.DriverAsk.TheVariants as asks
 use Rattle.nut_proto.specs.Descriptions.{variable_description, command_description}
 use Rattle.nut_proto.specs.Replies.{reply_line}
 use Rattle.nut_proto.specs.Requests.{begin_line, end_line}
-use Rattle.nut_proto.proofs.Lengths.{length-quoted}
+use Rattle.nut_proto.proofs.Lengths.{length-name, length-quoted}
 use Rattle.nut_server_spec.specs.Configuration.{Ups, ups_named, number_of_ups, may_command}
 use Rattle.nut_proto.specs.Forms.{meaning}
 use Rattle.nut_proto.specs.laws.ReadBack.{IsReadable}
@@ -41,7 +42,7 @@ use Rattle.nut_server_spec.specs.Device.{Device, absent, trouble}
 use Rattle.nut_server_spec.specs.Answer.{Answer, Silence, Line, Listing, text_of, Guest, Scene, Caller, refused, ups_number, device_at, on_ups, on_data, on_device, on_variable, on_command, may_set, may_log_in, may_be_primary, may_force, shown, kind_of, is_empty, guests_of, is_logged_in, var_row, rw_row, type_reply, described, list_answer, misfit, parameter_misfit, accepted, status_of, set_answer, command_answer, once, answer_request, answer}
 use Rattle.nut_server_spec.specs.laws.Limits.{IsUpsWithin, IsWithin, longest_answer}
 use Rattle.nut_server_spec.proofs.Alls.{all_weaker, all_filter, all_places}
-use Rattle.nut_server_spec.proofs.Lengths.{name_within}
+use Rattle.nut_server_spec.proofs.Lengths.{length-word, name_within}
 use Rattle.nut_server_spec.proofs.ReplyLengths as L
 use Rattle.nut_server_spec.proofs.Requests.{IsNext, require-case, check-case, unless-case, with_credentials-case, with_right-case, handed_on-case}
 use Rattle.nut_server_spec.proofs.Tables.{IsShortRange, IsShortTable, variable_within, variable_named, command_named}
@@ -231,7 +232,8 @@ described_fit name (x ∷ xs) all =
     elim (cases_Bool (bytes_eq x.name name)) [
       | inl e ↦
           let own : is_name UPS_NAME_MAX name ≡ true = subst (λ n. is_name UPS_NAME_MAX n ≡ true) (same_bytes x.name name e) all.0.name in
-          rw e (fit_line (replies.UpsDesc name x.description) (L.length-ups_desc name x.description (ups_short name own) all.0.description))
+          rw e (fit_line (replies.UpsDesc name x.description)
+          (omega (arith, L.length-reply (replies.UpsDesc name x.description) _ _ refl, length-word name, length-quoted x.description, ups_short name own, all.0.description)))
       | inr e ↦ rw e (described_fit name xs all.1)
     ]
 
@@ -244,53 +246,55 @@ module _ (s : Scene) (short : IsShortScene s) where
   list_fit queries.Ups =
       let upses = s.configuration.upses in
       let row : Ups → Reply = λ ups. replies.Ups ups.name ups.description in
-      fit_list queries.Ups (map row upses) 1000 41600 L.length-marks_ups
+      fit_list queries.Ups (map row upses) 1000 41600 (omega (arith, L.length-marks queries.Ups 4 (omega arith)))
       (omega (arith, short.configured.upses, rows_short row upses (all_weaker IsUpsWithin _ upses (λ ups within. L.length-ups ups.name ups.description (ups_short ups.name within.name) within.description) short.configured.each_ups)))
       (omega arith)
   list_fit (queries.Var ups) = fit_device s short ups _ (λ d named table.
       let name = name_within UPS_NAME_MAX ups named in
-      fit_list (queries.Var ups) (map (var_row ups d) d.table.variables) 94 578052 (L.length-marks_var ups name)
+      fit_list (queries.Var ups) (map (var_row ups d) d.table.variables) 94 578052 (L.length-marks (queries.Var ups) 37 (omega (arith, length-name UPS_NAME_MAX ups name)))
       (variables_fit d (var_row ups d) d.table.variables (λ v within. L.length-var ups v.name (shown d v) name (name_within NAME_MAX v.name within.name)) (all_within d table) table.in_order.variables_within (one_status d table))
       (omega arith))
   list_fit (queries.Rw ups) = fit_device s short ups _ (λ d named table.
       let name = name_within UPS_NAME_MAX ups named in
       let p : Entry → Bool = λ v. v.flags.writable in
       let vs = d.table.variables in
-      fit_list (queries.Rw ups) (map (rw_row ups d) (filter p vs)) 94 578052 (L.length-marks_rw ups name)
+      fit_list (queries.Rw ups) (map (rw_row ups d) (filter p vs)) 94 578052 (omega (arith, L.length-marks (queries.Rw ups) 36 (omega (arith, length-name UPS_NAME_MAX ups name))))
       (variables_fit d (rw_row ups d) (filter p vs) (λ v within. L.length-rw ups v.name (shown d v) name (name_within NAME_MAX v.name within.name)) (all_filter IsWithinLimits p vs (all_within d table))
       (omega (arith, fewer p vs, table.in_order.variables_within)) (omega (arith, fewer_both (equal (λ (v : Entry). v.name) (codes "ups.status")) p vs, one_status d table)))
       (omega arith))
   list_fit (queries.Cmd ups) = fit_device s short ups _ (λ d named table.
       let commands = d.table.commands in
       let row : List ℕ → Reply = λ k. replies.Cmd ups k in
-      fit_list (queries.Cmd ups) (map row commands) 1000 166400 (L.length-marks_cmd ups (ups_short ups named))
+      fit_list (queries.Cmd ups) (map row commands) 1000 166400 (omega (arith, L.length-marks (queries.Cmd ups) 490 (omega (arith, length-word ups, ups_short ups named))))
       (omega (arith, table.in_order.commands_within, rows_short row commands (all_weaker (λ k. is_name NAME_MAX k ≡ true) _ commands (λ k own. L.length-cmd ups k (ups_short ups named) (name_within NAME_MAX k own).1) (all_places _ commands table.in_order.each_command))))
       (omega arith))
   list_fit (queries.Enum ups name) = fit_device s short ups _ (λ d named table. fit_variable name d _ (λ v there.
       let within = variable_within d.table name v table there in
       let own = (variable_named d.table name v table there).1 in
       let row : List ℕ → Reply = λ x. replies.Enum ups name x in
-      fit_list (queries.Enum ups name) (map row v.enums) 1000 83200 (L.length-marks_enum ups name (ups_short ups named) own)
+      fit_list (queries.Enum ups name) (map row v.enums) 1000 83200 (omega (arith, L.length-marks (queries.Enum ups name) 490 (omega (arith, length-word ups, length-word name, ups_short ups named, own))))
       (omega (arith, within.enums, rows_short row v.enums (all_weaker (λ x. length x ≤ VALUE_MAX) _ v.enums (λ x few. L.length-enum ups name x (ups_short ups named) own few) (all_places _ v.enums within.each_enum))))
       (omega arith)))
   list_fit (queries.Range ups name) = fit_device s short ups _ (λ d named table. fit_variable name d _ (λ v there.
       let within = variable_within d.table name v table there in
       let own = (variable_named d.table name v table there).1 in
       let row : Range → Reply = λ r. replies.Range ups name r.minimum r.maximum in
-      fit_list (queries.Range ups name) (map row v.ranges) 1000 20800 (L.length-marks_range ups name (ups_short ups named) own)
+      fit_list (queries.Range ups name) (map row v.ranges) 1000 20800 (omega (arith, L.length-marks (queries.Range ups name) 490 (omega (arith, length-word ups, length-word name, ups_short ups named, own))))
       (omega (arith, within.ranges, rows_short row v.ranges (all_weaker IsShortRange _ v.ranges (λ r few. L.length-range ups name r.minimum r.maximum (ups_short ups named) own few.minimum few.maximum) (table.ranges name v there))))
       (omega arith)))
   list_fit (queries.Client ups) = fit_ups s short ups _ (λ u named. fit_data s short u (λ d. Listing (queries.Client ups) (map (λ (g : Guest). replies.Client ups g.address) (guests_of u s.guests))) (λ table.
       let p : Guest → Bool = λ g. is_logged_in u g.login in
       let row : Guest → Reply = λ g. replies.Client ups g.address in
-      fit_list (queries.Client ups) (map row (filter p s.guests)) 1000 332800 (L.length-marks_client ups (ups_short ups named))
+      fit_list (queries.Client ups) (map row (filter p s.guests)) 1000 332800 (omega (arith, L.length-marks (queries.Client ups) 490 (omega (arith, length-word ups, ups_short ups named))))
       (omega (arith, fewer p s.guests, short.few, rows_short row (filter p s.guests) (all_weaker (λ (g : Guest). length g.address ≤ ADDRESS_MAX) _ (filter p s.guests) (λ g few. L.length-client ups g.address (ups_short ups named) few) (all_filter _ p s.guests short.guests))))
       (omega arith)))
 
   request_fit : (k : Caller) (request : Request) → IsReadable request → IsFit (answer_request s k request)
   request_fit k (requests.GetNumLogins ups) readable = fit_ups s short ups _ (λ u named. fit_data s short u (λ d. Line (replies.NumLogins ups (length (guests_of u s.guests)))) (λ table.
       fit_line (replies.NumLogins ups (length (guests_of u s.guests)))
-      (L.length-num_logins ups (length (guests_of u s.guests)) (ups_short ups named) (omega (arith, fewer (λ (g : Guest). is_logged_in u g.login) s.guests, short.few)))))
+      (let n : ℕ = length (guests_of u s.guests) in
+      let few : n ≤ CONNECTIONS_MAX = omega (arith, fewer (λ (g : Guest). is_logged_in u g.login) s.guests, short.few) in
+      omega (arith, L.length-reply (replies.NumLogins ups n) _ _ refl, length-word ups, ups_short ups named, length-word (decimal n), length-decimal-le 3 n (omega arith) (omega arith) (omega arith)))))
   request_fit k (requests.GetUpsDesc ups) readable = described_fit ups s.configuration.upses short.configured.each_ups
   request_fit k (requests.GetVar ups name) readable = fit_device s short ups _ (λ d named table. fit_variable name d _ (λ v there.
       let within = variable_within d.table name v table there in
@@ -301,11 +305,11 @@ module _ (s : Scene) (short : IsShortScene s) where
   request_fit k (requests.GetDesc ups name) readable = fit_device s short ups _ (λ d named table. fit_variable name d _ (λ v there.
       let text = variable_description s.configuration.variable_texts name in
       let few = L.length-variable_text s.configuration.variable_texts name short.configured.variable_texts in
-      fit_line (replies.Desc ups name text) (L.length-desc ups name text (ups_short ups named) (variable_named d.table name v table there).1 few)))
+      fit_line (replies.Desc ups name text) (omega (arith, L.length-reply (replies.Desc ups name text) _ _ refl, length-word ups, length-word name, length-quoted text, ups_short ups named, (variable_named d.table name v table there).1, few))))
   request_fit k (requests.GetCmdDesc ups name) readable = fit_device s short ups _ (λ d named table. fit_command name d _ (λ there.
       let text = command_description s.configuration.command_texts name in
       let few = L.length-command_text s.configuration.command_texts name short.configured.command_texts in
-      fit_line (replies.CmdDesc ups name text) (L.length-cmd_desc ups name text (ups_short ups named) (command_named d.table name table there).1 few)))
+      fit_line (replies.CmdDesc ups name text) (omega (arith, L.length-reply (replies.CmdDesc ups name text) _ _ refl, length-word ups, length-word name, length-quoted text, ups_short ups named, (command_named d.table name table there).1, few))))
   request_fit k requests.GetTracking readable = fit_line (replies.TrackingIs k.tracking) (omega (arith, L.length-tracking_is k.tracking))
   request_fit k (requests.GetTrackingOf number) readable =
       fit_line (replies.Tracking number (status_of number s.devices)) (omega (arith, L.length-tracking number (status_of number s.devices) readable.1))

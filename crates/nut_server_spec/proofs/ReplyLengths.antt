@@ -1,21 +1,23 @@
 -- How long the lines of answers are, if names and values are within their limits.
-use Rattle.std.proofs.Common.{◌≡◌, ℕ, ◌+◌, ◌<◌, ◌≤◌, ◌^◌, Bool, true, false, List, [], ◌∷◌, ◌++◌, length, Option, None, Some, refl, arith, length-append, codes, decimal}
+use Rattle.std.proofs.Common.{◌≡◌, ℕ, ◌+◌, ◌*◌, ◌<◌, ◌≤◌, ◌^◌, Bool, true, false, List, [], ◌∷◌, ◌++◌, length, Option, None, Some, refl, ap, ◌∙◌, arith, length-append, codes, decimal}
 use Rattle.std.specs.Prelude.{ℤ, IfSome, if◌then◌else◌}
 use Rattle.std.specs.Fmt.{signed_decimal}
 use Rattle.std.specs.Int.Signed.{mag}
 use Rattle.std.specs.List.{AllByRecursion}
 use Rattle.std.specs.Str.{bytes_eq}
 use Rattle.std.proofs.lemmas.Fmt.{length-decimal-le, length_signed_le}
-use Rattle.nut_conf.specs.declared.limits.TheConstants.{CONNECTIONS_MAX, DESCRIPTION_MAX}
+use Rattle.nut_conf.specs.declared.limits.TheConstants.{DESCRIPTION_MAX}
 use Rattle.nut_words.specs.Quoting.{quoted, word_text}
 use Rattle.nut_words.specs.declared.limits.TheConstants.{NAME_MAX, UPS_NAME_MAX, VALUE_MAX}
+use Rattle.nut_proto.specs.declared.part.Part.{Part}
 use Rattle.nut_proto.specs.declared.part.Part.TheVariants.{Word, Quoted, Number, QuotedNumber}
 use Rattle.nut_proto.specs.declared.refusal.Refusal.{Refusal}
 use Rattle.nut_proto.specs.declared.refusal.Refusal.TheVariants as refusals
+use Rattle.nut_proto.specs.declared.reply.Reply.{Reply}
 use Rattle.nut_proto.specs.declared.reply.Reply.TheVariants as replies
 use Rattle.nut_proto.specs.declared.reply.VariableKind.{VariableKind}
 use Rattle.nut_proto.specs.declared.reply.VariableKind.TheVariants as kinds
-use Rattle.nut_proto.specs.declared.request.ListQuery.TheVariants as queries
+use Rattle.nut_proto.specs.declared.request.ListQuery.{ListQuery}
 use Rattle.nut_proto.specs.declared.limits.TheConstants.{TRACKING_NUMBER_MAX}
 use Rattle.nut_proto.specs.declared.tracking.TrackingStatus.{TrackingStatus}
 use Rattle.nut_proto.specs.declared.tracking.TrackingStatus.TheVariants as statuses
@@ -24,36 +26,23 @@ use Rattle.nut_proto.specs.laws.Bounds.{IsName}
 use Rattle.nut_proto.specs.Descriptions.{described_variables, described_commands, beside, told, variable_description, command_description}
 use Rattle.nut_proto.specs.Lines.{line, part_text}
 use Rattle.nut_proto.specs.Refusals.{refusal_name}
-use Rattle.nut_proto.specs.Replies.{reply_line, kind_part}
-use Rattle.nut_proto.specs.Requests.{begin_line, end_line}
-use Rattle.nut_proto.proofs.Lengths.{length-line, length-quoted, length-name}
+use Rattle.nut_proto.specs.Replies.{reply_line, reply_parts, kind_part}
+use Rattle.nut_proto.specs.Requests.{begin_line, end_line, query_parts}
+use Rattle.nut_proto.proofs.Lengths.{length-line, length-quoted, length-name, width}
 use Rattle.nut_server_spec.specs.laws.Limits.{IsTextWithin}
 use Rattle.nut_server_spec.proofs.Lengths.{length-word}
 use Rattle.nut_server_spec.specs.declared.limits.TheConstants.{ADDRESS_MAX}
+
+pub length-reply : (r : Reply) (part : Part) (parts : List Part) → reply_parts r ≡ part ∷ parts → length (reply_line r) ≡ length (part_text part) + width parts + 1
+unfolding reply_line
+length-reply r part parts is = ap (λ ps. length (line ps)) is ∙ length-line part parts
 
 -- ---- lines that never vary
 
 name-refused : (r : Refusal) → length (refusal_name r) ≤ 22
 unfolding refusal_name
 name-refused refusals.AccessDenied = omega arith
-name-refused refusals.UnknownUps = omega arith
-name-refused refusals.VarNotSupported = omega arith
-name-refused refusals.CmdNotSupported = omega arith
-name-refused refusals.InvalidArgument = omega arith
-name-refused refusals.InstCmdFailed = omega arith
-name-refused refusals.SetFailed = omega arith
-name-refused refusals.ReadOnly = omega arith
-name-refused refusals.TooLong = omega arith
-name-refused refusals.InvalidValue = omega arith
-name-refused refusals.FeatureNotConfigured = omega arith
-name-refused refusals.DriverNotConnected = omega arith
-name-refused refusals.DataStale = omega arith
-name-refused refusals.AlreadyLoggedIn = omega arith
-name-refused refusals.AlreadySetPassword = omega arith
-name-refused refusals.AlreadySetUsername = omega arith
-name-refused refusals.UsernameRequired = omega arith
-name-refused refusals.PasswordRequired = omega arith
-name-refused refusals.UnknownCommand = omega arith
+name-refused refusal = omega arith
 
 pub length-refused : (r : Refusal) → length (reply_line (replies.Refused r)) ≤ 200
 unfolding reply_line
@@ -75,9 +64,7 @@ length-tracking_is false = omega arith
 
 length-status : (status : TrackingStatus) → length (word_text (status_word status)) ≤ 7
 length-status statuses.Pending = omega arith
-length-status statuses.Success = omega arith
-length-status statuses.Failed = omega arith
-length-status statuses.Unknown = omega arith
+length-status status = omega arith
 
 pub length-tracking : (n : ℕ) (status : TrackingStatus) → n ≤ TRACKING_NUMBER_MAX → length (reply_line (replies.Tracking n status)) ≤ 200
 unfolding reply_line
@@ -111,16 +98,6 @@ unfolding reply_line line
 length-commands = omega arith
 
 -- ---- lines of GET
-
-pub length-num_logins : (ups : List ℕ) (n : ℕ) → length ups ≤ UPS_NAME_MAX → n ≤ CONNECTIONS_MAX → length (reply_line (replies.NumLogins ups n)) ≤ 1000
-unfolding reply_line
-length-num_logins ups n u few =
-    omega (arith, length-line (Word (codes "NUMLOGINS")) (Word ups ∷ Number n ∷ []), length-word ups, length-word (decimal n), length-decimal-le 3 n (omega arith) (omega arith) (omega arith))
-
-pub length-ups_desc : (ups text : List ℕ) → length ups ≤ UPS_NAME_MAX → length text ≤ DESCRIPTION_MAX → length (reply_line (replies.UpsDesc ups text)) ≤ 1000
-unfolding reply_line
-length-ups_desc ups text u t =
-    omega (arith, length-line (Word (codes "UPSDESC")) (Word ups ∷ Quoted text ∷ []), length-word ups, length-quoted text)
 
 length-kind : (kind : VariableKind) → ((m : ℕ) → kind ≡ kinds.String m → m ≤ VALUE_MAX) → length (part_text (kind_part kind)) ≤ 24
 length-kind kinds.Enum few = omega arith
@@ -170,16 +147,6 @@ unfolding command_description
 length-command_text rows name short =
     length-told (beside name described_commands) (beside name rows) (short-beside name described_commands short-commands) (short-beside name rows short)
 
-pub length-desc : (ups name text : List ℕ) → length ups ≤ UPS_NAME_MAX → length name ≤ NAME_MAX → length text ≤ 128 → length (reply_line (replies.Desc ups name text)) ≤ 1000
-unfolding reply_line
-length-desc ups name text u n t =
-    omega (arith, length-line (Word (codes "DESC")) (Word ups ∷ Word name ∷ Quoted text ∷ []), length-word ups, length-word name, length-quoted text)
-
-pub length-cmd_desc : (ups name text : List ℕ) → length ups ≤ UPS_NAME_MAX → length name ≤ NAME_MAX → length text ≤ 128 → length (reply_line (replies.CmdDesc ups name text)) ≤ 1000
-unfolding reply_line
-length-cmd_desc ups name text u n t =
-    omega (arith, length-line (Word (codes "CMDDESC")) (Word ups ∷ Word name ∷ Quoted text ∷ []), length-word ups, length-word name, length-quoted text)
-
 -- ---- rows of lists
 
 -- by the length of the value between its quotes
@@ -225,38 +192,9 @@ pub length-client : (ups address : List ℕ) → length ups ≤ UPS_NAME_MAX →
 unfolding reply_line
 length-client ups address u a = omega (arith, length-line (Word (codes "CLIENT")) (Word ups ∷ Word address ∷ []), length-word ups, length-word address)
 
--- ---- the lines around a list, if the names of its query are within their limits
+-- ---- the lines around a list, by the length of what stands behind LIST
 
-pub length-marks_var : (ups : List ℕ) → IsName UPS_NAME_MAX ups → length (begin_line (queries.Var ups)) + length (end_line (queries.Var ups)) ≤ 94
+pub length-marks : (query : ListQuery) (most : ℕ) → width (query_parts query) ≤ most → length (begin_line query) + length (end_line query) ≤ 20 + 2 * most
 unfolding begin_line end_line
-length-marks_var ups u =
-    omega (arith, length-line (Word (codes "BEGIN")) (Word (codes "LIST") ∷ Word (codes "VAR") ∷ Word ups ∷ []), length-line (Word (codes "END")) (Word (codes "LIST") ∷ Word (codes "VAR") ∷ Word ups ∷ []), length-name UPS_NAME_MAX ups u)
-
-pub length-marks_rw : (ups : List ℕ) → IsName UPS_NAME_MAX ups → length (begin_line (queries.Rw ups)) + length (end_line (queries.Rw ups)) ≤ 94
-unfolding begin_line end_line
-length-marks_rw ups u =
-    omega (arith, length-line (Word (codes "BEGIN")) (Word (codes "LIST") ∷ Word (codes "RW") ∷ Word ups ∷ []), length-line (Word (codes "END")) (Word (codes "LIST") ∷ Word (codes "RW") ∷ Word ups ∷ []), length-name UPS_NAME_MAX ups u)
-
-pub length-marks_ups : length (begin_line queries.Ups) + length (end_line queries.Ups) ≤ 1000
-unfolding begin_line end_line line
-length-marks_ups = omega arith
-
-pub length-marks_cmd : (ups : List ℕ) → length ups ≤ UPS_NAME_MAX → length (begin_line (queries.Cmd ups)) + length (end_line (queries.Cmd ups)) ≤ 1000
-unfolding begin_line end_line
-length-marks_cmd ups u =
-    omega (arith, length-line (Word (codes "BEGIN")) (Word (codes "LIST") ∷ Word (codes "CMD") ∷ Word ups ∷ []), length-line (Word (codes "END")) (Word (codes "LIST") ∷ Word (codes "CMD") ∷ Word ups ∷ []), length-word ups)
-
-pub length-marks_client : (ups : List ℕ) → length ups ≤ UPS_NAME_MAX → length (begin_line (queries.Client ups)) + length (end_line (queries.Client ups)) ≤ 1000
-unfolding begin_line end_line
-length-marks_client ups u =
-    omega (arith, length-line (Word (codes "BEGIN")) (Word (codes "LIST") ∷ Word (codes "CLIENT") ∷ Word ups ∷ []), length-line (Word (codes "END")) (Word (codes "LIST") ∷ Word (codes "CLIENT") ∷ Word ups ∷ []), length-word ups)
-
-pub length-marks_enum : (ups name : List ℕ) → length ups ≤ UPS_NAME_MAX → length name ≤ NAME_MAX → length (begin_line (queries.Enum ups name)) + length (end_line (queries.Enum ups name)) ≤ 1000
-unfolding begin_line end_line
-length-marks_enum ups name u n =
-    omega (arith, length-line (Word (codes "BEGIN")) (Word (codes "LIST") ∷ Word (codes "ENUM") ∷ Word ups ∷ Word name ∷ []), length-line (Word (codes "END")) (Word (codes "LIST") ∷ Word (codes "ENUM") ∷ Word ups ∷ Word name ∷ []), length-word ups, length-word name)
-
-pub length-marks_range : (ups name : List ℕ) → length ups ≤ UPS_NAME_MAX → length name ≤ NAME_MAX → length (begin_line (queries.Range ups name)) + length (end_line (queries.Range ups name)) ≤ 1000
-unfolding begin_line end_line
-length-marks_range ups name u n =
-    omega (arith, length-line (Word (codes "BEGIN")) (Word (codes "LIST") ∷ Word (codes "RANGE") ∷ Word ups ∷ Word name ∷ []), length-line (Word (codes "END")) (Word (codes "LIST") ∷ Word (codes "RANGE") ∷ Word ups ∷ Word name ∷ []), length-word ups, length-word name)
+length-marks query most few =
+    omega (arith, length-line (Word (codes "BEGIN")) (Word (codes "LIST") ∷ query_parts query), length-line (Word (codes "END")) (Word (codes "LIST") ∷ query_parts query))

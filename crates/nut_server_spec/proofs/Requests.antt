@@ -11,7 +11,7 @@ use Rattle.nut_proto.specs.declared.limits.TheConstants.{TRACKING_NUMBER_MAX}
 use Rattle.nut_proto.specs.DriverAsks.{ask_line}
 use Rattle.nut_state.specs.Table.{variable, has_command}
 use Rattle.nut_server_spec.specs.Configuration.{User, user_named, may_command}
-use Rattle.nut_server_spec.specs.Command.{Command, Blank, Malformed, Asks}
+use Rattle.nut_server_spec.specs.Command.{Command, Asks}
 use Rattle.nut_server_spec.specs.Device.{Device, trouble, fits}
 use Rattle.nut_server_spec.specs.Answer.{Answer, Silence, Scene, Caller, refused, require, check, unless, with_credentials, with_right, on_data, device_at, has_right, may_set, misfit, parameter_misfit, numbered, accepted, handed_on, set_answer, command_answer, answer, ups_number, numbering_in}
 use Rattle.nut_server_spec.specs.Effect.{number_in, target, request_of}
@@ -106,52 +106,9 @@ command-fits s k ups name parameter v place line =
 -- request.
 pub asked-fits : (s : Scene) (k : Caller) (command : Command) (v : ℕ) (out : Bool) → target (numbering_in s) command ≡ Some v → (line : List ℕ)
     → request_of command (if out then Silence else answer s k command) ≡ Some line → fits line (device_at s v) ≡ true
-asked-fits s k Blank v out goal line is = cc
-asked-fits s k (Malformed refusal) v out goal line is = cc
-asked-fits s k (Asks (requests.GetNumLogins a)) v false goal line is = cc
-asked-fits s k (Asks (requests.GetNumLogins a)) v true goal line is = cc
-asked-fits s k (Asks (requests.GetUpsDesc a)) v false goal line is = cc
-asked-fits s k (Asks (requests.GetUpsDesc a)) v true goal line is = cc
-asked-fits s k (Asks (requests.GetVar a b)) v false goal line is = cc
-asked-fits s k (Asks (requests.GetVar a b)) v true goal line is = cc
-asked-fits s k (Asks (requests.GetType a b)) v false goal line is = cc
-asked-fits s k (Asks (requests.GetType a b)) v true goal line is = cc
-asked-fits s k (Asks (requests.GetDesc a b)) v false goal line is = cc
-asked-fits s k (Asks (requests.GetDesc a b)) v true goal line is = cc
-asked-fits s k (Asks (requests.GetCmdDesc a b)) v false goal line is = cc
-asked-fits s k (Asks (requests.GetCmdDesc a b)) v true goal line is = cc
-asked-fits s k (Asks requests.GetTracking) v false goal line is = cc
-asked-fits s k (Asks requests.GetTracking) v true goal line is = cc
-asked-fits s k (Asks (requests.GetTrackingOf n)) v false goal line is = cc
-asked-fits s k (Asks (requests.GetTrackingOf n)) v true goal line is = cc
-asked-fits s k (Asks (requests.List q)) v false goal line is = cc
-asked-fits s k (Asks (requests.List q)) v true goal line is = cc
 asked-fits s k (Asks (requests.SetVar a b c)) v false goal line is = set-fits s k a b c v goal line is
-asked-fits s k (Asks (requests.SetVar a b c)) v true goal line is = cc
-asked-fits s k (Asks (requests.SetTracking a)) v false goal line is = cc
-asked-fits s k (Asks (requests.SetTracking a)) v true goal line is = cc
 asked-fits s k (Asks (requests.InstCmd a b c)) v false goal line is = command-fits s k a b c v goal line is
-asked-fits s k (Asks (requests.InstCmd a b c)) v true goal line is = cc
-asked-fits s k (Asks (requests.Username a)) v false goal line is = cc
-asked-fits s k (Asks (requests.Username a)) v true goal line is = cc
-asked-fits s k (Asks (requests.Password a)) v false goal line is = cc
-asked-fits s k (Asks (requests.Password a)) v true goal line is = cc
-asked-fits s k (Asks (requests.Login a)) v false goal line is = cc
-asked-fits s k (Asks (requests.Login a)) v true goal line is = cc
-asked-fits s k (Asks (requests.Primary a)) v false goal line is = cc
-asked-fits s k (Asks (requests.Primary a)) v true goal line is = cc
-asked-fits s k (Asks (requests.Fsd a)) v false goal line is = cc
-asked-fits s k (Asks (requests.Fsd a)) v true goal line is = cc
-asked-fits s k (Asks requests.Logout) v false goal line is = cc
-asked-fits s k (Asks requests.Logout) v true goal line is = cc
-asked-fits s k (Asks requests.Ver) v false goal line is = cc
-asked-fits s k (Asks requests.Ver) v true goal line is = cc
-asked-fits s k (Asks requests.NetVer) v false goal line is = cc
-asked-fits s k (Asks requests.NetVer) v true goal line is = cc
-asked-fits s k (Asks requests.Help) v false goal line is = cc
-asked-fits s k (Asks requests.Help) v true goal line is = cc
-asked-fits s k (Asks requests.StartTls) v false goal line is = cc
-asked-fits s k (Asks requests.StartTls) v true goal line is = cc
+asked-fits s k command v out goal line is = cc
 
 -- ---- a number in an answer is the next one
 

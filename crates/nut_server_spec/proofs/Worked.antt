@@ -2,7 +2,7 @@
 use Rattle.std.proofs.Common.{refl}
 use Rattle.nut_words.specs.Reader.{read}
 use Rattle.nut_proto.specs.Forms.{meaning}
-use Rattle.nut_proto.specs.Keywords.{command_of, subject_of}
+use Rattle.nut_proto.specs.Keywords.{command_of}
 use Rattle.nut_proto.specs.Lines.{line}
 use Rattle.nut_proto.specs.Refusals.{refusal_name}
 use Rattle.nut_proto.specs.Replies.{reply_line}
@@ -11,7 +11,7 @@ use Rattle.nut_server_spec.specs.Answer.{text_of}
 use Rattle.nut_server_spec.specs.examples.Examples.{ConnectionExamples}
 
 pub connections : ConnectionExamples
-unfolding read meaning command_of subject_of line refusal_name reply_line begin_line end_line text_of
+unfolding read meaning command_of line refusal_name reply_line begin_line end_line text_of
 connections = record {
   list_ups = refl;
   small_letters = refl;

@@ -9,7 +9,7 @@ use Rattle.nut_state.specs.Verb.{verb_of}
 use Rattle.nut_proto.specs.Descriptions.{variable_description, command_description}
 use Rattle.nut_proto.specs.DriverAsks.{ask_line}
 use Rattle.nut_proto.specs.Forms.{meaning}
-use Rattle.nut_proto.specs.Keywords.{command_of, subject_of}
+use Rattle.nut_proto.specs.Keywords.{command_of}
 use Rattle.nut_proto.specs.Lines.{line}
 use Rattle.nut_proto.specs.Refusals.{refusal_name}
 use Rattle.nut_proto.specs.Replies.{reply_line}
@@ -18,7 +18,7 @@ use Rattle.nut_server_spec.specs.Answer.{text_of}
 use Rattle.nut_server_spec.specs.examples.DriverExamples.{DriverExamples, EdgeExamples, TrackingExamples, UserExamples}
 
 pub drivers : DriverExamples
-unfolding digits read named put asked heard accepts changed after applied verb_of variable_description command_description ask_line meaning command_of subject_of line refusal_name reply_line begin_line end_line text_of
+unfolding digits read named put asked heard accepts changed after applied verb_of variable_description command_description ask_line meaning command_of line refusal_name reply_line begin_line end_line text_of
 drivers = record {
   dump_first = refl;
   dump_sent = refl;
@@ -83,7 +83,7 @@ edges = record {
 }
 
 pub users : UserExamples
-unfolding digits read named put asked heard accepts changed after applied verb_of ask_line meaning command_of subject_of line refusal_name reply_line begin_line end_line text_of
+unfolding digits read named put asked heard accepts changed after applied verb_of ask_line meaning command_of line refusal_name reply_line begin_line end_line text_of
 users = record {
   no_user = refl;
   no_password = refl;
@@ -116,7 +116,7 @@ users = record {
 }
 
 pub tracking : TrackingExamples
-unfolding digits read named put asked heard accepts changed after applied verb_of ask_line meaning command_of subject_of line refusal_name reply_line begin_line end_line text_of
+unfolding digits read named put asked heard accepts changed after applied verb_of ask_line meaning command_of line refusal_name reply_line begin_line end_line text_of
 tracking = record {
   off_at_first = refl;
   switch_before_user = refl;

@@ -8,7 +8,7 @@ use Rattle.nut_state.specs.Step.{accepts, changed, after, applied}
 use Rattle.nut_state.specs.Verb.{verb_of}
 use Rattle.nut_proto.specs.DriverAsks.{ask_line}
 use Rattle.nut_proto.specs.Forms.{meaning}
-use Rattle.nut_proto.specs.Keywords.{command_of, subject_of}
+use Rattle.nut_proto.specs.Keywords.{command_of}
 use Rattle.nut_proto.specs.Lines.{line}
 use Rattle.nut_proto.specs.Refusals.{refusal_name}
 use Rattle.nut_proto.specs.Replies.{reply_line}
@@ -17,7 +17,7 @@ use Rattle.nut_server_spec.specs.Answer.{text_of}
 use Rattle.nut_server_spec.specs.examples.ReloadExamples.{ReloadEdgeExamples, ReloadExamples}
 
 pub reloads : ReloadExamples
-unfolding digits read named put asked heard accepts changed after applied verb_of ask_line meaning command_of subject_of line refusal_name reply_line begin_line end_line text_of
+unfolding digits read named put asked heard accepts changed after applied verb_of ask_line meaning command_of line refusal_name reply_line begin_line end_line text_of
 reloads = record {
   flag_before = refl;
   numbers = refl;
@@ -38,7 +38,7 @@ reloads = record {
 }
 
 pub edges : ReloadEdgeExamples
-unfolding digits read named put asked heard accepts changed after applied verb_of ask_line meaning command_of subject_of line refusal_name reply_line begin_line end_line text_of
+unfolding digits read named put asked heard accepts changed after applied verb_of ask_line meaning command_of line refusal_name reply_line begin_line end_line text_of
 edges = record {
   order_numbers = refl;
   order_ends_no_driver = refl;

@@ -56,15 +56,19 @@ type_words writable kind = if writable then codes "RW" ∷ part_word (kind_part 
 -- What the server replies to each request is taken as its answer, and each row of a list as one more row. A refusal is an
 -- answer whatever was asked, and STARTTLS has no other. A count of logins has at most 9 digits.
 pub record RepliesMatch : Type 0 where
-  pub refused : (request : Request) (refusal : Refusal) → Answers request (replies.Refused refusal) (outcomes.Refused (refusal_name refusal))
+  pub refused : (request : Request) (refusal : Refusal) →
+      Answers request (replies.Refused refusal) (outcomes.Refused (refusal_name refusal))
   -- GET
-  pub logins : (ups : List ℕ) (n : ℕ) → n < 10 ^ 9 → Answers (requests.GetNumLogins ups) (replies.NumLogins ups n) (outcomes.Said (decimal n ∷ []))
+  pub logins : (ups : List ℕ) (n : ℕ) → n < 10 ^ 9 →
+      Answers (requests.GetNumLogins ups) (replies.NumLogins ups n) (outcomes.Said (decimal n ∷ []))
   pub description : (ups text : List ℕ) → Answers (requests.GetUpsDesc ups) (replies.UpsDesc ups text) (outcomes.Said (text ∷ []))
-  pub value : (ups variable text : List ℕ) → Answers (requests.GetVar ups variable) (replies.Var ups variable text) (outcomes.Said (text ∷ []))
+  pub value : (ups variable text : List ℕ) →
+      Answers (requests.GetVar ups variable) (replies.Var ups variable text) (outcomes.Said (text ∷ []))
   pub kind : (ups variable : List ℕ) (writable : Bool) (is : VariableKind) →
       Answers (requests.GetType ups variable) (replies.Type ups variable writable is) (outcomes.Said (type_words writable is))
   pub variable : (ups name text : List ℕ) → Answers (requests.GetDesc ups name) (replies.Desc ups name text) (outcomes.Said (text ∷ []))
-  pub command : (ups name text : List ℕ) → Answers (requests.GetCmdDesc ups name) (replies.CmdDesc ups name text) (outcomes.Said (text ∷ []))
+  pub command : (ups name text : List ℕ) →
+      Answers (requests.GetCmdDesc ups name) (replies.CmdDesc ups name text) (outcomes.Said (text ∷ []))
   pub tracking : (on : Bool) → Answers requests.GetTracking (replies.TrackingIs on) (outcomes.Said (switch_word on ∷ []))
   pub tracked : (number : ℕ) (status : TrackingStatus) →
       Answers (requests.GetTrackingOf number) (replies.Tracking number status) (outcomes.Said (status_word status ∷ []))
@@ -72,7 +76,8 @@ pub record RepliesMatch : Type 0 where
   pub set : (ups variable text : List ℕ) → Answers (requests.SetVar ups variable text) replies.Accepted outcomes.Done
   pub set_as : (ups variable text : List ℕ) (number : ℕ) → IsTrackingNumber number →
       Answers (requests.SetVar ups variable text) (replies.AcceptedAs number) (outcomes.Said (decimal number ∷ []))
-  pub instructed : (ups name : List ℕ) (parameter : Option (List ℕ)) → Answers (requests.InstCmd ups name parameter) replies.Accepted outcomes.Done
+  pub instructed : (ups name : List ℕ) (parameter : Option (List ℕ)) →
+      Answers (requests.InstCmd ups name parameter) replies.Accepted outcomes.Done
   pub instructed_as : (ups name : List ℕ) (parameter : Option (List ℕ)) (number : ℕ) → IsTrackingNumber number →
       Answers (requests.InstCmd ups name parameter) (replies.AcceptedAs number) (outcomes.Said (decimal number ∷ []))
   pub switched : (on : Bool) → Answers (requests.SetTracking on) replies.Accepted outcomes.Done
@@ -96,7 +101,8 @@ pub record RepliesMatch : Type 0 where
   pub of_range : (ups variable : List ℕ) (minimum maximum : ℤ) →
       Adds (queries.Range ups variable) (replies.Range ups variable minimum maximum) (signed_decimal minimum ∷ signed_decimal maximum ∷ [])
   pub of_client : (ups address : List ℕ) → Adds (queries.Client ups) (replies.Client ups address) (address ∷ [])
-  pub ends : (query : ListQuery) (rows : List (List (List ℕ))) → next (listing query) rows (answers.End (message_words (query_parts query))) ≡ Ok (Complete (outcomes.List rows))
+  pub ends : (query : ListQuery) (rows : List (List (List ℕ))) →
+      next (listing query) rows (answers.End (message_words (query_parts query))) ≡ Ok (Complete (outcomes.List rows))
 
 -- A new link keeps no more than it may, and no call but `feed` makes it keep more. Of `feed` its own contract says so.
 pub record BoundsStay : Type 0 where

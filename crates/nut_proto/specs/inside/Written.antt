@@ -2,6 +2,7 @@
 -- written as they stand, and by the parts behind them.
 use Rattle.std.specs.Prelude.{◌≡◌, ℕ, List, [], ◌∷◌, ◌++◌, Option, Result, OnOk, OnErr, length}
 use Rattle.std.specs.List.{flat_map}
+use Rattle.nut_words.specs.Bytes.{blank, line_feed}
 use Rattle.nut_words.specs.Out.{Fits, Exceeds}
 use Rattle.nut_proto.specs.declared.line.Line.{Line}
 use Rattle.nut_proto.specs.declared.line.Line.TheVariants.{Bare, One, Two, Three, Four}
@@ -10,7 +11,7 @@ use Rattle.nut_proto.specs.Lines.{part_text}
 
 -- the line of these words and, each behind a space, these parts
 abbrev pub line_from : List ℕ → List Part → List ℕ
-line_from words parts = (words ++ flat_map (λ part. 32 ∷ part_text part) parts) ++ 10 ∷ []
+line_from words parts = (words ++ flat_map (λ part. blank ∷ part_text part) parts) ++ line_feed ∷ []
 
 abbrev pub written : Line → List ℕ
 written (Bare words) = line_from words.now []

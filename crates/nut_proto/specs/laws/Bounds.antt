@@ -28,7 +28,8 @@ variable_list ups rows = begin_line (queries.Var ups) ++ (variable_rows ups rows
 -- If the name of the UPS can be written bare and has at most 32 bytes, and the variable is within its limits, its row
 -- in LIST VAR has at most 1129 bytes.
 abbrev pub RowsAreBounded : Type 0
-RowsAreBounded = (ups name value : List ℕ) → IsName UPS_NAME_MAX ups → IsVariable (name, value) → length (reply_line (replies.Var ups name value)) ≤ 1129
+RowsAreBounded =
+    (ups name value : List ℕ) → IsName UPS_NAME_MAX ups → IsVariable (name, value) → length (reply_line (replies.Var ups name value)) ≤ 1129
 
 -- The answer to LIST VAR, of at most ROWS_MAX variables, has at most 578,142 bytes.
 abbrev pub ListsAreBounded : Type 0

@@ -4,7 +4,7 @@ use Rattle.nut_words.specs.Reader.{read}
 use Rattle.nut_proto.specs.Answers.{answer_of}
 use Rattle.nut_proto.specs.DriverAsks.{ask_line, ask_of}
 use Rattle.nut_proto.specs.Forms.{meaning}
-use Rattle.nut_proto.specs.Keywords.{command_of, subject_of}
+use Rattle.nut_proto.specs.Keywords.{command_of}
 use Rattle.nut_proto.specs.Lines.{line}
 use Rattle.nut_proto.specs.Refusals.{refusal_name}
 use Rattle.nut_proto.specs.Replies.{reply_line}
@@ -12,7 +12,7 @@ use Rattle.nut_proto.specs.Requests.{begin_line, end_line, request_line}
 use Rattle.nut_proto.proofs.examples.worked_examples.Goals as goal
 
 pub returns : goal.returns
-unfolding meaning command_of subject_of line request_line reply_line refusal_name begin_line end_line answer_of ask_line ask_of read digits
+unfolding meaning command_of line request_line reply_line refusal_name begin_line end_line answer_of ask_line ask_of read digits
 returns c = record {
   mixed_case = refl;
   too_short = refl;
