@@ -1,6 +1,6 @@
-use Rattle.std.proofs.Common.{◌≡◌, List, ap, map, sym, ◌∙◌}
+use Rattle.std.proofs.Common.{◌≡◌, ap, sym, ◌∙◌}
 use Rattle.nut_proto.specs.PlainQueries.{request_of, ups_of}
-use Rattle.nut_server_spec.specs.Answer.{Caller, Line, answer, on_variable, var_row}
+use Rattle.nut_server_spec.specs.Answer.{Line, answer, on_variable, var_row}
 use Rattle.nut_server_spec.specs.Command.{Asks}
 use Rattle.nut_server_spec.specs.Configuration.{number_of_ups}
 use Rattle.nut_server.proofs.PlainAnswers.{from_found, only_text}
