@@ -7,7 +7,7 @@ ghost use Rattle.nut_proto.specs.Forms.{meaning};
 ghost use Rattle.nut_proto.specs.PlainQueries.{request_of, ups_of};
 
 use crate::keyword::is_named;
-use nut_words::plain_line;
+use nut_words::{PlainWords, plain_line};
 
 /// A query that clients send often. It borrows its words.
 #[derive(Clone, Copy)]
@@ -41,7 +41,8 @@ pub fn read_plain<'a>(piece: &'a [u8]) -> Option<(PlainQuery<'a>, &'a [u8])>
     ensures { IfSome result (λ found. (text : List ℕ) × (words : List (List ℕ)) × IsFirstLine text piece.now found.1.now
         × (spelled text ≡ Ok words) × (meaning words ≡ Ok (request_of found.0))) }
 {
-    let (words, after) = plain_line(piece)?;
+    let mut words = PlainWords::new();
+    let after = plain_line(piece, &mut words)?;
     let [verb, subject, rest @ ..] = words.as_slice() else {
         return None;
     };

@@ -13,6 +13,7 @@ pub mod Renumbered
 pub mod Reports
 pub mod Pieces
 pub mod PlainLines
+pub mod PlainAnswers
 pub mod Places
 pub mod Orderly
 pub mod Searching

@@ -1,6 +1,6 @@
 //! The configuration that a server is made with.
 
-ghost use Rattle.std.specs.Prelude.{◌≡◌, ◌<◌, ◌≤◌, IfSome, None, length, slice_get};
+ghost use Rattle.std.specs.Prelude.{◌≡◌, ◌<◌, ◌≤◌, ℕ, List, IfSome, None, length, slice_get};
 ghost use Rattle.std.specs.Option.{option_map};
 ghost use Rattle.nut_conf.specs.Descriptions.{rows_of};
 ghost use Rattle.nut_proto.specs.Descriptions.{beside, command_description, told, variable_description};
@@ -235,7 +235,14 @@ impl Config {
     pub fn ups_named(&self, name: &[u8]) -> Option<Ups<'_>>
         ensures { result ≡ ups_named name.now self.now.upses }
     {
-        match self.find_ups(name) {
+        self.ups_found(self.find_ups(name))
+    }
+
+    /// Returns the UPS that was found at this place, if one was.
+    pub fn ups_found(&self, place: Option<usize>) -> Option<Ups<'_>>
+        ensures { (name : List ℕ) → place ≡ number_of_ups name self.now.upses → result ≡ ups_named name self.now.upses }
+    {
+        match place {
             Some(u) => self.ups_at(u),
             None => None,
         }

@@ -9,11 +9,11 @@ ghost use Rattle.nut_server_spec.specs.Content.{down, unheard};
 ghost use Rattle.nut_server_spec.specs.Device.{absent, fits, is_past, is_stale, needs_ping, trouble};
 ghost use Rattle.nut_server_spec.specs.Reloading.{is_kept};
 ghost use Rattle.nut_server_spec.specs.machine.Machine.{up, drained, fated, ticked, bytes_reported};
-ghost use Rattle.nut_server_spec.specs.Outcome.{report_takes};
+ghost use Rattle.nut_server_spec.specs.Outcome.{text_takes};
 ghost use Rattle.nut_server_spec.specs.Tracking.{with_tracked};
 ghost use Rattle.nut_server_spec.specs.machine.MachineOutcome.{RunsOutOf};
 ghost use Rattle.nut_server.specs.inside.Fates.{fate_is};
-ghost use Rattle.nut_server.specs.inside.Lines.{line_told};
+ghost use Rattle.nut_server.specs.inside.Lines.{line_reported};
 
 use crate::reloading::Fate;
 use crate::tracked::TrackedRequests;
@@ -24,7 +24,6 @@ use nut_state::{Heard, StateFault, UpsState};
 use nut_words::{HearLine, Line, LineCutter, hear_lines};
 use std::alloc::{AllocError, Global};
 use std::marker::Model;
-use std::mem;
 
 /// The request to a driver for all that it knows.
 const DUMP_ALL: &[u8] = b"DUMPALL\n";
@@ -40,10 +39,10 @@ pub fn silence_before_ping(max_age: u64) -> u64
     max_age / 3
 }
 
-/// A UPS: what its driver has reported, the driver's unfinished line, the requests that wait for it, and the newest
-/// requests that are tracked.
+/// A UPS without its driver's unfinished line: what the driver has reported, the requests that wait for it, and the newest
+/// requests that are tracked. It hears the driver's lines while they are lent from a piece or from the unfinished line.
 #[derive(Drop)]
-pub struct Device {
+struct Reported {
     connected: bool,
     table: UpsState,
     heard_at: u64,
@@ -51,10 +50,32 @@ pub struct Device {
     forced: bool,
     asks: AskRing,
     tracked: TrackedRequests,
-    cutter: LineCutter,
     /// What the driver said that couldn't be read. No answer depends on it.
     unread: Unread,
     alloc: Global,
+}
+
+impl Model for Reported {
+    ghost use Rattle.nut_server_spec.specs.Device as definitions;
+
+    ghost Value = { definitions.Device };
+
+    ghost view = { λ d. record {
+      connected = d.connected;
+      table = d.table;
+      heard_at = d.heard_at;
+      pinged_at = d.pinged_at;
+      forced = d.forced;
+      waits = d.asks;
+      tracked = d.tracked;
+    } };
+}
+
+/// A UPS: what is known of it, and its driver's unfinished line.
+#[derive(Drop)]
+pub struct Device {
+    reported: Reported,
+    cutter: LineCutter,
 }
 
 impl Model for Device {
@@ -63,18 +84,7 @@ impl Model for Device {
 
     ghost Value = { Supply };
 
-    ghost view = { λ d. record {
-      device = record {
-        connected = d.connected;
-        table = d.table;
-        heard_at = d.heard_at;
-        pinged_at = d.pinged_at;
-        forced = d.forced;
-        waits = d.asks;
-        tracked = d.tracked;
-      };
-      rest = d.cutter;
-    } };
+    ghost view = { λ d. record { device = d.reported; rest = d.cutter } };
 
     ghost invariant = { λ d. IsRest d.cutter };
 }
@@ -86,7 +96,7 @@ impl Device {
         ensures { IfOk result (λ d. d ≡ record { device = absent; rest = Text [] }) }
     {
         let asks = AskRing::new(alloc)?;
-        Ok(Device {
+        let reported = Reported {
             connected: false,
             table: UpsState::new(alloc),
             heard_at: 0,
@@ -94,9 +104,12 @@ impl Device {
             forced: false,
             asks,
             tracked: TrackedRequests::new(),
-            cutter: LineCutter::new(),
             unread: Unread::none(),
             alloc,
+        };
+        Ok(Device {
+            reported,
+            cutter: LineCutter::new(),
         })
     }
 
@@ -104,26 +117,26 @@ impl Device {
     pub fn is_connected(&self) -> bool
         ensures { result ≡ self.now.device.connected }
     {
-        self.connected
+        self.reported.connected
     }
 
     /// Returns the table that the driver has reported.
     pub fn table(&self) -> &UpsState
         ensures { result.now ≡ self.now.device.table }
     {
-        &self.table
+        &self.reported.table
     }
 
     /// Whether a shutdown was forced.
     pub fn is_forced(&self) -> bool
         ensures { result ≡ self.now.device.forced }
     {
-        self.forced
+        self.reported.forced
     }
 
     /// Returns which variables the driver has said something about that couldn't be read.
     pub fn unread(&self) -> &Unread {
-        &self.unread
+        &self.reported.unread
     }
 
     /// Returns how many bytes wait for the driver.
@@ -131,28 +144,28 @@ impl Device {
         ensures length { result ≡ length self.now.device.waits }
         ensures within { result ≤ ASKS_MAX }
     {
-        self.asks.len()
+        self.reported.asks.len()
     }
 
     /// Returns a front part of the bytes that wait for the driver. It is empty only if none wait.
     pub fn waiting(&self) -> &[u8]
         ensures { IsFrontPart result.now self.now.device.waits }
     {
-        self.asks.front()
+        self.reported.asks.front()
     }
 
     /// Whether a request fits behind those that wait for the driver.
     pub fn fits(&self, line: &[u8]) -> bool
         ensures { result ≡ fits line.now self.now.device }
     {
-        line.len() <= self.asks.room()
+        line.len() <= self.reported.asks.room()
     }
 
     /// Whether, at `time`, more than `seconds` have passed since a line was last heard or the driver was connected.
     fn is_silent_for(&self, seconds: u64, time: u64) -> bool
         ensures { result ≡ is_past seconds time self.now.device.heard_at }
     {
-        time.saturating_sub(self.heard_at) > seconds
+        time.saturating_sub(self.reported.heard_at) > seconds
     }
 
     /// Whether the data are stale at this time: the driver hasn't finished its dump; or since it was connected it has
@@ -160,14 +173,15 @@ impl Device {
     pub fn is_stale(&self, max_age: u64, time: u64) -> bool
         ensures { result ≡ is_stale max_age time self.now.device }
     {
-        !self.table.dump_done() || !self.table.data_ok() || self.is_silent_for(max_age, time)
+        let table = &self.reported.table;
+        !table.dump_done() || !table.data_ok() || self.is_silent_for(max_age, time)
     }
 
     /// Returns why requests about the UPS's data are refused at this time, if they are.
     pub fn trouble(&self, max_age: u64, time: u64) -> Option<Refusal>
         ensures { result ≡ trouble max_age time self.now.device }
     {
-        if !self.connected {
+        if !self.reported.connected {
             return Some(Refusal::DriverNotConnected);
         }
         if self.is_stale(max_age, time) {
@@ -180,7 +194,7 @@ impl Device {
     fn is_unpinged_for(&self, seconds: u64, time: u64) -> bool
         ensures { result ≡ option_map_or (is_past seconds time) self.now.device.pinged_at true }
     {
-        match self.pinged_at {
+        match self.reported.pinged_at {
             Some(moment) => time.saturating_sub(moment) > seconds,
             None => true,
         }
@@ -192,7 +206,7 @@ impl Device {
         ensures { result ≡ needs_ping max_age time self.now.device }
     {
         let seconds = silence_before_ping(max_age);
-        if !self.connected
+        if !self.reported.connected
             || !self.is_silent_for(seconds, time)
             || !self.is_unpinged_for(seconds, time)
         {
@@ -208,7 +222,7 @@ impl Device {
     {
         if self.needs_ping(max_age, time) {
             self.push(PING);
-            self.pinged_at = Some(time);
+            self.reported.pinged_at = Some(time);
         }
     }
 
@@ -218,12 +232,12 @@ impl Device {
     pub fn up(&mut self, time: u64)
         ensures { self.new ≡ up time self.old }
     {
-        self.connected = true;
-        self.table.clear();
-        self.heard_at = time;
-        self.pinged_at = None;
-        self.asks.clear();
-        self.tracked.abandon();
+        self.reported.connected = true;
+        self.reported.table.clear();
+        self.reported.heard_at = time;
+        self.reported.pinged_at = None;
+        self.reported.asks.clear();
+        self.reported.tracked.abandon();
         self.cutter = LineCutter::new();
         self.push(DUMP_ALL);
     }
@@ -232,9 +246,9 @@ impl Device {
     pub fn down(&mut self)
         ensures { self.new ≡ down self.old }
     {
-        self.connected = false;
-        self.asks.clear();
-        self.tracked.abandon();
+        self.reported.connected = false;
+        self.reported.asks.clear();
+        self.reported.tracked.abandon();
         self.cutter = LineCutter::new();
     }
 
@@ -243,18 +257,18 @@ impl Device {
         ensures { self.new ≡ unheard }
     {
         self.down();
-        self.table.clear();
-        self.heard_at = 0;
-        self.pinged_at = None;
-        self.forced = false;
-        self.tracked = TrackedRequests::new();
+        self.reported.table.clear();
+        self.reported.heard_at = 0;
+        self.reported.pinged_at = None;
+        self.reported.forced = false;
+        self.reported.tracked = TrackedRequests::new();
     }
 
     /// Whether its driver is connected, and is disconnected by this fate at a reload.
     pub fn ends(&self, fate: Fate) -> bool
         ensures { result ≡ (self.now.device.connected && not (is_kept (fate_is fate))) }
     {
-        self.connected && !fate.is_kept()
+        self.reported.connected && !fate.is_kept()
     }
 
     /// Changes the UPS as its fate at a reload says.
@@ -262,7 +276,7 @@ impl Device {
         ensures { self.new ≡ fated (fate_is fate) self.old }
     {
         if !fate.is_kept() {
-            self.unread = Unread::none();
+            self.reported.unread = Unread::none();
         }
         match fate {
             Fate::Kept => {}
@@ -276,14 +290,14 @@ impl Device {
         requires { n ≤ length self.old.device.waits }
         ensures { self.new ≡ drained n self.old }
     {
-        self.asks.took(n);
+        self.reported.asks.took(n);
     }
 
     /// Marks the UPS as forced to shut down.
     pub fn force(&mut self)
         ensures { self.new ≡ record self.old { device = record self.old.device { forced = true } } }
     {
-        self.forced = true;
+        self.reported.forced = true;
     }
 
     /// Queues bytes for the driver. They fit behind those that wait.
@@ -291,7 +305,7 @@ impl Device {
         requires { IsTrue (fits line.now self.old.device) }
         ensures { self.new ≡ record self.old { device = record self.old.device { waits = self.old.device.waits ++ line.now } } }
     {
-        self.asks.push(line);
+        self.reported.asks.push(line);
     }
 
     /// Queues a request to the driver, which is tracked if it has a number. It fits behind those that wait.
@@ -306,7 +320,7 @@ impl Device {
     {
         self.push(line);
         if let Some(number) = number {
-            self.tracked.begin(number);
+            self.reported.tracked.begin(number);
         }
     }
 
@@ -314,7 +328,7 @@ impl Device {
     pub fn status_of(&self, number: u32) -> Option<TrackingStatus>
         ensures { result ≡ option_map (λ t. t.status) (find (λ t. t.number == number) self.now.device.tracked) }
     {
-        self.tracked.status_of(number)
+        self.reported.tracked.status_of(number)
     }
 
     /// Handles a piece of the driver's bytes, line by line. If memory runs out, returns as an error how many lines of
@@ -325,13 +339,9 @@ impl Device {
         ensures few { IfErr result (λ done. done < line_feeds piece.now) }
         ensures memory { IfErr result (λ done. RunsOutOf time piece.now done (Some self.old)) }
     {
-        let mut cutter = mem::take(&mut self.cutter);
-        let (done, heard) = hear_lines(&mut cutter, self, time, piece);
+        let (done, heard) = hear_lines(&mut self.cutter, &mut self.reported, time, piece);
         match heard {
-            Ok(()) => {
-                self.cutter = cutter;
-                Ok(())
-            }
+            Ok(()) => Ok(()),
             Err(_) => {
                 self.down();
                 Err(done)
@@ -340,18 +350,18 @@ impl Device {
     }
 }
 
-/// Takes in the lines of the driver, which the cutter no longer holds. If memory cannot be allocated for one, nothing
+/// Takes in the lines of the driver. If memory cannot be allocated for one, nothing
 /// changes.
-impl HearLine for Device {
+impl HearLine for Reported {
     type With = u64;
 
     type Stop = StateFault;
 
-    ghost heard = { line_told };
+    ghost heard = { line_reported };
 
     ghost GoesOn = { λ _. ⊤ };
 
-    ghost Stops = { λ time line before _ after. (after ≡ before) × IsTrue (report_takes line (Some before)) };
+    ghost Stops = { λ time line before _ after. (after ≡ before) × IsTrue (text_takes line before.table) };
 
     fn hear_line(&mut self, time: u64, line: Line<'_>) -> Result<(), StateFault> {
         let heard = match line {

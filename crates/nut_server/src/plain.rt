@@ -1,48 +1,109 @@
 //! Answers the queries that clients send most often: without a decision, since they change nothing.
 
-ghost use Rattle.std.specs.Prelude.{◌≡◌, ◌++◌, List, ℕ, OnOk};
-ghost use Rattle.nut_proto.specs.PlainQueries.{request_of};
-ghost use Rattle.nut_server_spec.specs.Answer.{Caller, answer, text_of};
+ghost use Rattle.std.specs.Prelude.{◌≡◌, ◌++◌, List, ℕ, OnOk, map};
+ghost use Rattle.nut_proto.specs.PlainQueries.{request_of, ups_of};
+ghost use Rattle.nut_proto.specs.declared.request.ListQuery.TheVariants as queries;
+ghost use Rattle.nut_server_spec.specs.Answer.{Caller, Line, Listing, answer, described, on_variable, refused, text_of, var_row};
 ghost use Rattle.nut_server_spec.specs.Command.{Asks};
+ghost use Rattle.nut_server_spec.specs.Configuration.{number_of_ups};
 ghost use Rattle.nut_server.specs.declared.effect.Effect.TheVariants as effects;
-ghost use Rattle.nut_server.specs.inside.Answers.{outcome};
+ghost use Rattle.nut_server.specs.inside.Answers.{answer_from};
 ghost use Rattle.nut_server.specs.inside.Effects.{Does};
 
-use crate::answer::Answer;
-use crate::lists::list_variables;
-use crate::queries::{describe_ups, show_variable};
+use crate::answer::{Answer, Rows};
+use crate::config::Ups;
+use crate::device::Device;
+use crate::queries::variable_of;
+use crate::row::front_of;
 use crate::scene::Scene;
-use crate::text::put_answer;
-use nut_proto::{PlainQuery, Refusal, Reply};
+use crate::text::{put_answer, put_variable};
+use nut_proto::{ListQuery, PlainQuery, Refusal, Reply, Word};
 use std::alloc::AllocError;
 
-/// Makes `out` the text of the answer to a plain query, which is the same for every caller. If memory cannot be allocated,
-/// `out` may hold a part of it.
+/// Makes `out` the text of the answer to a plain query, which is the same for every caller. The UPS that it asks about was found
+/// at this place of ups.conf, if there is one. If memory cannot be allocated, `out` may hold a part of the text.
 pub fn write_answer(
     out: &mut Vec<u8>,
     scene: &Scene<'_>,
+    place: Option<usize>,
     query: PlainQuery<'_>,
 ) -> Result<(), AllocError>
+    requires found { place ≡ number_of_ups (ups_of query) scene.now.configuration.upses }
     ensures text { (caller : Caller) → OnOk result (out.new.items ≡ text_of (answer scene.now caller (Asks (request_of query.entry)))) }
     ensures quiet { (caller : Caller) (line : List ℕ) → Does scene.now (Asks (request_of query.entry)) (answer scene.now caller (Asks (request_of query.entry))) effects.Nothing line }
 {
     out.clear();
     match query {
         PlainQuery::GetVar { ups, variable } => {
-            put_outcome(out, &show_variable(scene, ups, variable))
+            put_value(out, scene.device_at(place), ups, variable)
         }
-        PlainQuery::GetUpsDesc { ups } => put_outcome(out, &describe_ups(scene, ups)),
-        PlainQuery::ListVar { ups } => put_outcome(out, &list_variables(scene, ups)),
+        PlainQuery::GetUpsDesc { ups } => put_description(out, scene.config.ups_found(place), ups),
+        PlainQuery::ListVar { ups } => put_list(out, scene.device_at(place), ups),
     }
 }
 
-/// Appends an answer or a refusal. If memory cannot be allocated, `out` may hold a part of it.
+/// Appends a refusal. If memory cannot be allocated, `out` may hold a part of it.
+#[inline(never)]
 #[tactic(auto, unfolding(nut_server_spec::specs::Answer::text_of))]
-fn put_outcome(out: &mut Vec<u8>, told: &Result<Answer<'_>, Refusal>) -> Result<(), AllocError>
-    ensures { OnOk result (out.new.items ≡ out.old.items ++ text_of (outcome told.now)) }
+fn put_refusal(out: &mut Vec<u8>, refusal: Refusal) -> Result<(), AllocError>
+    ensures { OnOk result (out.new.items ≡ out.old.items ++ text_of (refused refusal)) }
 {
-    match told {
-        Ok(answer) => put_answer(out, answer),
-        Err(refusal) => Reply::Refused(*refusal).put(out),
+    Reply::Refused(refusal).put(out)
+}
+
+/// Appends the value of a variable of this UPS, or why there is none.
+#[tactic(auto, unfolding(nut_server_spec::specs::Answer::text_of))]
+fn put_value(
+    out: &mut Vec<u8>,
+    device: Result<&Device, Refusal>,
+    ups: &[u8],
+    name: &[u8],
+) -> Result<(), AllocError>
+    ensures { OnOk result (out.new.items ≡ out.old.items ++ text_of (answer_from device.entry (λ d. on_variable name.now d (λ v. Line (var_row ups.now d v))))) }
+{
+    let device = match device {
+        Ok(device) => device,
+        Err(refusal) => return put_refusal(out, refusal),
+    };
+    match variable_of(device, name) {
+        Ok(variable) => put_variable(out, &front_of(b"VAR", ups), ups, device, variable),
+        Err(refusal) => put_refusal(out, refusal),
+    }
+}
+
+/// Appends the description of this UPS, or that there is none.
+#[tactic(auto, unfolding(nut_server_spec::specs::Answer::text_of))]
+fn put_description(out: &mut Vec<u8>, found: Option<Ups<'_>>, ups: &[u8]) -> Result<(), AllocError>
+    ensures { OnOk result (out.new.items ≡ out.old.items ++ text_of (described ups.now found.entry)) }
+{
+    let Some(found) = found else {
+        return put_refusal(out, Refusal::UnknownUps);
+    };
+    Reply::UpsDesc {
+        ups: Word::new(ups),
+        description: Word::new(found.description),
+    }
+    .put(out)
+}
+
+/// Appends the variables of this UPS, or why they aren't told.
+fn put_list(
+    out: &mut Vec<u8>,
+    device: Result<&Device, Refusal>,
+    ups: &[u8],
+) -> Result<(), AllocError>
+    ensures { OnOk result (out.new.items ≡ out.old.items ++ text_of (answer_from device.entry (λ d. Listing (queries.Var ups.now) (map (var_row ups.now d) d.table.variables)))) }
+{
+    match device {
+        Ok(device) => put_answer(
+            out,
+            &Answer::Listing(
+                ListQuery::Var {
+                    ups: Word::new(ups),
+                },
+                Rows::Variables(ups, device),
+            ),
+        ),
+        Err(refusal) => put_refusal(out, refusal),
     }
 }

@@ -1,9 +1,10 @@
 //! The scene: what the server knows when it answers a line.
 
-ghost use Rattle.std.specs.Prelude.{◌≡◌, None, Some, MatchResult};
+ghost use Rattle.std.specs.Prelude.{◌≡◌, ℕ, List, None, Some, MatchResult};
 ghost use Rattle.nut_proto.specs.declared.refusal.Refusal.TheVariants as refusals;
 ghost use Rattle.nut_server_spec.specs.Answer as definitions;
 ghost use Rattle.nut_server_spec.specs.Answer.{ups_number, device_at, on_device, refused, status_of};
+ghost use Rattle.nut_server_spec.specs.Configuration.{number_of_ups};
 ghost use Rattle.nut_server_spec.specs.Device as devices;
 ghost use Rattle.nut_server_spec.specs.Device.{trouble};
 
@@ -51,7 +52,16 @@ impl<'a> Scene<'a> {
             (λ u. ups_number self.now name.now ≡ Some u)
             (λ refusal. (ups_number self.now name.now ≡ None) × (refusal ≡ refusals.UnknownUps)) }
     {
-        let Some(place) = self.config.find_likely_ups(self.likely, name) else {
+        self.number_at(self.config.find_likely_ups(self.likely, name))
+    }
+
+    /// Returns the number of the UPS that was found at this place of ups.conf, or `UnknownUps` if none was.
+    fn number_at(&self, place: Option<usize>) -> Result<usize, Refusal>
+        ensures { (name : List ℕ) → place ≡ number_of_ups name self.now.configuration.upses → MatchResult result
+            (λ u. ups_number self.now name ≡ Some u)
+            (λ refusal. (ups_number self.now name ≡ None) × (refusal ≡ refusals.UnknownUps)) }
+    {
+        let Some(place) = place else {
             return Err(Refusal::UnknownUps);
         };
         self.numbers.get(place).copied().ok_or(Refusal::UnknownUps)
@@ -80,7 +90,16 @@ impl<'a> Scene<'a> {
             (λ d. (next : devices.Device → definitions.Answer) → on_device self.now name.now next ≡ next d.now.device)
             (λ refusal. (next : devices.Device → definitions.Answer) → on_device self.now name.now next ≡ refused refusal) }
     {
-        self.data_of(self.number_of(name)?)
+        self.device_at(self.config.find_likely_ups(self.likely, name))
+    }
+
+    /// Returns the UPS that was found at this place of ups.conf, as [`device_named`](Self::device_named) does.
+    pub fn device_at(&self, place: Option<usize>) -> Result<&'a Device, Refusal>
+        ensures { (name : List ℕ) → place ≡ number_of_ups name self.now.configuration.upses → MatchResult result
+            (λ d. (next : devices.Device → definitions.Answer) → on_device self.now name next ≡ next d.now.device)
+            (λ refusal. (next : devices.Device → definitions.Answer) → on_device self.now name next ≡ refused refusal) }
+    {
+        self.data_of(self.number_at(place)?)
     }
 
     /// Returns how the tracked request with this number ended: `Unknown` if no UPS remembers it.

@@ -103,7 +103,7 @@ fn encode_writable(
 
 /// Appends the row of a variable in LIST VAR, with the value that clients see. It begins with `front`, and is encoded if the
 /// front or the end of the row isn't kept, or if another value is shown.
-fn put_variable(
+pub fn put_variable(
     out: &mut Vec<u8>,
     front: &Front,
     ups: &[u8],

@@ -1,5 +1,5 @@
 //! Reads the words of a plain line: bare words with one space between two. Nearly all requests are such lines.
-ghost use Rattle.std.specs.Prelude.{◌≡◌, ℕ, ◌≤◌, List, Ok, true, length, slice_range, IfSome};
+ghost use Rattle.std.specs.Prelude.{◌≡◌, ℕ, ◌≤◌, List, [], Ok, true, length, slice_range, IfSome};
 ghost use Rattle.std.specs.List.{list_all};
 ghost use Rattle.nut_words.specs.Cutter.{IsFirstLine};
 ghost use Rattle.nut_words.specs.Quoting.{texts};
@@ -10,7 +10,8 @@ use crate::limits::{LINE_MAX, PLAIN_WORDS_MAX};
 use crate::quoting::is_bare_byte;
 use arrayvec::ArrayVec;
 
-/// Returns the first place from `at` on whose byte isn't one of a bare word.
+/// Returns the first place from `at` on whose byte isn't one of a bare word. In its callers its loop would carry their values along.
+#[inline(never)]
 fn bare_end(piece: &[u8], at: usize) -> usize
     requires { at ≤ length piece.now }
     ensures onward { at ≤ result }
@@ -24,16 +25,19 @@ fn bare_end(piece: &[u8], at: usize) -> usize
     end
 }
 
-/// Returns the words of the first line of a piece, and the bytes behind it, if that line is plain: one to
-/// [`PLAIN_WORDS_MAX`] bare words, with one space between two and nothing else. It is for a piece whose first byte begins
-/// a line. Returns `None` if the piece begins with anything else, whether or not that can be read.
+/// The words of a plain line.
+pub type PlainWords<'a> = ArrayVec<&'a [u8], PLAIN_WORDS_MAX>;
+
+/// Appends the words of the first line of a piece to `words`, which is empty, and returns the bytes behind that line, if the line is
+/// plain: one to [`PLAIN_WORDS_MAX`] bare words, with one space between two and nothing else. It is for a piece whose first byte
+/// begins a line. Returns `None` if the piece begins with anything else, whether or not that can be read; `words` may then hold some.
 ///
 /// The words are those that [`split`](crate::split) reads. This function copies nothing, allocates no memory, and looks at
 /// each byte once.
-pub fn plain_line<'a>(piece: &'a [u8]) -> Option<(ArrayVec<&'a [u8], PLAIN_WORDS_MAX>, &'a [u8])>
-    ensures { IfSome result (λ found. (text : List ℕ) × IsFirstLine text piece.now found.1.now × (spelled text ≡ Ok (texts found.0.items))) }
+pub fn plain_line<'a>(piece: &'a [u8], words: &mut PlainWords<'a>) -> Option<&'a [u8]>
+    requires { words.old.items ≡ [] }
+    ensures { IfSome result (λ after. (text : List ℕ) × IsFirstLine text piece.now after.now × (spelled text ≡ Ok (texts words.new.items))) }
 {
-    let mut words: ArrayVec<&'a [u8], PLAIN_WORDS_MAX> = ArrayVec::new();
     let mut at = 0;
     while at < piece.len() {
         let end = bare_end(piece, at);
@@ -42,7 +46,7 @@ pub fn plain_line<'a>(piece: &'a [u8]) -> Option<(ArrayVec<&'a [u8], PLAIN_WORDS
         }
         words.push(&piece[at..end]);
         if piece[end] == b'\n' && end <= LINE_MAX {
-            return Some((words, &piece[end + 1..]));
+            return Some(&piece[end + 1..]);
         }
         if piece[end] != b' ' {
             return None;

@@ -1,10 +1,13 @@
 -- For private functions, nothing here has to be believed: the answers and rows of the definitions that those of the
 -- code represent.
 use Rattle.std.specs.Prelude.{List, map, filter, Result, Ok, Err}
+use Rattle.std.specs.Borrow.{Bor}
 use Rattle.nut_proto.specs.declared.refusal.Refusal.{Refusal}
 use Rattle.nut_proto.specs.declared.reply.Reply.{Reply}
 use Rattle.nut_proto.specs.declared.reply.Reply.TheVariants as replies
 use Rattle.nut_server_spec.specs.Answer as A
+use Rattle.nut_server_spec.specs.Content.{Supply}
+use Rattle.nut_server_spec.specs.Device.{Device}
 use Rattle.nut_server_spec.specs.machine.Machine.{guest_of}
 use Rattle.nut_server.specs.declared.answer.Rows.{Rows}
 use Rattle.nut_server.specs.declared.answer.Rows.TheVariants as rows
@@ -33,3 +36,8 @@ given (answer.Listing query rows) = A.Listing query (rows_of rows)
 abbrev pub outcome : Result Answer Refusal → A.Answer
 outcome (Ok reply) = given reply
 outcome (Err refusal) = A.refused refusal
+
+-- the answer that the UPS that was found leads to, or the refusal
+abbrev pub answer_from : Result (Bor Supply) Refusal → (Device → A.Answer) → A.Answer
+answer_from (Ok device) next = next device.now.device
+answer_from (Err refusal) next = A.refused refusal

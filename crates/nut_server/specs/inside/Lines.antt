@@ -6,10 +6,15 @@ use Rattle.nut_words.specs.Lines.{LineText, Text}
 use Rattle.nut_server_spec.specs.Acceptance.{session_of}
 use Rattle.nut_server_spec.specs.Command.{Command, command_of}
 use Rattle.nut_server_spec.specs.Content.{Content, Session, Supply}
+use Rattle.nut_server_spec.specs.Device.{Device}
 use Rattle.nut_server_spec.specs.Outcome.{line_takes}
 use Rattle.nut_server_spec.specs.machine.Machine.{answer_in, reported_by}
 use Rattle.nut_server.specs.inside.Effects.{answered_by}
 use Rattle.nut_server.specs.declared.server.hearing.Hearer.{Hearer}
+
+-- what is known of a UPS after a line of its driver at this moment
+abbrev pub line_reported : ℕ → LineText → Device → Device
+line_reported time line d = (reported_by time line (record { device = d; rest = line })).device
 
 -- a UPS after a line of its driver at this moment
 abbrev pub line_told : ℕ → LineText → Supply → Supply

@@ -107,7 +107,7 @@ impl Server {
             connections: &self.connections,
             likely: self.likely,
         };
-        write_answer(&mut self.scratch, &scene, query)?;
+        write_answer(&mut self.scratch, &scene, place, query)?;
         self.connections
             .answer(at, self.scratch.as_slice(), &Effect::Nothing)?;
         Ok(())
