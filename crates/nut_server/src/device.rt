@@ -1,8 +1,9 @@
 //! A UPS and its driver.
 
-ghost use Rattle.std.specs.Prelude.{◌≡◌, ◌≤◌, ◌<◌, ◌/◌, ⊤, [], ◌++◌, Some, IfOk, IfErr, IsTrue, OnOk, find, length, option_map, true, not, ◌==◌, ◌&&◌};
+ghost use Rattle.std.specs.Prelude.{◌≡◌, ◌≤◌, ◌<◌, ◌/◌, ⊤, [], ◌++◌, Some, IfOk, IfErr, IfSome, IsTrue, OnOk, find, length, option_map, true, not, ◌==◌, ◌&&◌};
 ghost use Rattle.std.specs.Option.{option_map_or};
 ghost use Rattle.nut_queue.specs.Front.{IsFrontPart};
+ghost use Rattle.nut_words.specs.Cutter.{IsFirstLine};
 ghost use Rattle.nut_words.specs.Lines.{Text};
 ghost use Rattle.nut_server_spec.specs.Acceptance.{front, line_feeds};
 ghost use Rattle.nut_server_spec.specs.Content.{down, unheard};
@@ -21,7 +22,7 @@ use crate::unread::Unread;
 use nut_proto::{Refusal, TrackingStatus};
 use nut_queue::{ASKS_MAX, AskRing};
 use nut_state::{Heard, StateFault, UpsState};
-use nut_words::{HearLine, Line, LineCutter, hear_lines};
+use nut_words::{HearLine, Line, LineCutter, first_line, hear_lines};
 use std::alloc::{AllocError, Global};
 use std::marker::Model;
 use std::mem;
@@ -317,9 +318,43 @@ impl Device {
         self.tracked.status_of(number)
     }
 
+    /// Returns the line that the piece is, without its line feed, if nothing is kept of a line before it.
+    fn only_line<'a>(&self, piece: &'a [u8]) -> Option<&'a [u8]>
+        ensures { IfSome result (λ text. (self.now.rest ≡ Text []) × IsFirstLine text.now piece.now []) }
+    {
+        if !self.cutter.is_at_start() {
+            return None;
+        }
+        let (text, after) = first_line(piece)?;
+        if !after.is_empty() {
+            return None;
+        }
+        Some(text)
+    }
+
     /// Handles a piece of the driver's bytes, line by line. If memory runs out, returns as an error how many lines of
-    /// the piece were done; the driver then counts as disconnected.
+    /// the piece were done; the driver then counts as disconnected. Most pieces are one line, which is heard where it lies.
     pub fn hear(&mut self, time: u64, piece: &[u8]) -> Result<(), usize>
+        ensures ok { OnOk result (self.new ≡ bytes_reported time piece.now self.old) }
+        ensures lost { IfErr result (λ done. self.new ≡ down (bytes_reported time (front done piece.now) self.old)) }
+        ensures few { IfErr result (λ done. done < line_feeds piece.now) }
+        ensures memory { IfErr result (λ done. RunsOutOf time piece.now done (Some self.old)) }
+    {
+        let Some(text) = self.only_line(piece) else {
+            return self.hear_lines(time, piece);
+        };
+        match self.hear_line(time, Line::Text(text)) {
+            Ok(()) => Ok(()),
+            Err(_) => {
+                self.down();
+                Err(0)
+            }
+        }
+    }
+
+    /// Handles a piece as [`hear`](Self::hear) promises: also the end of the line that was kept, and the beginning of the
+    /// one to keep.
+    fn hear_lines(&mut self, time: u64, piece: &[u8]) -> Result<(), usize>
         ensures ok { OnOk result (self.new ≡ bytes_reported time piece.now self.old) }
         ensures lost { IfErr result (λ done. self.new ≡ down (bytes_reported time (front done piece.now) self.old)) }
         ensures few { IfErr result (λ done. done < line_feeds piece.now) }
