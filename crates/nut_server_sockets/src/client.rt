@@ -13,7 +13,7 @@ use nut_server::Server;
 use std::net::IpAddr;
 
 /// How many seconds a client may be silent.
-const PATIENCE: u64 = 60;
+pub const PATIENCE: u64 = 60;
 
 /// How many seconds a client may be silent if it is logged in.
 const PATIENCE_WITH_LOGIN: u64 = 600;
@@ -143,19 +143,19 @@ impl Client {
         self.link.note(event);
     }
 
-    /// Returns how many seconds of silence the client is allowed, if it has been silent for longer.
-    pub fn oversilent(&self, server: &Server, second: u64) -> Option<u64> {
-        let silence = second.saturating_sub(self.spoke);
-        if silence <= PATIENCE {
-            return None;
+    /// Returns how many seconds of silence the client is allowed. Whether it is logged in matters only after
+    /// [`PATIENCE`].
+    pub fn patience(&self, server: &Server, second: u64) -> u64 {
+        if second > self.spoke.saturating_add(PATIENCE) && server.is_logged_in(self.number) {
+            PATIENCE_WITH_LOGIN
+        } else {
+            PATIENCE
         }
-        if !server.is_logged_in(self.number) {
-            return Some(PATIENCE);
-        }
-        if silence <= PATIENCE_WITH_LOGIN {
-            return None;
-        }
-        Some(PATIENCE_WITH_LOGIN)
+    }
+
+    /// Returns the last second of as many of silence.
+    pub fn last_of(&self, patience: u64) -> u64 {
+        self.spoke.saturating_add(patience)
     }
 }
 

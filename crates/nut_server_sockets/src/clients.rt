@@ -3,7 +3,7 @@
 ghost use Rattle.std.specs.Prelude.{length};
 ghost use Rattle.nut_io.specs.Writes.{IsWithin};
 
-use crate::client::Client;
+use crate::client::{Client, PATIENCE};
 use crate::door::Guest;
 use crate::keepalive::keep_alive;
 use crate::login::Login;
@@ -41,6 +41,8 @@ pub struct Clients {
     last_heard: usize,
     /// How many seconds the server has been awake. Seconds in which it was stopped don't count as silence of a client.
     second: u64,
+    /// The last second in which no client can have been silent for too long.
+    patient: u64,
 }
 
 impl Clients {
@@ -51,6 +53,7 @@ impl Clients {
             keys: HashMap::new(alloc),
             last_heard: 0,
             second: 0,
+            patient: u64::MAX,
         }
     }
 
@@ -75,6 +78,7 @@ impl Clients {
         registry.register(&mut stream, token, all)?;
         keep_alive(&stream);
         let client = Client::new(number, address, stream, self.second);
+        self.patient = self.patient.min(client.last_of(PATIENCE));
         if self.keys.insert(number, key).is_err() {
             return Err(io::Error::from(ErrorKind::OutOfMemory));
         }
@@ -145,17 +149,25 @@ impl Clients {
         self.second = self.second.saturating_add(1);
     }
 
-    /// Returns a client that has been silent for longer than it may, if there is one.
-    pub fn find_silent(&self, server: &Server) -> Option<Silent> {
+    /// Returns a client that has been silent for longer than it may, if there is one. Most calls look at none.
+    pub fn find_silent(&mut self, server: &Server) -> Option<Silent> {
+        if self.second <= self.patient {
+            return None;
+        }
+        let mut patient = u64::MAX;
         for (_, client) in self.sockets.iter() {
-            if let Some(seconds) = client.oversilent(server, self.second) {
+            let seconds = client.patience(server, self.second);
+            let last = client.last_of(seconds);
+            if self.second > last {
                 return Some(Silent {
                     number: client.number(),
                     address: client.address(),
                     seconds,
                 });
             }
+            patient = patient.min(last);
         }
+        self.patient = patient;
         None
     }
 

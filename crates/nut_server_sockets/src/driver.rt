@@ -28,6 +28,8 @@ pub struct Driver {
     missed: Option<ErrorKind>,
     /// Whether clients wait until the driver says something.
     is_awaited: bool,
+    /// Whether the last read may have left something.
+    has_more: bool,
     /// Whether the data of the UPS were stale when that was last noted since the driver was connected.
     is_stale: bool,
     /// Whether it was noted that a shutdown of the UPS is forced.
@@ -59,6 +61,7 @@ impl Driver {
             link: None,
             missed: None,
             is_awaited: false,
+            has_more: false,
             is_stale: false,
             is_forced: false,
             unread_told: 0,
@@ -134,14 +137,14 @@ impl Driver {
         }
     }
 
-    /// Makes clients wait until the driver says something, if it is connected.
+    /// Makes clients wait until the driver says something and all of that is read, if it is connected.
     pub fn await_word(&mut self) {
         self.is_awaited = self.is_connected();
     }
 
-    /// Whether clients wait until the driver says something.
+    /// Whether clients wait until the driver says something and all of that is read.
     pub fn is_awaited(&self) -> bool {
-        self.is_awaited
+        self.is_awaited || self.has_more
     }
 
     /// Reads from the driver.
@@ -150,6 +153,7 @@ impl Driver {
             return Heard::Nothing;
         };
         let heard = link.hear(piece);
+        self.has_more = heard == Heard::Part;
         if heard != Heard::Nothing {
             self.is_awaited = false;
         }
@@ -181,5 +185,6 @@ impl Driver {
     pub fn close(&mut self) {
         self.link = None;
         self.is_awaited = false;
+        self.has_more = false;
     }
 }

@@ -96,7 +96,7 @@ impl Drivers {
         }
     }
 
-    /// Makes clients wait until each driver that is connected says something.
+    /// Makes clients wait until each driver that is connected says something and all of that is read.
     pub fn await_words(&mut self) {
         for place in self.by_number.iter_mut() {
             if let Some(driver) = place {
@@ -105,7 +105,7 @@ impl Drivers {
         }
     }
 
-    /// Whether clients wait until a driver says something.
+    /// Whether clients wait for a driver.
     pub fn are_awaited(&self) -> bool {
         self.by_number.iter().any(|place| matches!(place, Some(driver) if driver.is_awaited()))
     }

@@ -163,6 +163,11 @@ impl Listeners {
         Ok(())
     }
 
+    /// How many places there are: the number of each listener is less.
+    pub fn len(&self) -> usize {
+        self.places.len()
+    }
+
     /// Whether clients can connect somewhere.
     fn is_open(&self) -> bool {
         self.places

@@ -18,7 +18,6 @@ use crate::report::{End, Report};
 use crate::source::Source;
 use crate::stall::Stall;
 use mio::Events;
-use nut_conf::LISTENERS_MAX;
 use nut_io::{Piece, Written};
 use nut_poll::{Heard, LookUps, Ready, Reports, Rounds, SOCKETS_MAX, may_be_read};
 use nut_server::{Config, Server, silence_before_ping};
@@ -29,9 +28,6 @@ use std::io::{ErrorKind, Write};
 use std::net::{IpAddr, Net};
 use std::process::Processes;
 use std::time::Clock;
-
-/// How many pieces of one driver are read in a second before the next driver is looked at: more than its socket holds.
-const PIECES: usize = 1024;
 
 /// What the sockets are watched with, which the program gives.
 #[derive(Drop)]
@@ -61,11 +57,6 @@ pub struct Sockets {
     has_given: bool,
     /// The moment that was last given.
     moment: u64,
-    /// Whether silent clients have still to be looked for in this second.
-    sheds: bool,
-    /// Which driver is to be looked at next in this second, and how many more of its pieces may be read.
-    roll: usize,
-    pieces: usize,
     stall: Stall,
 }
 
@@ -83,9 +74,9 @@ impl Sockets {
     ) -> io::Result<Sockets> {
         let stall = Stall::new(alloc)?;
         let audit = Audit::new(alloc)?;
-        let rounds = Rounds::new(rt, alloc, LISTENERS_MAX)?;
+        let rounds = Rounds::new(rt, alloc, listeners.len())?;
         let door = Door::new(rounds.registry(), listeners)?;
-        Ok(Sockets {
+        let mut sockets = Sockets {
             rounds,
             door,
             clients: Clients::new(alloc),
@@ -95,15 +86,14 @@ impl Sockets {
             asks: false,
             has_given: false,
             moment: 0,
-            sheds: false,
-            roll: 0,
-            pieces: PIECES,
             stall,
-        })
+        };
+        sockets.call_drivers();
+        Ok(sockets)
     }
 
     /// Reports what a client did by the last arrival, and returns what comes next, after at most one wait. After each
-    /// second silent clients come first, then a new configuration, and then the drivers.
+    /// second silent clients come first, then a new configuration, and then the drivers that aren't connected.
     ///
     /// # Errors
     ///
@@ -250,13 +240,7 @@ impl Sockets {
 
     /// Closes the socket of a client that was silent for too long. Returns the number of its connection.
     fn shed(&mut self, server: &Server, reports: &mut Reports<'_>) -> Option<u64> {
-        if !self.sheds {
-            return None;
-        }
-        let Some(silent) = self.clients.find_silent(server) else {
-            self.sheds = false;
-            return None;
-        };
+        let silent = self.clients.find_silent(server)?;
         reports.tell(Report::Shed(silent.address, silent.seconds));
         self.drop_client(silent.number, reports);
         Some(silent.number)
@@ -298,11 +282,21 @@ impl Sockets {
             self.has_given = false;
             reloader.tell(server, reports);
             self.drivers.follow(server);
+            self.call_drivers();
         }
     }
 
-    /// Looks at the drivers, if they haven't been looked at in this second, and then at the sockets of this round,
-    /// until one has something to tell.
+    /// Has each driver that isn't connected dialled in this round.
+    fn call_drivers(&mut self) {
+        for (u, place) in self.drivers.as_slice().iter().enumerate() {
+            if matches!(place, Some(driver) if !driver.is_connected()) {
+                self.rounds.ready.insert(Source::Driver(u).token());
+            }
+        }
+        self.rounds.begin();
+    }
+
+    /// Looks at the sockets of this round until one has something to tell.
     fn look(
         &mut self,
         server: &Server,
@@ -313,9 +307,6 @@ impl Sockets {
         ensures may { IfSome result (λ n. MayCome n server.now) }
         ensures goes_on { IfSome result (λ n. n ≢ next.End) }
     {
-        if let Some(next) = self.call_roll(piece, net, reports) {
-            return Some(next);
-        }
         self.end_stall();
         for _ in 0..SOCKETS_MAX {
             let token = self.rounds.ready.take()?;
@@ -343,31 +334,6 @@ impl Sockets {
             Source::Driver(u) => self.look_at_driver(u, piece, net, reports),
             Source::Client(key) => self.look_at_client(server, key, piece, reports),
         }
-    }
-
-    /// Looks at each driver once a second, as long as it has something to read, whether or not an event came.
-    fn call_roll(
-        &mut self,
-        piece: &mut Piece,
-        net: &impl Net,
-        reports: &mut Reports<'_>,
-    ) -> Option<Next>
-        ensures may { (s : Content) → IfSome result (λ n. MayCome n s) }
-        ensures goes_on { IfSome result (λ n. n ≢ next.End) }
-    {
-        for _ in self.roll..self.drivers.len() {
-            let next = self.look_at_driver(self.roll, piece, net, reports);
-            if self.pieces > 0 && matches!(next, Some(Next::DriverBytes(_))) {
-                self.pieces -= 1;
-            } else {
-                self.roll = self.roll.saturating_add(1);
-                self.pieces = PIECES;
-            }
-            if let Some(next) = next {
-                return Some(next);
-            }
-        }
-        None
     }
 
     /// Accepts a client. If there is no memory or no descriptor for one, that is reported, whether or not a client waits,
@@ -488,9 +454,9 @@ impl Sockets {
         self.rounds.turn(clock)
     }
 
-    /// Begins a second: silent clients, the reloader and all drivers are to be looked at. If more than one second and
-    /// more than a third of MAXAGE passed at once, the drivers are sent PING now, and clients wait until they have
-    /// answered, two seconds at most.
+    /// Begins a second: the reloader is to be asked, and the drivers that aren't connected are to be dialled. If more than
+    /// one second and more than a third of MAXAGE passed at once, the drivers are sent PING now, and clients wait until
+    /// they have answered, two seconds at most.
     fn begin_second(&mut self, server: &Server, moment: u64, reports: &mut Reports<'_>) {
         let passed = moment.saturating_sub(self.moment);
         self.moment = moment;
@@ -499,10 +465,8 @@ impl Sockets {
         self.audit.second(reports);
         self.drivers.catch_up(server);
         self.tell_changes(server, reports);
-        self.sheds = true;
+        self.call_drivers();
         self.asks = true;
-        self.roll = 0;
-        self.pieces = PIECES;
         let max_age = u64::from(server.config().max_age());
         if passed > 1 && passed > silence_before_ping(max_age) {
             self.drivers.await_words();
