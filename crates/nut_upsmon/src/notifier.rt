@@ -29,7 +29,7 @@ pub struct Notifier<'a, R: Processes> {
 }
 
 impl<'a, R: Processes> Notifier<'a, R> {
-    /// Makes a notifier that prints on `out` and tells by this configuration. It allocates room for the longest text.
+    /// Makes a notifier that prints on `out`, and runs no command yet. It allocates room for the longest text.
     ///
     /// # Errors
     ///
@@ -38,17 +38,14 @@ impl<'a, R: Processes> Notifier<'a, R> {
         processes: &'a R,
         alloc: Global,
         out: OutputLines,
-        config: &UpsmonConf,
     ) -> Result<Notifier<'a, R>, AllocError> {
-        let mut notifier = Notifier {
+        Ok(Notifier {
             alloc,
             out,
             text: Vec::with_capacity(alloc, TEXT_MAX)?,
             command: NotifyCommand::new(processes, alloc)?,
             runtimes: LowRuntimes::watched(processes, alloc),
-        };
-        notifier.restart(config)?;
-        Ok(notifier)
+        })
     }
 
     /// Tells by this configuration from now on. Runs of the command that haven't ended go on.
