@@ -1,7 +1,10 @@
 -- What upsmon does to its machine.
-use Rattle.std.specs.Prelude.{◌≡◌, Bool, List, [], ◌∷◌, ◌++◌, if◌then◌else◌, Option, Some, None, option_map}
+use Rattle.std.specs.Prelude.{◌≡◌, ℕ, Bool, ◌||◌, List, [], ◌∷◌, ◌++◌, if◌then◌else◌, Option, Some, None, option_map}
 use Rattle.std.specs.List.{AllByRecursion}
+use Rattle.nut_conf.specs.declared.notice.NoticeFlags.{NoticeFlags}
 use Rattle.nut_conf.specs.declared.upsmon.UpsmonConf.{UpsmonConf}
+use Rattle.nut_conf.specs.Upsmon.{flags_of}
+use Rattle.nut_monitor.specs.Texts.{text_of}
 use Rattle.nut_monitor_spec.specs.declared.Notice.{Notice}
 use Rattle.nut_monitor_spec.specs.declared.Phase.{Phase}
 use Rattle.nut_monitor_spec.specs.declared.Phase.TheVariants.{Halted}
@@ -15,8 +18,10 @@ pub data Act : Type 0 where
   Readied : (config : UpsmonConf) → Act
   -- it halts by the configuration that was readied last, from now on
   Changed : Act
-  -- it told this notice, as this configuration wants it
-  Told : (config : UpsmonConf) (notice : Notice) → Act
+  -- it printed this text as a line, or tried to
+  Printed : (text : List ℕ) → Act
+  -- it ran NOTIFYCMD with this notice and its text, or tried to
+  Called : (notice : Notice) (text : List ℕ) → Act
   -- it tried to set POWERDOWNFLAG
   TriedFlag : Act
   -- it ran SHUTDOWNCMD, or tried to
@@ -25,6 +30,22 @@ pub data Act : Type 0 where
 -- a history, the newest act first, after one more; who tells nothing goes on telling nothing
 abbrev pub does : Act → Option (List Act) → Option (List Act)
 does act acts = option_map (λ before. act ∷ before) acts
+
+abbrev pub printed : Bool → List ℕ → Option (List Act) → Option (List Act)
+printed is_wanted text acts = if is_wanted then does (Printed text) acts else acts
+
+abbrev pub called : Bool → Notice → List ℕ → Option (List Act) → Option (List Act)
+called is_wanted notice text acts = if is_wanted then does (Called notice text) acts else acts
+
+-- a history after a notice with these flags and this text: IGNORE keeps it from all; SYSLOG or WALL has it printed, and
+-- EXEC has NOTIFYCMD run with it
+abbrev pub told_by : NoticeFlags → Notice → List ℕ → Option (List Act) → Option (List Act)
+told_by flags notice text acts =
+    if flags.ignore then acts else called flags.exec notice text (printed (flags.syslog || flags.wall) text acts)
+
+-- a history after a notice of a monitor with this configuration
+abbrev pub told : UpsmonConf → Notice → Option (List Act) → Option (List Act)
+told config notice acts = told_by (flags_of notice.kind config) notice (text_of config notice) acts
 
 -- the configuration that was readied last
 abbrev pub readied : List Act → Option UpsmonConf

@@ -1,7 +1,8 @@
 //! What upsmon does to its machine.
 
 ghost use Rattle.std.specs.Prelude.{◌≡◌, List, Option, IfSome, IfNone, OnOk, OnErr};
-ghost use Rattle.nut_upsmon.specs.Acts.{Act, Readied, Changed, Told, TriedFlag, RanShutdown, does};
+ghost use Rattle.nut_monitor.specs.Texts.{text_of};
+ghost use Rattle.nut_upsmon.specs.Acts.{Act, Readied, Changed, Printed, Called, TriedFlag, RanShutdown, does};
 
 use crate::beginning::Beginning;
 use crate::halt::HaltFault;
@@ -24,9 +25,17 @@ pub trait Actor: Drop {
         ensures ok { OnOk result (log self.new ≡ does (Readied config.now) (log self.old)) }
         ensures err { OnErr result (log self.new ≡ log self.old) };
 
-    /// Tells a notice of this monitor.
-    fn tell(&mut self, monitor: &Monitor, notice: Notice)
-        ensures { log self.new ≡ does (Told monitor.now.config notice) (log self.old) };
+    /// Is shown a notice of this monitor before anybody is told of it.
+    fn note(&mut self, monitor: &Monitor, notice: Notice)
+        ensures { log self.new ≡ log self.old };
+
+    /// Prints the text of a notice of this monitor as a line.
+    fn print(&mut self, monitor: &Monitor, notice: Notice)
+        ensures { log self.new ≡ does (Printed (text_of monitor.now.config notice)) (log self.old) };
+
+    /// Runs NOTIFYCMD, if one is set, with a notice of this monitor and its text.
+    fn call(&mut self, monitor: &Monitor, notice: Notice)
+        ensures { log self.new ≡ does (Called notice (text_of monitor.now.config notice)) (log self.old) };
 
     /// Is told that a second has passed. If another configuration can be taken up, returns what its watch begins with,
     /// and has made ready to halt by it.

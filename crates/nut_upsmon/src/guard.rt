@@ -2,7 +2,7 @@
 
 ghost use Rattle.std.specs.Prelude.{◌≡◌, Some, None, IfOk, OnOk, OnErr, if◌then◌else◌};
 ghost use Rattle.nut_conf.specs.declared.upsmon.UpsmonConf.{UpsmonConf};
-ghost use Rattle.nut_upsmon.specs.Acts.{does, Readied, Changed, TriedFlag, RanShutdown};
+ghost use Rattle.nut_upsmon.specs.Acts.{does, told, Readied, Changed, TriedFlag, RanShutdown};
 ghost use Rattle.nut_upsmon.specs.inside.Ready.{IsReady};
 
 use crate::actor::Actor;
@@ -66,6 +66,24 @@ impl<A: Actor> Guard<A> {
         }
     }
 
+    /// Has the actor tell a notice of this monitor to those that its flags name.
+    pub fn tell(&mut self, monitor: &Monitor, notice: Notice)
+        ensures told { A.log self.new.actor ≡ told monitor.now.config notice (A.log self.old.actor) }
+        ensures next { self.new.next ≡ self.old.next }
+    {
+        self.actor.note(monitor, notice);
+        let flags = monitor.config().flags(notice.kind);
+        if flags.ignore {
+            return;
+        }
+        if flags.syslog || flags.wall {
+            self.actor.print(monitor, notice);
+        }
+        if flags.exec {
+            self.actor.call(monitor, notice);
+        }
+    }
+
     /// Has the actor halt the machine, and try to set POWERDOWNFLAG first if `is_flagged`.
     ///
     /// # Errors
@@ -90,7 +108,7 @@ impl<A: Actor> Herald for Guard<A> {
     ghost reached_on = { λ a b c first second config ready. second config (first config ready) };
 
     fn announce(&mut self, monitor: &Monitor, notice: Notice) {
-        self.actor.tell(monitor, notice);
+        self.tell(monitor, notice);
     }
 
     fn second(&mut self, monitor: &Monitor) -> bool {

@@ -179,12 +179,20 @@ where
         Ok(())
     }
 
-    fn tell(&mut self, monitor: &Monitor, notice: Notice) {
+    fn note(&mut self, monitor: &Monitor, notice: Notice) {
         // What a shutdown is for stands behind the notices of what began it, and before its own, which is about no line.
         if notice.line.is_none() {
             self.follow(monitor);
+            self.notifier.end(monitor, &mut self.err);
         }
-        self.notifier.announce(monitor, notice, &mut self.err);
+    }
+
+    fn print(&mut self, monitor: &Monitor, notice: Notice) {
+        self.notifier.print(monitor, notice);
+    }
+
+    fn call(&mut self, monitor: &Monitor, notice: Notice) {
+        self.notifier.call(monitor, notice, &mut self.err);
     }
 
     fn second(&mut self, monitor: &Monitor) -> Option<Beginning> {
