@@ -66,24 +66,6 @@ impl<A: Actor> Guard<A> {
         }
     }
 
-    /// Has the actor tell a notice of this monitor to those that its flags name.
-    pub fn tell(&mut self, monitor: &Monitor, notice: Notice)
-        ensures told { A.log self.new.actor ≡ told monitor.now.config notice (A.log self.old.actor) }
-        ensures next { self.new.next ≡ self.old.next }
-    {
-        self.actor.note(monitor, notice);
-        let flags = monitor.config().flags(notice.kind);
-        if flags.ignore {
-            return;
-        }
-        if flags.syslog || flags.wall {
-            self.actor.print(monitor, notice);
-        }
-        if flags.exec {
-            self.actor.call(monitor, notice);
-        }
-    }
-
     /// Has the actor halt the machine, and try to set POWERDOWNFLAG first if `is_flagged`.
     ///
     /// # Errors
@@ -108,7 +90,7 @@ impl<A: Actor> Herald for Guard<A> {
     ghost reached_on = { λ a b c first second config ready. second config (first config ready) };
 
     fn announce(&mut self, monitor: &Monitor, notice: Notice) {
-        self.tell(monitor, notice);
+        tell(&mut self.actor, monitor, notice);
     }
 
     fn second(&mut self, monitor: &Monitor) -> bool {
@@ -116,5 +98,22 @@ impl<A: Actor> Herald for Guard<A> {
             drop(self.next.replace(next));
         }
         self.next.is_some()
+    }
+}
+
+/// Has an actor tell a notice of this monitor to those that its flags name.
+pub fn tell<A: Actor>(actor: &mut A, monitor: &Monitor, notice: Notice)
+    ensures { A.log actor.new ≡ told monitor.now.config notice (A.log actor.old) }
+{
+    actor.note(monitor, notice);
+    let flags = monitor.config().flags(notice.kind);
+    if flags.ignore {
+        return;
+    }
+    if flags.syslog || flags.wall {
+        actor.print(monitor, notice);
+    }
+    if flags.exec {
+        actor.call(monitor, notice);
     }
 }

@@ -27,7 +27,7 @@ mod watching;
 
 pub use actor::Actor;
 pub use beginning::Beginning;
-pub use guard::Guard;
+pub use guard::{Guard, tell};
 pub use halt::HaltFault;
 pub use monitor::run_upsmon;
 pub use power_down_flag::FlagFault;
