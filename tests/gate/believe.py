@@ -49,6 +49,9 @@ PROMISES = (
     ("The monitor's loop", "what a world gives and takes is what a monitor is told and asks", (
         ("nut_monitor_loop", "watching.rt", ("watch",)), ("nut_monitor_loop", "world.rt", ("MonWorld.*",)),
         ("nut_monitor_loop", None, ("watch_memory",)))),
+    ("What upsmon does to its machine", "when SHUTDOWNCMD is run, and who is told a notice", (
+        ("nut_upsmon", "watching.rt", ("watch_in_turn",)), ("nut_upsmon", "guard.rt", ("tell",)),
+        ("nut_upsmon", "actor.rt", ("Actor.*",)))),
     ("Configuration files", "what a file means", (
         ("nut_conf", None, (
             "read_ups", "read_users", "read_upsd", "read_descriptions", "read_upsmon", "first_fault", "blank_lines_change_nothing",

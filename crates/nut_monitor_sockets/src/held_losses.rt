@@ -38,7 +38,9 @@ impl HeldLosses {
     }
 
     /// Tells a notice, unless it is held. The losses that are held are told before SHUTDOWN.
-    pub fn tell(&mut self, herald: &mut impl Herald, monitor: &Monitor, notice: Notice) {
+    pub fn tell<H: Herald>(&mut self, herald: &mut H, monitor: &Monitor, notice: Notice)
+        ensures { H.reached herald.old herald.new }
+    {
         if self.holds(notice, has_status(monitor, notice)) {
             return;
         }
@@ -49,7 +51,9 @@ impl HeldLosses {
     }
 
     /// Counts a second that has passed. The losses that are held are told once the first seconds are over.
-    pub fn second(&mut self, herald: &mut impl Herald, monitor: &Monitor) {
+    pub fn second<H: Herald>(&mut self, herald: &mut H, monitor: &Monitor)
+        ensures { H.reached herald.old herald.new }
+    {
         self.left = self.left.saturating_sub(1);
         if self.left == 0 {
             self.tell_all(herald, monitor);
@@ -104,7 +108,9 @@ impl HeldLosses {
     }
 
     /// Tells the losses that are held.
-    fn tell_all(&mut self, herald: &mut impl Herald, monitor: &Monitor) {
+    fn tell_all<H: Herald>(&mut self, herald: &mut H, monitor: &Monitor)
+        ensures { H.reached herald.old herald.new }
+    {
         for line in self.lines.iter() {
             let loss = Notice {
                 kind: Kind::Commbad,

@@ -45,7 +45,8 @@ use std::time::Clock;
 pub struct MioMonWorld<'r, 'e, R: Processes, H> {
     links: Links,
     services: Services<'r, 'e, R>,
-    herald: H,
+    /// Where its notices go.
+    pub herald: H,
     held_losses: HeldLosses,
     late: ArrayVec<u64, MONITORS_MAX>,
     faults: u64,
@@ -79,7 +80,8 @@ impl<'r, 'e, R: Net + Clock + Processes, H: Herald> MioMonWorld<'r, 'e, R, H> {
         herald: H,
         reports: Reports<'e>,
     ) -> io::Result<MioMonWorld<'r, 'e, R, H>>
-        ensures { IfOk result (λ w. w.faults ≡ 0) }
+        ensures faults { IfOk result (λ w. w.faults ≡ 0) }
+        ensures herald { IfOk result (λ w. w.herald ≡ herald) }
     {
         let links = Links::none(rt, alloc)?;
         Ok(MioMonWorld {
@@ -104,7 +106,8 @@ impl<'r, 'e, R: Net + Clock + Processes, H: Herald> MioMonWorld<'r, 'e, R, H> {
     ///
     /// If there is no clock. Nothing has changed then.
     pub fn begin(&mut self, links: NewLinks) -> io::Result<()>
-        ensures { OnOk result (self.new.faults ≡ 0) }
+        ensures faults { OnOk result (self.new.faults ≡ 0) }
+        ensures herald { self.new.herald ≡ self.old.herald }
     {
         self.links.begin(&mut self.services, links)?;
         self.held_losses.clear();
@@ -115,13 +118,10 @@ impl<'r, 'e, R: Net + Clock + Processes, H: Herald> MioMonWorld<'r, 'e, R, H> {
     }
 
     /// Closes all links, and ends the look-ups: nothing more is watched. Nothing is reported.
-    pub fn leave(&mut self) {
+    pub fn leave(&mut self)
+        ensures { self.new.herald ≡ self.old.herald }
+    {
         self.links.leave(&mut self.services.look_ups);
-    }
-
-    /// Returns the herald.
-    pub fn herald(&mut self) -> &mut H {
-        &mut self.herald
     }
 }
 
@@ -136,11 +136,11 @@ impl<'r, 'e, R: Net + Clock + Processes, H: Herald> MonWorld for MioMonWorld<'r,
 
     ghost has_ended = { λ w. w.has_ended ≡ true };
 
-    ghost reached = { λ a b. Unit {0} };
+    ghost reached = { λ a b. H.reached a.herald b.herald };
 
-    ghost reached_self = { λ w. tt };
+    ghost reached_self = { λ w. H.reached_self w.herald };
 
-    ghost reached_on = { λ a b c first second. tt };
+    ghost reached_on = { λ a b c first second. H.reached_on a.herald b.herald c.herald first second };
 
     fn faults(&self) -> u64 {
         self.faults
@@ -177,6 +177,7 @@ impl<'r, 'e, R: Net + Clock + Processes, H: Herald> MonWorld for MioMonWorld<'r,
         ensures within { IfOk result (λ w. IsWithin w (length bytes.now)) }
         ensures late { IfOk result (λ w. (j : ℕ)
             → is_noted self.new.late.items j ≡ late_after w i (is_noted self.old.late.items) j) }
+        ensures reached { H.reached self.old.herald self.new.herald }
     {
         let reports = &mut self.services.reports;
         let written = self.links.offer(monitor, i, bytes, reports);
@@ -189,6 +190,7 @@ impl<'r, 'e, R: Net + Clock + Processes, H: Herald> MonWorld for MioMonWorld<'r,
         ensures ok { OnOk result (untold_watch ≡ tells (WasClosed i) untold_watch) }
         ensures err { OnErr result (untold_watch ≡ untold_watch) }
         ensures late { (j : ℕ) → is_noted self.new.late.items j ≡ is_noted self.old.late.items j }
+        ensures reached { H.reached self.old.herald self.new.herald }
     {
         self.links.close(monitor, i, &mut self.services.reports);
         Ok(())
@@ -200,6 +202,7 @@ impl<'r, 'e, R: Net + Clock + Processes, H: Herald> MonWorld for MioMonWorld<'r,
         ensures ok { OnOk result (untold_watch ≡ tells (WasTold notice) untold_watch) }
         ensures err { OnErr result (untold_watch ≡ untold_watch) }
         ensures late { (j : ℕ) → is_noted self.new.late.items j ≡ is_noted self.old.late.items j }
+        ensures reached { H.reached self.old.herald self.new.herald }
     {
         self.held_losses.tell(&mut self.herald, monitor, notice);
         Ok(())

@@ -1,6 +1,7 @@
 //! What a watch begins with.
 
 ghost use Rattle.std.specs.Prelude.{◌≡◌, []};
+ghost use Rattle.nut_monitor_spec.specs.Configuration.{configuration_of};
 ghost use Rattle.nut_monitor_spec.specs.Content.{content};
 
 use nut_conf::UpsmonConf;
@@ -14,7 +15,7 @@ use std::alloc::{AllocError, Global};
 pub struct Beginning {
     pub monitor: Monitor,
     pub links: NewLinks,
-    pub ghost untold: { monitor.content ≡ content monitor.content.configuration [] },
+    pub ghost untold: { monitor.content ≡ content (configuration_of monitor.config) [] },
 }
 
 impl Beginning {
@@ -32,7 +33,9 @@ impl Beginning {
     }
 
     /// Returns the configuration.
-    pub fn config(&self) -> &UpsmonConf {
+    pub fn config(&self) -> &UpsmonConf
+        ensures { result.now ≡ self.now.monitor.config }
+    {
         self.monitor.config()
     }
 }

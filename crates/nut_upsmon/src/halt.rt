@@ -80,35 +80,33 @@ pub struct Halt<'r, 'h, R: Processes> {
 }
 
 impl<'r, 'h, R: Files + Processes + Clock> Halt<'r, 'h, R> {
-    /// Returns the steps that upsmon.conf sets, which take their memory from this heap.
-    ///
-    /// # Errors
-    ///
-    /// [`AllocError`] if memory cannot be allocated.
-    pub fn new(
-        rt: &'r R,
-        alloc: Global,
-        heap: &'h LocalHeap,
-        config: &UpsmonConf,
-    ) -> Result<Halt<'r, 'h, R>, AllocError> {
-        let flag = PowerDownFlag::of(alloc, config)?;
-        Ok(Halt {
+    /// Returns no steps yet. Those that follow take their memory from this heap.
+    pub fn none(rt: &'r R, alloc: Global, heap: &'h LocalHeap) -> Halt<'r, 'h, R> {
+        Halt {
             rt,
             alloc,
             heap,
-            flag,
-            command: shutdown_command(rt, heap, config)?,
+            flag: None,
+            command: None,
             told: None,
-        })
+        }
     }
 
-    /// Returns the steps that another upsmon.conf sets, with the memory of the same heap.
+    /// Returns the steps that upsmon.conf sets, with the memory of the same heap.
     ///
     /// # Errors
     ///
     /// [`AllocError`] if memory cannot be allocated.
     pub fn with(&self, config: &UpsmonConf) -> Result<Halt<'r, 'h, R>, AllocError> {
-        Halt::new(self.rt, self.alloc, self.heap, config)
+        let flag = PowerDownFlag::of(self.alloc, config)?;
+        Ok(Halt {
+            rt: self.rt,
+            alloc: self.alloc,
+            heap: self.heap,
+            flag,
+            command: shutdown_command(self.rt, self.heap, config)?,
+            told: None,
+        })
     }
 
     /// Starts the shell that will run SHUTDOWNCMD. If it cannot be started, it is tried again at the halt.
@@ -179,9 +177,24 @@ impl<'r, 'h, R: Files + Processes + Clock> Halt<'r, 'h, R> {
         }
     }
 
-    /// Halts the machine. If `is_flagged`, sets POWERDOWNFLAG; then, whether or not that succeeded, runs SHUTDOWNCMD
-    /// and waits for it. Why a flag cannot be set is written to `err`. A start that fails is tried again each second,
-    /// thirty times. Why a start fails is written to `err`, unless the try before failed for the same reason.
+    /// Sets POWERDOWNFLAG if there is one.
+    ///
+    /// # Errors
+    ///
+    /// Why it cannot be set, which is written to `err`.
+    pub fn set_flag(&self, err: &mut ErrorLines) -> Result<(), FlagFault> {
+        let Some(flag) = &self.flag else {
+            return Ok(());
+        };
+        let set = flag.set(self.rt);
+        if let Err(fault) = &set {
+            tell_unset(flag.path(), fault, err);
+        }
+        set
+    }
+
+    /// Runs SHUTDOWNCMD and waits for it. A start that fails is tried again each second, thirty times. Why a start fails
+    /// is written to `err`, unless the try before failed for the same reason.
     ///
     /// `out` and `err` are what SHUTDOWNCMD has as standard output and standard error. One that takes nothing as
     /// SHUTDOWNCMD starts is /dev/null for it.
@@ -189,27 +202,10 @@ impl<'r, 'h, R: Files + Processes + Clock> Halt<'r, 'h, R> {
     /// # Errors
     ///
     /// The reason if SHUTDOWNCMD cannot be started or waited for, or ends with a status other than 0.
-    pub fn carry_out(
-        &mut self,
-        is_flagged: bool,
-        out: &mut OutputLines,
-        err: &mut ErrorLines,
-    ) -> Result<(), HaltFault> {
-        if is_flagged {
-            self.set_flag(err);
-        }
+    pub fn run(&mut self, out: &mut OutputLines, err: &mut ErrorLines) -> Result<(), HaltFault> {
         match &mut self.command {
             Some(command) => run(self.rt, command, out, err),
             None => Ok(()),
-        }
-    }
-
-    /// Sets POWERDOWNFLAG, or writes to `err` why it cannot.
-    fn set_flag(&self, err: &mut ErrorLines) {
-        if let Some(flag) = &self.flag {
-            if let Err(fault) = flag.set(self.rt) {
-                tell_unset(flag.path(), &fault, err);
-            }
         }
     }
 }

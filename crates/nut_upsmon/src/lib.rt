@@ -1,11 +1,13 @@
 //! What upsmon runs: a monitor over sockets, the people and commands that it tells, and the halt of its machine.
 #![tactic(auto)]
 
+mod actor;
 mod beginning;
 mod changes;
 mod command_line;
 mod faulty_file;
 mod forcing;
+mod guard;
 mod halt;
 mod low_runtime;
 mod machine;
@@ -23,5 +25,11 @@ mod upsmon_fault;
 mod warning;
 mod watching;
 
+pub use actor::Actor;
+pub use beginning::Beginning;
+pub use guard::{Guard, tell};
+pub use halt::HaltFault;
 pub use monitor::run_upsmon;
+pub use power_down_flag::FlagFault;
 pub use stopping::{Stopping, stops_within};
+pub use watching::watch_in_turn;

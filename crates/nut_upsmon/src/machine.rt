@@ -1,16 +1,18 @@
-//! What upsmon does besides watching.
+//! What upsmon does to its machine, by the system.
 
+ghost use Rattle.std.specs.Prelude.{None};
+
+use crate::actor::Actor;
 use crate::beginning::Beginning;
 use crate::halt::{Halt, HaltFault};
 use crate::notifier::Notifier;
+use crate::power_down_flag::FlagFault;
 use crate::reloader::{Reload, Reloader};
 use crate::shutdown_report::tell_beginning;
 use crate::starting::tell_start;
-use crate::watching::AfterWatch;
 use linked_list_allocator::LocalHeap;
 use nut_conf::UpsmonConf;
 use nut_monitor::{Monitor, Notice, Phase};
-use nut_monitor_sockets::Herald;
 use nut_poll::{ErrorLines, LossyLines};
 use nut_program::{Streams, tell_not_reloaded};
 use std::alloc::{AllocError, Global};
@@ -20,8 +22,8 @@ use std::rt::Files;
 use std::time::Clock;
 use std::{fmt, io, mem};
 
-/// What upsmon does besides watching: it tells notices and what a shutdown is for, keeps the halt of its machine
-/// prepared, and takes up a changed upsmon.conf. For that it ends the watch, and has what the next one begins with.
+/// The actor of upsmon: it tells notices and what a shutdown is for, keeps the halt of its machine prepared, and takes up a
+/// changed upsmon.conf.
 ///
 /// The halt that a configuration sets is prepared before the earlier one is given up, so there is no moment without.
 /// What the next watch begins with is made even before that: once the change is reported, no lack of memory can end
@@ -32,9 +34,9 @@ pub struct Machine<'r, R: Processes> {
     err: ErrorLines,
     notifier: Notifier<'r, R>,
     halt: Halt<'r, 'r, R>,
+    /// The halt of the configuration that was readied last, until it takes the place of the other.
+    ready: Option<Halt<'r, 'r, R>>,
     reloader: Reloader,
-    /// What the next watch begins with: then this one ends.
-    next: Option<Beginning>,
     /// Whether it was told that a shutdown has begun.
     is_ending: bool,
 }
@@ -73,31 +75,27 @@ impl<'r, R> Machine<'r, R>
 where
     R: Files + Net + Processes + Clock,
 {
-    /// Returns what goes by this configuration, writes to these streams and takes the memory of the halt from `heap`.
-    /// Nothing is told or started yet.
+    /// Returns what writes to these streams and takes the memory of its halts from `heap`. Nothing is told or started yet.
     ///
     /// # Errors
     ///
-    /// If memory or a poll isn't available.
+    /// If memory isn't available.
     pub fn new(
         rt: &'r R,
         alloc: Global,
         heap: &'r LocalHeap,
         reloader: Reloader,
-        config: &UpsmonConf,
         streams: Streams,
     ) -> io::Result<Machine<'r, R>> {
         let err = LossyLines::new(rt, alloc, streams.err)?;
         let out = LossyLines::new(rt, alloc, streams.out)?;
-        let notifier = Notifier::new(rt, alloc, out, config)?;
-        let halt = Halt::new(rt, alloc, heap, config)?;
         Ok(Machine {
             rt,
             err,
-            notifier,
-            halt,
+            notifier: Notifier::new(rt, alloc, out)?,
+            halt: Halt::none(rt, alloc, heap),
+            ready: None,
             reloader,
-            next: None,
             is_ending: false,
         })
     }
@@ -107,39 +105,35 @@ impl<'r, R> Machine<'r, R>
 where
     R: Files + Processes + Clock,
 {
-    /// Makes the next POWERDOWNFLAG ready, starts the shell that waits to run SHUTDOWNCMD, and tells what is watched. A
-    /// shell that can't be started is told. All this is written to `told`.
-    pub fn begin(&mut self, config: &UpsmonConf, told: &mut ErrorLines) {
-        self.halt.ready_flag(config, told);
-        self.halt.begin(told);
-        tell_start(config, self.reloader.is_quiet(), told);
-    }
-
-    /// Takes up a configuration in place of an earlier one. If that fails, everything goes on as before, and why is told.
-    fn take_up(&mut self, former: &UpsmonConf, reload: Reload) {
-        match self.change_to(former, reload.config()) {
-            Ok(()) => {
-                let next = self.reloader.report(reload, &mut self.err);
-                drop(self.next.replace(next));
+    /// Makes ready to take up a configuration in place of an earlier one. Returns what its watch begins with. If that
+    /// fails, everything goes on as before, and why is told.
+    fn take_up(&mut self, former: &UpsmonConf, reload: Reload) -> Option<Beginning> {
+        match self.ready_next(former, reload.config()) {
+            Ok(()) => Some(self.reloader.report(reload, &mut self.err)),
+            Err(fault) => {
+                tell_not_reloaded(&fault, &mut self.err);
+                None
             }
-            Err(fault) => tell_not_reloaded(&fault, &mut self.err),
         }
     }
 
-    /// Halts and tells by another configuration from now on. The halt that isn't kept, that of this configuration or the
-    /// former, is given up, and the notifier waits for the end of its shell.
-    fn change_to(&mut self, former: &UpsmonConf, config: &UpsmonConf) -> Result<(), ReloadFault> {
+    /// Readies the halt of another configuration. A halt that fails to get ready is given up.
+    fn ready_next(&mut self, former: &UpsmonConf, config: &UpsmonConf) -> Result<(), ReloadFault> {
         let mut halt = self.halt.with(config)?;
-        let changed = self.change_halt(&mut halt, former, config);
-        if let Some(shell) = halt.give_up() {
-            self.notifier.adopt(shell);
+        match self.start_halt(&mut halt, former, config) {
+            Ok(()) => {
+                drop(self.ready.replace(halt));
+                Ok(())
+            }
+            Err(fault) => {
+                self.give_up(halt);
+                Err(fault)
+            }
         }
-        changed
     }
 
-    /// Starts the shell of another configuration's halt, and puts that in the place of the former one, which is then in
-    /// `halt`. Nothing has changed if that fails.
-    fn change_halt(
+    /// Starts the shell of another configuration's halt, and tells by that configuration from now on.
+    fn start_halt(
         &mut self,
         halt: &mut Halt<'r, 'r, R>,
         former: &UpsmonConf,
@@ -148,8 +142,14 @@ where
         halt.start_shell()?;
         self.notifier.restart(config)?;
         ready_flag(halt, former, config, &mut self.err);
-        mem::swap(&mut self.halt, halt);
         Ok(())
+    }
+
+    /// Gives a halt up. The notifier waits for the end of its shell.
+    fn give_up(&mut self, halt: Halt<'r, 'r, R>) {
+        if let Some(shell) = halt.give_up() {
+            self.notifier.adopt(shell);
+        }
     }
 
     /// Tells once that a shutdown has begun, and for which UPSes.
@@ -161,40 +161,63 @@ where
     }
 }
 
-impl<'r, R> Herald for Machine<'r, R>
+impl<'r, R> Actor for Machine<'r, R>
 where
     R: Files + Processes + Clock,
 {
-    fn announce(&mut self, monitor: &Monitor, notice: Notice) {
+    ghost log = { λ m. None };
+
+    /// Makes the next POWERDOWNFLAG ready, starts the shell that waits to run SHUTDOWNCMD, and tells what is watched. A
+    /// shell that can't be started is told.
+    fn ready(&mut self, config: &UpsmonConf) -> Result<(), AllocError> {
+        let mut halt = self.halt.with(config)?;
+        self.notifier.restart(config)?;
+        halt.ready_flag(config, &mut self.err);
+        halt.begin(&mut self.err);
+        tell_start(config, self.reloader.is_quiet(), &mut self.err);
+        drop(self.ready.replace(halt));
+        Ok(())
+    }
+
+    fn note(&mut self, monitor: &Monitor, notice: Notice) {
         // What a shutdown is for stands behind the notices of what began it, and before its own, which is about no line.
         if notice.line.is_none() {
             self.follow(monitor);
+            self.notifier.end(monitor, &mut self.err);
         }
-        self.notifier.announce(monitor, notice, &mut self.err);
     }
 
-    fn second(&mut self, monitor: &Monitor) -> bool {
+    fn print(&mut self, monitor: &Monitor, notice: Notice) {
+        self.notifier.print(monitor, notice);
+    }
+
+    fn call(&mut self, monitor: &Monitor, notice: Notice) {
+        self.notifier.call(monitor, notice, &mut self.err);
+    }
+
+    fn second(&mut self, monitor: &Monitor) -> Option<Beginning> {
         self.follow(monitor);
         self.notifier.second(&mut self.err);
         self.halt.second(&mut self.err);
-        if let Some(reload) = self.reloader.second(self.rt, monitor, &mut self.err) {
-            self.take_up(monitor.config(), reload);
+        match self.reloader.second(self.rt, monitor, &mut self.err) {
+            Some(reload) => self.take_up(monitor.config(), reload),
+            None => None,
         }
-        self.next.is_some()
-    }
-}
-
-impl<'r, R> AfterWatch for Machine<'r, R>
-where
-    R: Files + Processes + Clock,
-{
-    fn take_next(&mut self) -> Option<Beginning> {
-        self.next.take()
     }
 
-    fn halt(&mut self, is_flagged: bool) -> Result<(), HaltFault> {
-        self.halt
-            .carry_out(is_flagged, self.notifier.out(), &mut self.err)
+    fn change(&mut self) {
+        if let Some(ready) = self.ready.take() {
+            let former = mem::replace(&mut self.halt, ready);
+            self.give_up(former);
+        }
+    }
+
+    fn set_flag(&mut self) -> Result<(), FlagFault> {
+        self.halt.set_flag(&mut self.err)
+    }
+
+    fn run_shutdown(&mut self) -> Result<(), HaltFault> {
+        self.halt.run(self.notifier.out(), &mut self.err)
     }
 }
 

@@ -12,7 +12,7 @@ use crate::reloader::Reloader;
 use crate::stopping::Stopping;
 use crate::upsmon_fault::{UpsmonFault, tell_failure};
 use crate::warning::read_and_warn;
-use crate::watching::watch_in_turn;
+use crate::watching::watch_over_sockets;
 use nut_conf::UpsmonConf;
 use nut_log::LogStream;
 use nut_poll::{ErrorLines, LossyLines};
@@ -196,9 +196,8 @@ where
     let (reloader, first) = read_first(rt, alloc, folder, is_quiet, err)?;
     let _held = hold_closed_streams(rt, alloc)?;
     let heap = halt_heap(alloc)?;
-    let mut machine = Machine::new(rt, alloc, &heap, reloader, first.config(), streams)?;
-    machine.begin(first.config(), err);
-    watch_in_turn(rt, alloc, machine, first, is_quiet, err)??;
+    let machine = Machine::new(rt, alloc, &heap, reloader, streams)?;
+    watch_over_sockets(rt, alloc, machine, first, is_quiet, err)??;
     Ok(0)
 }
 

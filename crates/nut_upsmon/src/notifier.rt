@@ -14,11 +14,10 @@ use std::process::{Child, Processes};
 /// The greatest length of a text in bytes: that of a message, with a target in the place of its `%s`.
 const TEXT_MAX: usize = MESSAGE_MAX + TARGET_MAX - 2;
 
-/// Prints each notice whose flags have SYSLOG or WALL as one line, and runs NOTIFYCMD with each whose flags have EXEC.
-/// A notice with IGNORE is neither printed nor handed to NOTIFYCMD, whatever else its flags have.
+/// Prints notices, and runs NOTIFYCMD with them.
 ///
 /// A run of the command that can't be started is let go, which is told, as is a UPS that says LB later than this machine
-/// needs to stop. From the notice of the shutdown on no UPS is asked for that any more.
+/// needs to stop.
 #[derive(Drop)]
 pub struct Notifier<'a, R: Processes> {
     alloc: Global,
@@ -29,7 +28,7 @@ pub struct Notifier<'a, R: Processes> {
 }
 
 impl<'a, R: Processes> Notifier<'a, R> {
-    /// Makes a notifier that prints on `out` and tells by this configuration. It allocates room for the longest text.
+    /// Makes a notifier that prints on `out`, and runs no command yet. It allocates room for the longest text.
     ///
     /// # Errors
     ///
@@ -38,17 +37,14 @@ impl<'a, R: Processes> Notifier<'a, R> {
         processes: &'a R,
         alloc: Global,
         out: OutputLines,
-        config: &UpsmonConf,
     ) -> Result<Notifier<'a, R>, AllocError> {
-        let mut notifier = Notifier {
+        Ok(Notifier {
             alloc,
             out,
             text: Vec::with_capacity(alloc, TEXT_MAX)?,
             command: NotifyCommand::new(processes, alloc)?,
             runtimes: LowRuntimes::watched(processes, alloc),
-        };
-        notifier.restart(config)?;
-        Ok(notifier)
+        })
     }
 
     /// Tells by this configuration from now on. Runs of the command that haven't ended go on.
@@ -73,17 +69,19 @@ impl<'a, R: Processes> Notifier<'a, R> {
         &mut self.out
     }
 
-    /// Prints the text as a line, which doesn't have the program's name.
-    fn print(&mut self) {
+    /// Prints the text of a notice as a line, which doesn't have the program's name.
+    pub fn print(&mut self, monitor: &Monitor, notice: Notice) {
+        self.put_text(monitor, notice);
         let _ = self.out.mark(Level::Notice).write_all(&self.text);
         let _ = self.out.write_all(b"\n");
     }
 
-    /// Runs NOTIFYCMD with the text.
-    fn call(&mut self, config: &UpsmonConf, notice: Notice, err: &mut ErrorLines) {
+    /// Runs NOTIFYCMD with a notice. A run that can't be started is told on `err`.
+    pub fn call(&mut self, monitor: &Monitor, notice: Notice, err: &mut ErrorLines) {
+        self.put_text(monitor, notice);
         let called = self.command.call(Call {
             kind: notice.kind.word(),
-            ups: ups_of(config, notice),
+            ups: ups_of(monitor.config(), notice),
             text: &self.text,
         });
         if let Err(fault) = called {
@@ -91,29 +89,17 @@ impl<'a, R: Processes> Notifier<'a, R> {
         }
     }
 
-    /// Receives a notice of this monitor. Told on `err` are a run that can't be started, and at the notice of the
-    /// shutdown how many other clients are still logged in.
-    pub fn announce(&mut self, monitor: &Monitor, notice: Notice, err: &mut ErrorLines) {
-        if notice.line.is_none() {
-            // Only the notice of the shutdown is about no line. A machine that stops needs no warning of LB.
-            self.runtimes.end();
-            tell_left(monitor, err);
-        }
-        let config = monitor.config();
-        let flags = config.flags(notice.kind);
-        if flags.ignore {
-            return;
-        }
+    /// Puts the text of a notice where it is printed from. There is room for the longest.
+    fn put_text(&mut self, monitor: &Monitor, notice: Notice) {
         self.text.clear();
-        if monitor.notice_text(notice, &mut self.text).is_err() {
-            return;
-        }
-        if flags.syslog || flags.wall {
-            self.print();
-        }
-        if flags.exec {
-            self.call(config, notice, err);
-        }
+        let _ = monitor.notice_text(notice, &mut self.text);
+    }
+
+    /// Asks no UPS any more, since a machine that stops needs no warning of LB. Told on `err` is how many other clients are
+    /// still logged in.
+    pub fn end(&mut self, monitor: &Monitor, err: &mut ErrorLines) {
+        self.runtimes.end();
+        tell_left(monitor, err);
     }
 
     /// Forgets the processes that have ended, and goes on asking the UPSes. A UPS that says LB too late is told on `err`.

@@ -1,10 +1,18 @@
 //! Watches one configuration after the other.
 
+ghost use Rattle.std.specs.Prelude.{◌≡◌, [], None, IfOk, IfSome, OnOk, OnErr};
+ghost use Rattle.std.specs.List.{AllByRecursion};
+ghost use Rattle.nut_conf.specs.declared.upsmon.UpsmonConf.{UpsmonConf};
+ghost use Rattle.nut_upsmon.specs.Acts.{IsQuiet, IsHalted, Says};
+ghost use Rattle.nut_upsmon.specs.inside.Ready.{IsReady};
+
+use crate::actor::Actor;
 use crate::beginning::Beginning;
+use crate::guard::Guard;
 use crate::halt::HaltFault;
 use nut_monitor::Phase;
 use nut_monitor_loop::watch;
-use nut_monitor_sockets::{Herald, MioMonWorld};
+use nut_monitor_sockets::MioMonWorld;
 use nut_poll::{ErrorLines, Reports};
 use std::alloc::Global;
 use std::io;
@@ -14,21 +22,8 @@ use std::process::Processes;
 use std::sync::Wait;
 use std::time::Clock;
 
-/// What follows a watch. A bound, so that the watch is proved without all that its herald owns.
-pub trait AfterWatch: Herald {
-    /// Takes what the next watch begins with, if the watch ended for one.
-    fn take_next(&mut self) -> Option<Beginning>;
-
-    /// Halts the machine, and sets POWERDOWNFLAG first if `is_flagged`. All links are closed before.
-    ///
-    /// # Errors
-    ///
-    /// Why the machine wasn't halted.
-    fn halt(&mut self, is_flagged: bool) -> Result<(), HaltFault>;
-}
-
-/// The lines of standard error. A bound in place of `ErrorLines`, since the borrow checker covers no call that names a
-/// herald with a lifetime and, in its signature, what is `'static`.
+/// The lines of standard error. A bound in place of `ErrorLines`, since the borrow checker covers no call that names an
+/// actor with a lifetime and, in its signature, what is `'static`.
 pub trait Told {
     /// Returns the lines.
     fn lines(&mut self) -> &mut ErrorLines;
@@ -40,72 +35,108 @@ impl Told for ErrorLines {
     }
 }
 
-/// How a watch ends.
-#[derive(Drop)]
-enum Ended {
-    /// The machine had to be halted: what came of it.
-    Halted(Result<(), HaltFault>),
-    /// Another configuration was taken up: what its watch begins with.
-    Reloaded(Beginning),
-}
-
-/// Watches the UPSes of one configuration after the other over sockets, until the machine has to be halted, and halts
-/// it. Returns what came of that. Reports to the operator on `err`, and if that is to be quiet, only refusals that no
-/// notice tells of.
+/// Watches as [`watch_in_turn`] does, over a new world of sockets. Reports to the operator on `err`, and if that is to be
+/// quiet, only refusals that no notice tells of.
 ///
 /// # Errors
 ///
 /// If memory or a poll isn't available, or waiting for the sockets or reading the clock fails.
-pub fn watch_in_turn<'r, R, H, E>(
+pub fn watch_over_sockets<'r, R, A, E>(
     rt: &'r R,
     alloc: Global,
-    herald: H,
+    actor: A,
     first: Beginning,
     is_quiet: bool,
     err: &mut E,
 ) -> io::Result<Result<(), HaltFault>>
 where
     R: Wait + Net + Clock + Processes,
-    H: AfterWatch,
+    A: Actor,
     E: Told,
+    requires { IfSome (A.log actor) (λ acts. acts ≡ []) }
 {
     let reports = Reports::new(err.lines(), !is_quiet);
-    let mut world = MioMonWorld::new(rt, alloc, herald, reports)?;
+    let mut world = MioMonWorld::new(rt, alloc, Guard::new(actor), reports)?;
+    watch_in_turn(rt, &mut world, first)
+}
+
+/// Watches the UPSes of one configuration after the other, until the machine has to be halted, and halts it. Returns what
+/// came of that.
+///
+/// SHUTDOWNCMD is run if and only if the monitor of the configuration in force said that the machine has to be halted:
+/// once, as the last act, and it is that of this configuration. POWERDOWNFLAG is tried before, if and only if the
+/// monitor said so, and whatever becomes of it.
+///
+/// # Errors
+///
+/// If memory isn't available, or waiting for the sockets or reading the clock fails. No part of a halt was done then.
+pub fn watch_in_turn<'r, 'e, R, A>(
+    rt: &'r R,
+    world: &mut MioMonWorld<'r, 'e, R, Guard<A>>,
+    first: Beginning,
+) -> io::Result<Result<(), HaltFault>>
+where
+    R: Wait + Net + Clock + Processes,
+    A: Actor,
+    requires blank { IfSome (A.log world.old.herald.actor) (λ acts. acts ≡ []) }
+    requires next { world.old.herald.next ≡ None }
+    ensures halted { OnOk result (IfSome (A.log world.new.herald.actor) IsHalted) }
+    ensures failed { OnErr result (IfSome (A.log world.new.herald.actor) (AllByRecursion IsQuiet)) }
+{
+    world.herald.begin(first.config())?;
+    watch_all(rt, world, first)
+}
+
+/// Watches from a configuration on that is in force.
+fn watch_all<'r, 'e, R, A>(
+    rt: &'r R,
+    world: &mut MioMonWorld<'r, 'e, R, Guard<A>>,
+    first: Beginning,
+) -> io::Result<Result<(), HaltFault>>
+where
+    R: Wait + Net + Clock + Processes,
+    A: Actor,
+    requires { IsReady (A.log world.old.herald.actor) world.old.herald.next first.monitor.config }
+    ensures halted { OnOk result (IfSome (A.log world.new.herald.actor) IsHalted) }
+    ensures failed { OnErr result (IfSome (A.log world.new.herald.actor) (AllByRecursion IsQuiet)) }
+{
     let mut beginning = first;
     for _ in rt.forever() {
-        match watch_once(rt, beginning, &mut world)? {
-            Ended::Halted(halted) => return Ok(halted),
-            Ended::Reloaded(next) => beginning = next,
+        match watch_once(rt, world, beginning)? {
+            Phase::Halted { flag } => {
+                // This machine is logged out before it halts, so that no primary waits for it.
+                world.leave();
+                return Ok(world.herald.halt(flag));
+            }
+            // The watch has ended for another one.
+            Phase::Watching | Phase::Forcing | Phase::Final => beginning = world.herald.change()?,
         }
     }
     unreachable!()
 }
 
-/// Makes the links of a watch, and watches until the machine has to be halted, and halts it; or until another
-/// configuration is taken up.
+/// Makes the links of a watch, and watches until the machine has to be halted, or until another watch has its beginning.
+/// Returns what the monitor says then.
 ///
 /// # Errors
 ///
 /// That of the clock; `Other` if waiting for the sockets or reading the clock fails.
-fn watch_once<'r, 'e, R, H>(
+fn watch_once<'r, 'e, R, A>(
     rt: &'r R,
+    world: &mut MioMonWorld<'r, 'e, R, Guard<A>>,
     beginning: Beginning,
-    world: &mut MioMonWorld<'r, 'e, R, H>,
-) -> io::Result<Ended>
+) -> io::Result<Phase>
 where
     R: Wait + Net + Clock + Processes,
-    H: AfterWatch,
+    A: Actor,
+    ensures says { IfOk result (λ phase. Says beginning.monitor.config phase) }
+    ensures ready { (config : UpsmonConf) → IsReady (A.log world.old.herald.actor) world.old.herald.next config
+        → IsReady (A.log world.new.herald.actor) world.new.herald.next config }
 {
     let Beginning { mut monitor, links } = beginning;
     world.begin(links)?;
-    if let Ok(Phase::Halted { flag }) = watch(rt, &mut monitor, world) {
-        // This machine is logged out before it halts, so that no primary waits for it.
-        world.leave();
-        return Ok(Ended::Halted(world.herald().halt(flag)));
-    }
-    // The watch has ended for another one, or failed.
-    match world.herald().take_next() {
-        Some(next) => Ok(Ended::Reloaded(next)),
-        None => Err(io::Error::from(ErrorKind::Other)),
+    match watch(rt, &mut monitor, world) {
+        Ok(phase) => Ok(phase),
+        Err(_) => Err(io::Error::from(ErrorKind::Other)),
     }
 }

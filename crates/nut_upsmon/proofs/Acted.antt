@@ -1,0 +1,49 @@
+-- What upsmon did, with a halt in the end.
+use Rattle.std.proofs.Common.{◌≡◌, ℕ, Bool, true, false, ◌||◌, List, Option, Some, None, IfSome, if◌then◌else◌, refl, sym, subst}
+use Rattle.nut_conf.specs.declared.upsmon.UpsmonConf.{UpsmonConf}
+use Rattle.nut_conf.specs.declared.notice.NoticeFlags.{NoticeFlags}
+use Rattle.nut_conf.specs.Upsmon.{flags_of}
+use Rattle.nut_monitor.specs.Texts.{text_of}
+use Rattle.nut_monitor_spec.specs.declared.Notice.{Notice}
+use Rattle.nut_monitor_spec.specs.declared.Phase.TheVariants.{Halted}
+use Rattle.nut_upsmon.specs.declared.beginning.Beginning.{Beginning}
+use Rattle.nut_upsmon.specs.Acts.{Act, TriedFlag, RanShutdown, does, printed, called, told_by, told, IsHalted, Says}
+use Rattle.nut_upsmon.specs.inside.Ready.{IsReady}
+
+-- the halt of the configuration in force
+pub halted : (log log' : Option (List Act)) (next : Option Beginning) (config : UpsmonConf) (flag : Bool)
+    → IsReady log next config → Says config (Halted flag) → log' ≡ does RanShutdown (if flag then does TriedFlag log else log) → IfSome log' IsHalted
+halted None log' next config true ready says same = subst (λ o. IfSome o IsHalted) (sym same) tt
+halted None log' next config false ready says same = subst (λ o. IfSome o IsHalted) (sym same) tt
+halted (Some acts) log' next config true ready says same =
+    subst (λ o. IfSome o IsHalted) (sym same) (record { config = config; flag = true; before = acts; done = refl; quiet = ready.0; force = ready.1; says = says })
+halted (Some acts) log' next config false ready says same =
+    subst (λ o. IfSome o IsHalted) (sym same) (record { config = config; flag = false; before = acts; done = refl; quiet = ready.0; force = ready.1; says = says })
+
+-- ---- a notice
+
+choice_ready : (b : Bool) (x y : Option (List Act)) (next : Option Beginning) (config : UpsmonConf) → IsReady x next config → IsReady y next config → IsReady (if b then x else y) next config
+choice_ready true x y next config ready other = ready
+choice_ready false x y next config ready other = other
+
+printed_ready : (b : Bool) (text : List ℕ) (log : Option (List Act)) (next : Option Beginning) (config : UpsmonConf) → IsReady log next config → IsReady (printed b text log) next config
+printed_ready false text log next config ready = ready
+printed_ready true text None next config ready = tt
+printed_ready true text (Some acts) next config ready = ((tt, ready.0), ready.1, ready.2)
+
+called_ready : (b : Bool) (notice : Notice) (text : List ℕ) (log : Option (List Act)) (next : Option Beginning) (config : UpsmonConf) → IsReady log next config → IsReady (called b notice text log) next config
+called_ready false notice text log next config ready = ready
+called_ready true notice text None next config ready = tt
+called_ready true notice text (Some acts) next config ready = ((tt, ready.0), ready.1, ready.2)
+
+by_ready : (flags : NoticeFlags) (notice : Notice) (text : List ℕ) (log : Option (List Act)) (next : Option Beginning) (config : UpsmonConf) → IsReady log next config → IsReady (told_by flags notice text log) next config
+by_ready flags notice text log next config ready =
+    choice_ready flags.ignore log _ next config ready
+    (called_ready flags.exec notice text _ next config (printed_ready (flags.syslog || flags.wall) text log next config ready))
+
+-- a notice is no part of a halt, and changes nothing of what is in force
+pub told_ready : (log log' : Option (List Act)) (next next' : Option Beginning) (config other : UpsmonConf) (notice : Notice) → log' ≡ told other notice log → next' ≡ next
+    → IsReady log next config → IsReady log' next' config
+told_ready log log' next next' config other notice same also ready =
+    subst (λ o. IsReady o next' config) (sym same)
+    (subst (λ n. IsReady (told other notice log) n config) (sym also) (by_ready (flags_of notice.kind other) notice (text_of other notice) log next config ready))

@@ -1,0 +1,86 @@
+-- What upsmon does to its machine.
+use Rattle.std.specs.Prelude.{◌≡◌, ℕ, Bool, ◌||◌, List, [], ◌∷◌, ◌++◌, if◌then◌else◌, Option, Some, None, option_map}
+use Rattle.std.specs.List.{AllByRecursion}
+use Rattle.nut_conf.specs.declared.notice.NoticeFlags.{NoticeFlags}
+use Rattle.nut_conf.specs.declared.upsmon.UpsmonConf.{UpsmonConf}
+use Rattle.nut_conf.specs.Upsmon.{flags_of}
+use Rattle.nut_monitor.specs.Texts.{text_of}
+use Rattle.nut_monitor_spec.specs.declared.Notice.{Notice}
+use Rattle.nut_monitor_spec.specs.declared.Phase.{Phase}
+use Rattle.nut_monitor_spec.specs.declared.Phase.TheVariants.{Halted}
+use Rattle.nut_monitor_spec.specs.Configuration.{configuration_of}
+use Rattle.nut_monitor_spec.specs.Event.{Event}
+use Rattle.nut_monitor_spec.specs.Content.{content, phase_of}
+use Rattle.nut_monitor_spec.specs.Acceptance.{IsAccepted}
+
+pub data Act : Type 0 where
+  -- it made ready to halt by this configuration
+  Readied : (config : UpsmonConf) → Act
+  -- it halts by the configuration that was readied last, from now on
+  Changed : Act
+  -- it printed this text as a line, or tried to
+  Printed : (text : List ℕ) → Act
+  -- it ran NOTIFYCMD with this notice and its text, or tried to
+  Called : (notice : Notice) (text : List ℕ) → Act
+  -- it tried to set POWERDOWNFLAG
+  TriedFlag : Act
+  -- it ran SHUTDOWNCMD, or tried to
+  RanShutdown : Act
+
+-- a history, the newest act first, after one more; who tells nothing goes on telling nothing
+abbrev pub does : Act → Option (List Act) → Option (List Act)
+does act acts = option_map (λ before. act ∷ before) acts
+
+abbrev pub printed : Bool → List ℕ → Option (List Act) → Option (List Act)
+printed is_wanted text acts = if is_wanted then does (Printed text) acts else acts
+
+abbrev pub called : Bool → Notice → List ℕ → Option (List Act) → Option (List Act)
+called is_wanted notice text acts = if is_wanted then does (Called notice text) acts else acts
+
+-- a history after a notice with these flags and this text: IGNORE keeps it from all; SYSLOG or WALL has it printed, and
+-- EXEC has NOTIFYCMD run with it
+abbrev pub told_by : NoticeFlags → Notice → List ℕ → Option (List Act) → Option (List Act)
+told_by flags notice text acts =
+    if flags.ignore then acts else called flags.exec notice text (printed (flags.syslog || flags.wall) text acts)
+
+-- a history after a notice of a monitor with this configuration
+abbrev pub told : UpsmonConf → Notice → Option (List Act) → Option (List Act)
+told config notice acts = told_by (flags_of notice.kind config) notice (text_of config notice) acts
+
+-- the configuration that was readied last
+abbrev pub readied : List Act → Option UpsmonConf
+readied [] = None
+readied (Readied config ∷ acts) = Some config
+readied (act ∷ acts) = readied acts
+
+-- the configuration by which the machine is halted: the one that was readied when it was changed last
+abbrev pub in_force : List Act → Option UpsmonConf
+in_force [] = None
+in_force (Changed ∷ acts) = readied acts
+in_force (act ∷ acts) = in_force acts
+
+-- an act that isn't part of a halt
+abbrev pub IsQuiet : Act → Type 0
+IsQuiet TriedFlag = ⊥
+IsQuiet RanShutdown = ⊥
+IsQuiet act = Unit {0}
+
+-- A monitor of this configuration says this phase after some events.
+abbrev pub Says : UpsmonConf → Phase → Type 0
+Says config phase =
+    (events : List Event) × IsAccepted (configuration_of config) events × (phase ≡ phase_of (content (configuration_of config) events))
+
+-- the acts of a halt, the newest first
+abbrev pub halting : Bool → List Act
+halting flag = RanShutdown ∷ (if flag then TriedFlag ∷ [] else [])
+
+-- The last acts are those of a halt, and no earlier act is: the monitor of the configuration in force said that the
+-- machine has to be halted, and whether POWERDOWNFLAG has to be set.
+pub record IsHalted (acts : List Act) : Type 0 where
+  pub config : UpsmonConf
+  pub flag : Bool
+  pub before : List Act
+  pub done : acts ≡ halting flag ++ before
+  pub quiet : AllByRecursion IsQuiet before
+  pub force : in_force before ≡ Some config
+  pub says : Says config (Halted flag)

@@ -1,0 +1,65 @@
+//! What upsmon does to its machine.
+
+ghost use Rattle.std.specs.Prelude.{◌≡◌, List, Option, IfSome, IfNone, OnOk, OnErr};
+ghost use Rattle.nut_monitor.specs.Texts.{text_of};
+ghost use Rattle.nut_upsmon.specs.Acts.{Act, Readied, Changed, Printed, Called, TriedFlag, RanShutdown, does};
+
+use crate::beginning::Beginning;
+use crate::halt::HaltFault;
+use crate::power_down_flag::FlagFault;
+use nut_conf::UpsmonConf;
+use nut_monitor::{Monitor, Notice};
+use std::alloc::AllocError;
+
+/// Whoever acts on the machine for upsmon: tells notices, and halts.
+pub trait Actor: Drop {
+    /// What it did, the newest first; None if it tells nothing.
+    ghost log: { Self → Option (List Act) };
+
+    /// Makes ready to halt and to tell by this configuration, the first one.
+    ///
+    /// # Errors
+    ///
+    /// [`AllocError`] if memory cannot be allocated.
+    fn ready(&mut self, config: &UpsmonConf) -> Result<(), AllocError>
+        ensures ok { OnOk result (log self.new ≡ does (Readied config.now) (log self.old)) }
+        ensures err { OnErr result (log self.new ≡ log self.old) };
+
+    /// Is shown a notice of this monitor before anybody is told of it.
+    fn note(&mut self, monitor: &Monitor, notice: Notice)
+        ensures { log self.new ≡ log self.old };
+
+    /// Prints the text of a notice of this monitor as a line.
+    fn print(&mut self, monitor: &Monitor, notice: Notice)
+        ensures { log self.new ≡ does (Printed (text_of monitor.now.config notice)) (log self.old) };
+
+    /// Runs NOTIFYCMD, if one is set, with a notice of this monitor and its text.
+    fn call(&mut self, monitor: &Monitor, notice: Notice)
+        ensures { log self.new ≡ does (Called notice (text_of monitor.now.config notice)) (log self.old) };
+
+    /// Is told that a second has passed. If another configuration can be taken up, returns what its watch begins with,
+    /// and has made ready to halt by it.
+    fn second(&mut self, monitor: &Monitor) -> Option<Beginning>
+        ensures next { IfSome result (λ next. log self.new ≡ does (Readied next.monitor.config) (log self.old)) }
+        ensures none { IfNone result (log self.new ≡ log self.old) };
+
+    /// Halts by the configuration that was readied last, from now on.
+    fn change(&mut self)
+        ensures { log self.new ≡ does Changed (log self.old) };
+
+    /// Tries to set POWERDOWNFLAG.
+    ///
+    /// # Errors
+    ///
+    /// Why it isn't set, which was told.
+    fn set_flag(&mut self) -> Result<(), FlagFault>
+        ensures { log self.new ≡ does TriedFlag (log self.old) };
+
+    /// Runs SHUTDOWNCMD, and waits for its end.
+    ///
+    /// # Errors
+    ///
+    /// Why the machine wasn't halted.
+    fn run_shutdown(&mut self) -> Result<(), HaltFault>
+        ensures { log self.new ≡ does RanShutdown (log self.old) };
+}
