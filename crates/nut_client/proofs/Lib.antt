@@ -1,6 +1,5 @@
 pub mod Runs
-pub mod Turns
-pub mod Tasks
+pub mod Parts
 pub mod Writing
 pub mod Sendings
 pub mod Hearings

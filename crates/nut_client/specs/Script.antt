@@ -18,7 +18,7 @@ use Rattle.nut_client.specs.declared.printing.Form.{Form}
 use Rattle.nut_client.specs.declared.printing.Form.TheVariants.{Pairs, Firsts, Options, Ranges}
 use Rattle.nut_client.specs.declared.printing.Values.{Values}
 use Rattle.nut_client.specs.declared.printing.Values.TheVariants as values
-use Rattle.nut_client.specs.declared.task.TheConstants.{PAUSES_MAX}
+use Rattle.nut_client.specs.declared.deeds.TheConstants.{PAUSES_MAX}
 use Rattle.nut_client.specs.declared.wanted.Deed.{Deed}
 use Rattle.nut_client.specs.declared.wanted.Deed.TheVariants as deeds
 use Rattle.nut_client.specs.declared.wanted.Until.{Until}

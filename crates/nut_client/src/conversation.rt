@@ -1,126 +1,204 @@
 //! Queries over a connection, one after the other.
-ghost use Rattle.std.specs.Prelude.{◌≡◌, ◌+◌, [], IfErr, OnOk, false, min, true};
-ghost use Rattle.std.specs.Io.KnownBytes.{prepend_known};
-ghost use Rattle.nut_client.specs.inside.Conversation.{Answered, HasLength, Hears, IsWaiting, Sends};
+ghost use Rattle.std.specs.Prelude.{◌≡◌, ◌+◌, ◌∷◌, [], List, ℕ, IfErr, OnOk, false, min, true};
+ghost use Rattle.std.specs.Io.KnownBytes.{append_known};
+ghost use Rattle.nut_client.specs.Script.{Asks, Script, on_done, on_number, on_rows, on_words};
+ghost use Rattle.nut_client.specs.inside.Between.{Goes, point};
+ghost use Rattle.nut_client.specs.inside.Conversation.{Awaits, Hears, Sends};
 ghost use Rattle.nut_link.specs.Link.{fresh};
-ghost use Rattle.nut_words.specs.Hearing.{IsRest};
+ghost use Rattle.nut_link.specs.declared.outcome.Outcome.{Outcome as Came};
+ghost use Rattle.nut_proto.specs.Requests.{request_line};
+ghost use Rattle.nut_proto.specs.declared.request.Request.TheVariants.{List as Lists};
 ghost use Rattle.nut_client.specs.declared.failure.Failure.TheVariants.{ConnectionLost};
 
+use crate::answers::{done_of, number_of, rows_of, words_of};
 use crate::failure::Failure;
 use crate::stream::{Moved, Stream};
 use crate::unread::Unread;
-use nut_link::{Link, Outcome};
-use nut_proto::Request;
+use nut_link::{Fields, Link, Outcome, Rows};
+use nut_proto::{ListQuery, Request};
 use nut_words::LINE_MAX;
 use std::alloc::Global;
 use std::sync::Wait;
 
-/// A link over a connection. Bytes that were read after an answer are kept, and fed to the link once the next query was
-/// sent.
+/// Queries over a connection, one after the other, each over a link of its own. Bytes that were read after an answer are
+/// kept, and fed to the link of the next query once that was sent.
 #[derive(Drop)]
 pub(crate) struct Conversation {
-    link: Link,
     unread: Unread,
+    pub alloc: Global,
 }
 
 impl Conversation {
     /// Makes a conversation in which nothing has been said.
     pub(crate) fn new(alloc: Global) -> Self
-        ensures link { result.link ≡ fresh }
-        ensures unread { result.unread ≡ [] }
+        ensures { result.unread ≡ [] }
     {
         Conversation {
-            link: Link::new(alloc),
             unread: Unread::new(),
+            alloc,
         }
     }
 
-    /// Sends a query and waits for its answer. The link is fed no more than a line at a time.
+    /// Sends a query and waits for its answer.
     pub(crate) fn ask<S: Stream>(
         &mut self,
         rt: &impl Wait,
         stream: &mut S,
         request: &Request<'_>,
     ) -> Result<Outcome, Failure>
-        requires { self.old.link ≡ fresh }
-        ensures answered { Answered request.now result self.old.unread self.new.unread
-            (prepend_known self.old.unread (S.remaining stream.old)) (prepend_known self.new.unread (S.remaining stream.new))
-            (S.taken stream.old) (S.taken stream.new) }
-        ensures rests { OnOk result (self.new.link ≡ fresh) }
-        ensures lost { IfErr result (λ failure. failure ≡ ConnectionLost → S.has_ended stream.new) }
+        ensures goes { (next : Came → Script) → Goes (Asks request.now next) next result
+            (point S.remaining S.taken S.has_ended self.old.unread stream.old)
+            (point S.remaining S.taken S.has_ended self.new.unread stream.new) }
+        ensures asked { OnOk result (S.taken stream.new ≡ append_known (S.taken stream.old) (request_line request.now)) }
     {
-        if let Err(failure) = self.send(rt, stream, request) {
-            return Err(failure);
-        }
-        let mut length = 0usize;
-        for _ in rt.forever() {
-            match self.hear(rt, stream, &mut length) {
-                Ok(Some(outcome)) => return Ok(outcome),
-                Ok(None) => {}
-                Err(failure) => return Err(failure),
-            }
-        }
-        unreachable!()
+        let mut link = Link::new(self.alloc);
+        ask_over(rt, stream, &mut link, &mut self.unread, request)
     }
 
-    /// Sends all bytes of a query.
-    fn send<S: Stream>(
+    /// Asks a LIST, and returns its rows.
+    pub(crate) fn rows<S: Stream>(
+        &mut self,
+        rt: &impl Wait,
+        stream: &mut S,
+        query: ListQuery<'_>,
+    ) -> Result<Rows, Failure>
+        ensures { (next : List (List (List ℕ)) → Script) → Goes (Asks (Lists query.entry) (on_rows next)) next result
+            (point S.remaining S.taken S.has_ended self.old.unread stream.old)
+            (point S.remaining S.taken S.has_ended self.new.unread stream.new) }
+    {
+        let outcome = self.ask(rt, stream, &Request::List(query))?;
+        rows_of(outcome)
+    }
+
+    /// Asks a GET, and returns the words of its answer.
+    pub(crate) fn words<S: Stream>(
+        &mut self,
+        rt: &impl Wait,
+        stream: &mut S,
+        request: &Request<'_>,
+    ) -> Result<Fields, Failure>
+        ensures { (next : List (List ℕ) → Script) → Goes (Asks request.now (on_words next)) next result
+            (point S.remaining S.taken S.has_ended self.old.unread stream.old)
+            (point S.remaining S.taken S.has_ended self.new.unread stream.new) }
+    {
+        let outcome = self.ask(rt, stream, request)?;
+        words_of(outcome)
+    }
+
+    /// Asks what is tracked, and returns its number.
+    pub(crate) fn number<S: Stream>(
+        &mut self,
+        rt: &impl Wait,
+        stream: &mut S,
+        request: &Request<'_>,
+    ) -> Result<u32, Failure>
+        ensures { (next : ℕ → Script) → Goes (Asks request.now (on_number next)) next result
+            (point S.remaining S.taken S.has_ended self.old.unread stream.old)
+            (point S.remaining S.taken S.has_ended self.new.unread stream.new) }
+    {
+        let outcome = self.ask(rt, stream, request)?;
+        number_of(outcome)
+    }
+
+    /// Asks what is answered `OK`.
+    pub(crate) fn done<S: Stream>(
         &mut self,
         rt: &impl Wait,
         stream: &mut S,
         request: &Request<'_>,
     ) -> Result<(), Failure>
-        requires { self.old.link ≡ fresh }
-        ensures sends { Sends request.now result self.new.link (S.taken stream.old) (S.taken stream.new) (S.has_ended stream.new) }
-        ensures unread { self.new.unread ≡ self.old.unread }
-        ensures remaining { S.remaining stream.new ≡ S.remaining stream.old }
+        ensures goes { (next : Script) → Goes (Asks request.now (on_done next)) (λ _. next) result
+            (point S.remaining S.taken S.has_ended self.old.unread stream.old)
+            (point S.remaining S.taken S.has_ended self.new.unread stream.new) }
+        ensures asked { OnOk result (S.taken stream.new ≡ append_known (S.taken stream.old) (request_line request.now)) }
     {
-        self.link.ask(request)?;
-        for _ in rt.forever() {
-            if self.link.waiting().is_empty() {
-                break;
-            }
-            match stream.write(self.link.waiting()) {
-                Moved::Bytes(n) => self.link.took(n).unwrap(),
-                Moved::Again => {}
-                Moved::Lost => return Err(Failure::ConnectionLost),
-            }
-        }
-        Ok(())
+        let outcome = self.ask(rt, stream, request)?;
+        done_of(outcome)
     }
+}
 
-    /// Feeds the link the next part of a line, and takes out the answer if it is complete. `length` is how many bytes of
-    /// an unfinished line were fed. A line that is too long is a bad answer at once: it may never end.
-    fn hear<S: Stream>(
-        &mut self,
-        rt: &impl Wait,
-        stream: &mut S,
-        length: &mut usize,
-    ) -> Result<Option<Outcome>, Failure>
-        requires waits { IsWaiting self.old.link.exchange }
-        requires rest { IsRest self.old.link.rest }
-        requires short { HasLength self.old.link.rest length.old }
-        ensures hears { Hears self.old.link self.old.unread result self.new.link length.new self.new.unread
-            (prepend_known self.old.unread (S.remaining stream.old)) (prepend_known self.new.unread (S.remaining stream.new))
-            (S.has_ended stream.new) }
-        ensures taken { S.taken stream.new ≡ S.taken stream.old }
-    {
-        if !self.unread.fill(rt, stream) {
-            return Err(Failure::ConnectionLost);
-        }
-        let (part, is_ended) = self.unread.line_part();
-        let used = part.len();
-        let fed = self.link.feed(part);
-        self.unread.take(used);
-        if let Err(fault) = fed {
-            return Err(Failure::from(fault));
-        }
-        *length = length_after(*length, used, is_ended);
-        if *length > LINE_MAX {
-            return Err(Failure::BadAnswer);
-        }
-        Ok(self.link.answer())
+/// Sends a query over a link on which nothing was said, and waits for its answer. The link is fed no more than a line at a
+/// time.
+fn ask_over<S: Stream>(
+    rt: &impl Wait,
+    stream: &mut S,
+    link: &mut Link,
+    unread: &mut Unread,
+    request: &Request<'_>,
+) -> Result<Outcome, Failure>
+    requires { link.old ≡ fresh }
+    ensures goes { (next : Came → Script) → Goes (Asks request.now next) next result
+        (point S.remaining S.taken S.has_ended unread.old stream.old)
+        (point S.remaining S.taken S.has_ended unread.new stream.new) }
+    ensures asked { OnOk result (S.taken stream.new ≡ append_known (S.taken stream.old) (request_line request.now)) }
+{
+    if let Err(failure) = send(rt, stream, link, request) {
+        return Err(failure);
     }
+    let mut length = 0usize;
+    for _ in rt.forever() {
+        match hear(rt, stream, link, unread, &mut length) {
+            Ok(Some(outcome)) => return Ok(outcome),
+            Ok(None) => {}
+            Err(failure) => return Err(failure),
+        }
+    }
+    unreachable!()
+}
+
+/// Sends all bytes of a query over a link on which nothing was said.
+fn send<S: Stream>(
+    rt: &impl Wait,
+    stream: &mut S,
+    link: &mut Link,
+    request: &Request<'_>,
+) -> Result<(), Failure>
+    requires { link.old ≡ fresh }
+    ensures sends { Sends request.now result link.new (S.taken stream.old) (S.taken stream.new) (S.has_ended stream.new) }
+    ensures remaining { S.remaining stream.new ≡ S.remaining stream.old }
+{
+    link.ask(request)?;
+    for _ in rt.forever() {
+        if link.waiting().is_empty() {
+            break;
+        }
+        match stream.write(link.waiting()) {
+            Moved::Bytes(n) => link.took(n).unwrap(),
+            Moved::Again => {}
+            Moved::Lost => return Err(Failure::ConnectionLost),
+        }
+    }
+    Ok(())
+}
+
+/// Feeds the link the next part of a line, and takes out the answer if it is complete. `length` is how many bytes of an
+/// unfinished line were fed. A line that is too long is a bad answer at once: it may never end.
+fn hear<S: Stream>(
+    rt: &impl Wait,
+    stream: &mut S,
+    link: &mut Link,
+    unread: &mut Unread,
+    length: &mut usize,
+) -> Result<Option<Outcome>, Failure>
+    requires { Awaits link.old length.old }
+    ensures { Hears link.old (point S.remaining S.taken S.has_ended unread.old stream.old) result
+        link.new length.new (point S.remaining S.taken S.has_ended unread.new stream.new) }
+{
+    if !unread.fill(rt, stream) {
+        return Err(Failure::ConnectionLost);
+    }
+    let (part, is_ended) = unread.line_part();
+    let used = part.len();
+    let fed = link.feed(part);
+    unread.take(used);
+    if let Err(fault) = fed {
+        return Err(Failure::from(fault));
+    }
+    *length = length_after(*length, used, is_ended);
+    if *length > LINE_MAX {
+        return Err(Failure::BadAnswer);
+    }
+    Ok(link.answer())
 }
 
 /// Returns how many bytes of an unfinished line were heard after a part of so many bytes, by whether it ends its line.

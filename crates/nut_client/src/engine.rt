@@ -4,10 +4,8 @@ ghost use Rattle.std.specs.IoError.{error_kind};
 ghost use Rattle.clap.specs.Words.{kind_of};
 ghost use Rattle.nut_client.specs.Output.{HasText, Puts, written};
 ghost use Rattle.nut_client.specs.inside.Reading.{TellsRefusal};
-ghost use Rattle.nut_client.specs.inside.Task.{left_of};
 ghost use Rattle.nut_client.specs.Script.{script};
 ghost use Rattle.nut_client.specs.Tool.{Ends, Explains, Reports, Tells, error_text, is_asked_for as asked_for, words_failure};
-ghost use Rattle.nut_link.specs.Link.{fresh};
 ghost use Rattle.nut_client.specs.declared.failure.Failure.TheVariants.{ConnectionLost, Memory};
 
 use crate::clap_text::clap_text;
@@ -16,18 +14,14 @@ use crate::conversation::Conversation;
 use crate::failure::Failure;
 use crate::output::Output;
 use crate::stream::{Moved, Stream};
-use crate::task::{Next, Task};
 use crate::wanted::Wanted;
 use clap::error::ErrorKind;
 use nut_link::Text;
 use nut_proto::Word;
 use std::alloc::Global;
+use std::io;
 use std::sync::Wait;
-use std::time::{Clock, Duration};
-use std::{io, thread};
-
-/// For how many seconds a tool pauses before it asks again whether a request has ended.
-const PAUSE: u64 = 1;
+use std::time::Clock;
 
 /// Asks a server what is wanted of the UPS of this name. Returns the text to print once the last answer has come.
 ///
@@ -50,43 +44,7 @@ pub fn ask_server<S: Stream>(
     ensures lost { IfErr result (λ failure. failure ≡ ConnectionLost → S.has_ended stream.new) }
 {
     let mut conversation = Conversation::new(alloc);
-    do_task(rt, &mut conversation, stream, Task::new(alloc, ups, wanted))
-}
-
-/// Does a task over a conversation in which nothing has been said. Returns the text to print once the last answer has
-/// come.
-fn do_task<S: Stream>(
-    rt: &(impl Wait + Clock),
-    conversation: &mut Conversation,
-    stream: &mut S,
-    mut task: Task<'_>,
-) -> Result<Text, Failure>
-    requires link { conversation.old.link ≡ fresh }
-    requires unread { conversation.old.unread ≡ [] }
-    ensures ends { Ends (left_of task.entry) result
-        (S.remaining stream.old) (S.remaining stream.new) (S.taken stream.old) (S.taken stream.new) }
-    ensures lost { IfErr result (λ failure. failure ≡ ConnectionLost → S.has_ended stream.new) }
-{
-    for _ in rt.forever() {
-        let asked = match task.next() {
-            Next::Asks(request) => conversation.ask(rt, stream, &request),
-            Next::Pauses => {
-                thread::sleep(rt, Duration::from_secs(PAUSE));
-                task = task.resume();
-                continue;
-            }
-            Next::Prints => break,
-        };
-        let outcome = match asked {
-            Ok(outcome) => outcome,
-            Err(failure) => return Err(failure),
-        };
-        task = match task.hear(outcome) {
-            Ok(task) => task,
-            Err(failure) => return Err(failure),
-        };
-    }
-    Ok(task.into_text())
+    conversation.answer(rt, stream, ups, wanted)
 }
 
 /// Returns the bytes from this place on.

@@ -2,14 +2,14 @@
 ghost use Rattle.std.specs.Prelude.{◌≡◌, [], IfErr, IfOk};
 ghost use Rattle.std.specs.Io.KnownBytes.{append_known};
 ghost use Rattle.nut_client.specs.Forcing.{forcing_queries, in_turn, query_lines, without_text};
+ghost use Rattle.nut_client.specs.Script.{Prints};
 ghost use Rattle.nut_client.specs.Tool.{Ends};
-ghost use Rattle.nut_link.specs.Link.{fresh};
+ghost use Rattle.nut_client.specs.inside.Between.{Goes, point};
 ghost use Rattle.nut_client.specs.declared.failure.Failure.TheVariants.{ConnectionLost};
 
 use crate::conversation::Conversation;
 use crate::failure::Failure;
 use crate::stream::Stream;
-use crate::task::done_of;
 use nut_proto::{Request, Word};
 use std::alloc::Global;
 use std::sync::Wait;
@@ -49,28 +49,20 @@ pub fn force_shutdown<S: Stream>(
     ask_in_turn(rt, &mut conversation, stream, &queries)
 }
 
-/// Asks these queries over a conversation in which nothing has been said, each once the one before it was answered `OK`.
+/// Asks these queries in turn, each once the one before it was answered `OK`.
 fn ask_in_turn<S: Stream>(
     rt: &impl Wait,
     conversation: &mut Conversation,
     stream: &mut S,
     queries: &[Request<'_>],
 ) -> Result<(), Failure>
-    requires link { conversation.old.link ≡ fresh }
-    requires unread { conversation.old.unread ≡ [] }
-    ensures ends { Ends (in_turn queries.now) (without_text result)
-        (S.remaining stream.old) (S.remaining stream.new) (S.taken stream.old) (S.taken stream.new) }
+    ensures goes { Goes (in_turn queries.now) (λ _. Prints []) result
+        (point S.remaining S.taken S.has_ended conversation.old.unread stream.old)
+        (point S.remaining S.taken S.has_ended conversation.new.unread stream.new) }
     ensures asked { IfOk result (λ _. S.taken stream.new ≡ append_known (S.taken stream.old) (query_lines queries.now)) }
-    ensures lost { IfErr result (λ failure. failure ≡ ConnectionLost → S.has_ended stream.new) }
 {
     for query in queries {
-        let outcome = match conversation.ask(rt, stream, query) {
-            Ok(outcome) => outcome,
-            Err(failure) => return Err(failure),
-        };
-        if let Err(failure) = done_of(outcome) {
-            return Err(failure);
-        }
+        conversation.done(rt, stream, query)?;
     }
     Ok(())
 }

@@ -5,9 +5,12 @@
 //! tool runs and ends in `specs/Tool.antt`. A tool asks over a link of `nut_link`.
 #![tactic(auto)]
 
+mod answers;
+mod asking;
 mod clap_text;
 mod command_line;
 mod conversation;
+mod deeds;
 mod destination;
 mod dialing;
 mod engine;
@@ -22,7 +25,6 @@ mod password;
 mod printing;
 mod program;
 mod stream;
-mod task;
 mod tool;
 mod unread;
 mod upsc;

@@ -1,0 +1,14 @@
+use Rattle.std.proofs.Common.{arith, length, ◌∙◌}
+use Rattle.std.proofs.lemmas.Grind.{common_steps}
+use Rattle.std.proofs.lemmas.Bool.{le-leb}
+use Rattle.nut_client.proofs.Sendings.{sent_more}
+use Rattle.nut_client.proofs.conversation.send.Goals as goal
+
+pub loop-preserved-in-Bytes : goal.loop-preserved-in-Bytes
+loop-preserved-in-Bytes g c = record {
+  sending = sent_more c.args.request.now _ _ _ _ _ c.in-Bytes.n c.waiting-in-loop.result.now c.loop.invariant.sending c.waiting-in-loop.ensures.value (le-leb c.in-Bytes.n (length c.waiting-in-loop.result.now) c.in-Bytes.ensures.took.0) c.in-Bytes.ensures.took.1 c.took.ensures.stands;
+  remaining = c.in-Bytes.ensures.kept ∙ c.loop.invariant.remaining;
+}
+
+pub returns-clause-sends : goal.returns-clause-sends
+returns-clause-sends g c = grind (arith, common_steps)
