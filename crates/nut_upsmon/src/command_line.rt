@@ -145,7 +145,9 @@ fn machines<'a>(alloc: Global) -> Result<Arg<'a>, AllocError> {
         .value_name("DIR")
         .action(ArgAction::Append)
         .num_args(1..)
-        .help("With --check: the folders of upsmon.conf of each machine of a room, to say what the room needs")
+        .help(
+            "With --check: the folders of upsmon.conf of each machine of a room, to say what the room needs",
+        )
         .requires_arg("check")?
         .conflicts_with("conf")
 }

@@ -89,8 +89,9 @@ where
     R: Wait + Files + Net + Clock + Processes + Env + Alloc,
 {
     let order = order_of(rt, alloc, words)?;
+    let task = order.task;
     let folder = order.folder.as_str();
-    match order.task {
+    match task {
         Task::LookForFlag => look_for_flag(rt, alloc, folder, streams.out, err),
         Task::Check => check_file(rt, alloc, folder, streams.out, err),
         Task::CheckRoom => check_machines(rt, alloc, &order, streams.out, err),
@@ -170,7 +171,14 @@ fn check_machines(
     out: LogStream<Stdout>,
     err: &mut ErrorLines,
 ) -> Result<u8, Failure<UpsmonFault>> {
-    check_room(files, alloc, order.machines.as_slice(), order.delays.as_slice(), out, err)?;
+    check_room(
+        files,
+        alloc,
+        order.machines.as_slice(),
+        order.delays.as_slice(),
+        out,
+        err,
+    )?;
     Ok(0)
 }
 

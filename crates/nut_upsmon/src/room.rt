@@ -13,7 +13,7 @@ use nut_log::{Level, Lines, LogStream};
 use nut_monitor::has_primary;
 use nut_monitor_sockets::ANSWER_ON_BATTERY;
 use nut_poll::ErrorLines;
-use nut_program::{Failure, read_conf};
+use nut_program::{Failure, FileFault, read_conf};
 use std::alloc::Global;
 use std::io::{Stdout, Write};
 use std::rt::Files;
@@ -50,8 +50,12 @@ pub fn check_room(
 ) -> Result<(), Failure<UpsmonFault>> {
     let mut machines = Vec::new(alloc);
     for folder in folders {
-        let machine = read_machine(files, alloc, folder, err)?;
-        machines.push(machine)?;
+        let config = read_machine(files, alloc, folder, err)?;
+        machines.push(Machine {
+            folder,
+            config,
+            delay: DELAY,
+        })?;
     }
     for word in delays {
         set_delay(alloc, machines.as_mut_slice(), word)?;
@@ -61,23 +65,17 @@ pub fn check_room(
 }
 
 /// Reads the upsmon.conf of a machine. A line that names its folder comes before the fault of the file.
-fn read_machine<'a>(
+fn read_machine(
     files: &impl Files,
     alloc: Global,
-    folder: &'a str,
+    folder: &str,
     err: &mut ErrorLines,
-) -> Result<Machine<'a>, Failure<UpsmonFault>> {
-    match read_conf(files, alloc, folder) {
-        Ok(config) => Ok(Machine {
-            folder,
-            config,
-            delay: DELAY,
-        }),
-        Err(fault) => {
-            let _ = writeln!(err.begin(Level::Error), "in {folder}:");
-            Err(Failure::from(fault))
-        }
+) -> Result<UpsmonConf, FileFault<'static>> {
+    let read = read_conf(files, alloc, folder);
+    if read.is_err() {
+        let _ = writeln!(err.begin(Level::Error), "in {folder}:");
     }
+    read
 }
 
 /// Sets the longest time for an answer on the machines that a word names as `FOLDER=SECONDS`.
@@ -88,7 +86,7 @@ fn set_delay(
 ) -> Result<(), Failure<UpsmonFault>> {
     let mut is_named = false;
     if let Some((folder, seconds)) = delay_in(word) {
-        for machine in machines {
+        for machine in machines.iter_mut() {
             if machine.folder == folder {
                 machine.delay = seconds;
                 is_named = true;
@@ -330,7 +328,8 @@ impl<'a> Machine<'a> {
 /// Returns the HOSTSYNC of a primary from which on another machine is halted before the primary goes on, whether or not the
 /// primary's last status is so old that it takes the UPS for dead.
 fn host_sync_for(primary: &Machine<'_>, other: &Machine<'_>) -> u64
-    ensures { result ≡ host_sync_for (configuration_of primary.now.config) (prompt primary.now.delay) false (configuration_of other.now.config) (prompt other.now.delay) 1 }
+    ensures { result ≡ host_sync_for (configuration_of primary.now.config) (prompt primary.now.delay) false
+        (configuration_of other.now.config) (prompt other.now.delay) 1 }
 {
     accepts_within(primary)
         + DRIFT
@@ -353,7 +352,8 @@ fn accepts_within(primary: &Machine<'_>) -> u64
 
 /// Returns the most seconds from OB and LB until another machine is halted that needs a primary's UPSes.
 fn other_halted_within(primary: &Machine<'_>, other: &Machine<'_>) -> u64
-    ensures { result ≡ other_halted_in (configuration_of primary.now.config) (prompt primary.now.delay) (configuration_of other.now.config) (prompt other.now.delay) 1 }
+    ensures { result ≡ other_halted_in (configuration_of primary.now.config) (prompt primary.now.delay)
+        (configuration_of other.now.config) (prompt other.now.delay) 1 }
 {
     forces_within(primary)
         + DRIFT
@@ -367,7 +367,11 @@ fn forces_within(primary: &Machine<'_>) -> u64
     ensures fits { result < 2 ^ 35 }
 {
     let delay = u64::from(primary.delay);
-    let answers = if has_one_line(&primary.config) { delay } else { delay + delay };
+    let answers = if has_one_line(&primary.config) {
+        delay
+    } else {
+        delay + delay
+    };
     seen_within(&primary.config, primary.delay) + answers
 }
 
@@ -420,7 +424,8 @@ fn is_primary_of(primary: &Monitored, line: &Monitored) -> bool {
 fn has_several_servers(machine: &UpsmonConf) -> bool {
     let mut lines = machine.monitors.lines.iter();
     match lines.next() {
-        Some(first) => lines.any(|it| it.target.host != first.target.host || it.target.port != first.target.port),
+        Some(first) => lines.any(|it| it.target.host != first.target.host
+            || it.target.port != first.target.port),
         None => false,
     }
 }

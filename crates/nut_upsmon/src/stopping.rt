@@ -40,21 +40,22 @@ impl fmt::Display for Stopping {
 impl Stopping {
     /// Returns how soon the machine of this configuration stops, if each answer comes within [`DELAY`] seconds.
     pub fn of(config: &UpsmonConf) -> Stopping {
-        match Stopping::with_delay(config, DELAY) {
-            Some(stopping) => stopping,
-            // upsmon waits longer for an answer than this
-            None => unreachable!(),
-        }
+        Stopping::within(config, seconds_within(config, DELAY), DELAY)
     }
 
     /// Returns how soon the machine of this configuration stops, if each answer comes within `delay` seconds: `None` if
     /// upsmon doesn't wait so long.
     pub fn with_delay(config: &UpsmonConf, delay: u32) -> Option<Stopping> {
-        if config.min_supplies() == 0 {
-            return Some(Stopping::Never);
-        }
         let seconds = stops_within(config, delay)?;
-        Some(Stopping::Within { seconds, delay })
+        Some(Stopping::within(config, seconds, delay))
+    }
+
+    fn within(config: &UpsmonConf, seconds: u64, delay: u32) -> Stopping {
+        if config.min_supplies() == 0 {
+            Stopping::Never
+        } else {
+            Stopping::Within { seconds, delay }
+        }
     }
 
     /// Writes it as a line.
