@@ -136,7 +136,7 @@ COMPLETIONS = {
     "upscmd -u admin -p pw su700 load.of": ["load.off"],
     "upscmd -u admin -p ": [],
     "upscmd -u": ["-u"],
-    "upsmon -": ["--conf", "-q", "--check", "--fsd", "-K", "-h", "--help", "-V", "--version"],
+    "upsmon -": ["--conf", "-q", "--check", "--delay", "--fsd", "-K", "-h", "--help", "-V", "--version"],
     "upsmon --f": ["--fsd"],
     "upsmon --conf /etc": [],
     "nutroom -": ["-n", "-s", "--svg", "--steps", "--run", "--nutsim", "-h", "--help", "-V", "--version"],

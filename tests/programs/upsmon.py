@@ -563,6 +563,83 @@ class Tests(Shimmed):
         warning = "upsmon: warning: no SHUTDOWNCMD is set: nothing will stop this machine\n"
         expect(self.checked("MONITOR a@h 1 mon m1 primary\n")[::2], (0, warning), "what should be set otherwise")
 
+    def test_check_of_a_room(self):
+        """What 'upsmon --check DIR ..' says of the machines of a room, whose files it is given by their folders' names."""
+        primary, secondary = ("MONITOR su700@%s 1 mon m1 %s\nSHUTDOWNCMD true\n" % it for it in (("localhost", "primary"), ("m1", "secondary")))
+        two = "MONITOR su700@m1 1 mon m1 primary\nMONITOR su800@m1 1 mon m1 primary\nMINSUPPLIES 2\nSHUTDOWNCMD true\n"
+        stops = "upsmon: %s: stops within %d s of OB LB if each answer comes within %d s\n"
+        enough, short = ("upsmon: m1: HOSTSYNC %d is enough: %s needs the most, %d\n", "upsmon: warning: m1: HOSTSYNC %d is too short: %s needs the most, %d\n")
+        battery = "upsmon: m1: battery.runtime.low: at least %d s, and what a machine takes from SHUTDOWNCMD until it is off\n"
+        alone = "upsmon: warning: %s: no machine here is the primary of its UPSes: none waits for it\n"
+        for files, words, out, err in (
+            # FSD is accepted within 3 s; a second for the clocks; POLLFREQ 5, an answer 2, FINALDELAY 5 - 1
+            ({"m1": primary, "m2": secondary}, (), (stops % ("m1", 28, 2), stops % ("m2", 28, 2), enough % (15, "m2", 15), battery % 28), ()),
+            # the room of docs/room.md
+            (
+                {"m1": primary, "m2": secondary, "m5": secondary},
+                ("--delay", "m1=1", "--delay", "m2=1", "--delay=m5=3"),
+                (stops % ("m1", 27, 1), stops % ("m2", 27, 1), stops % ("m5", 29, 3), enough % (15, "m5", 14), battery % 27),
+                (),
+            ),
+            # a HOSTSYNC that is too short: the last machine is halted after the primary
+            (
+                {"m1": primary + "HOSTSYNC 9\n", "m2": secondary + "FINALDELAY 30\n"},
+                (),
+                (stops % ("m1", 22, 2), stops % ("m2", 53, 2), battery % 47),
+                (short % (9, "m2", 40),),
+            ),
+            # a primary of two UPSes; a machine that needs one of them and one that needs none
+            (
+                {"m1": two, "m2": secondary, "m3": secondary + "MINSUPPLIES 0\n"},
+                (),
+                (stops % ("m1", 28, 2), stops % ("m2", 28, 2), "upsmon: m3: never stops this machine: MINSUPPLIES is 0\n", battery % 28),
+                (short % (15, "m2", 16),),
+            ),
+            ({"m1": primary}, (), (stops % ("m1", 28, 2), "upsmon: m1: no other machine here needs its UPSes\n", battery % 28), ()),
+            ({"m2": secondary}, (), (stops % ("m2", 28, 2),), (alone % "m2",)),
+            (
+                {"m1": primary + "MONITOR su800@m9 1 mon m1 secondary\n"},
+                (),
+                (stops % ("m1", 44, 2),),
+                (
+                    "upsmon: warning: m1: its UPSes are at several servers: HOSTSYNC and the battery are reckoned for one\n",
+                    "upsmon: warning: m1: it goes on without the UPSes of which it is the primary: it forces no shutdown while their battery is low\n",
+                ),
+            ),
+            (
+                {"m1": primary, "m2": secondary},
+                ("--delay", "m2=6"),
+                (stops % ("m1", 28, 2),),
+                ("upsmon: warning: m2: 6 s for an answer are too long: upsmon gives a server up after 5 s while a UPS is on battery, so nothing is known of this room\n",),
+            ),
+            ({"m1": "MONITOR su700@m1 1 mon m1 primary\n"}, (), (stops % ("m1", 28, 2), "upsmon: m1: no other machine here needs its UPSes\n", battery % 28), ("upsmon: warning: m1: no SHUTDOWNCMD is set: nothing will stop this machine\n",)),
+        ):
+            expect(self.checked_room(files, *words, *files), (0, "".join(out), "".join(err)), f"{files} {words}")
+
+    def test_check_of_a_room_that_is_wrong(self):
+        primary = "MONITOR su700@localhost 1 mon m1 primary\nSHUTDOWNCMD true\n"
+        delay = "upsmon: --delay %s: DIR=SECONDS is meant, with a DIR that is checked\n"
+        for word in ("m2=1", "m1=", "m1=x", "m1=-1", "m1", "=1", ""):
+            expect(self.checked_room({"m1": primary}, "--delay", word, "m1"), (1, "", delay % word), word)
+        fault = "upsmon: in m2:\nupsmon: upsmon.conf:1: BadForm\n"
+        status, out, err = self.checked_room({"m1": primary, "m2": "MONITOR\n"}, "m1", "m2")
+        expect((status, out, err[: len(fault)]), (1, "", fault), "a file with a fault")
+        status, out, err = self.checked_room({"m1": primary}, "m1", "m9")
+        expect((status, out, err.splitlines()[:2]), (1, "", ["upsmon: in m9:", "upsmon: upsmon.conf: cannot read"]), "a folder that isn't there")
+        for words in (["m1", "--conf", "m1"], ["--delay", "m1=1"]):
+            status, out, _ = self.checked_room({"m1": primary}, *words)
+            expect((status, out), (2, ""), words)
+
+    def checked_room(self, files, *words):
+        """What 'upsmon --check' gives with such words in a folder that has these files upsmon.conf in folders of these names."""
+        with tempfile.TemporaryDirectory(dir=self.folder) as folder:
+            for name, conf in files.items():
+                os.mkdir(os.path.join(folder, name))
+                with open(os.path.join(folder, name, "upsmon.conf"), "w") as file:
+                    file.write(conf)
+            done = subprocess.run([self.upsmon, "--check", *words], stdin=subprocess.DEVNULL, capture_output=True, timeout=60, cwd=folder)
+        return done.returncode, done.stdout.decode(), done.stderr.decode()
+
     def test_check_asks_how_early_lb_is_said(self):
         conf = "MONITOR a@h 1 mon m1 primary\nMONITOR b@h:9 1 mon m1 primary\nMONITOR c@h 0 mon m1 primary\nSHUTDOWNCMD true\n"
         unknown = "upsmon: UPS %s: battery.runtime.low isn't known\n"

@@ -16,6 +16,8 @@ pub enum Task {
     LookForFlag,
     /// Check upsmon.conf.
     Check,
+    /// Check the upsmon.conf of each machine of a room.
+    CheckRoom,
     /// Force the shutdown of the UPSes of the primary lines.
     Force,
     /// Watch, and tell nothing of UPSes and servers that come and go if that is to be quiet.
@@ -24,10 +26,14 @@ pub enum Task {
 
 /// What the words of a command line ask for.
 #[derive(Drop)]
-pub struct Order {
+pub struct Order<'a> {
     pub task: Task,
     /// The folder of upsmon.conf.
     pub folder: String,
+    /// The folders of a room's machines.
+    pub machines: Vec<&'a str>,
+    /// How long answers take on them, as `FOLDER=SECONDS`.
+    pub delays: Vec<&'a str>,
 }
 
 /// Reads the words of a command line.
@@ -35,23 +41,51 @@ pub struct Order {
 /// # Errors
 ///
 /// `CommandLine` if clap refuses them, or they ask for the help or the version; `Memory` if memory cannot be allocated.
-pub fn order_of<R: Env + Alloc, S: AsStr>(
+pub fn order_of<'a, R: Env + Alloc, S: AsStr>(
     rt: &R,
     alloc: Global,
-    words: &[S],
-) -> Result<Order, Failure<UpsmonFault>> {
+    words: &'a [S],
+) -> Result<Order<'a>, Failure<UpsmonFault>> {
     let matches = upsmon_command(alloc)?.try_get_matches_from(words)?;
-    let task = task_of(&matches);
-    match conf_folder(rt, alloc, &matches) {
-        Ok(folder) => Ok(Order { task, folder }),
+    match order_by(rt, alloc, &matches) {
+        Ok(order) => Ok(order),
         Err(AllocError) => Err(Failure::Memory),
     }
+}
+
+/// Returns what a command line asks for that clap has accepted.
+fn order_by<'a, R: Env + Alloc>(
+    rt: &R,
+    alloc: Global,
+    matches: &ArgMatches<'a>,
+) -> Result<Order<'a>, AllocError> {
+    Ok(Order {
+        task: task_of(matches),
+        folder: conf_folder(rt, alloc, matches)?,
+        machines: values_of(alloc, matches, "machines")?,
+        delays: values_of(alloc, matches, "delay")?,
+    })
+}
+
+/// Returns the values of an argument.
+fn values_of<'a>(
+    alloc: Global,
+    matches: &ArgMatches<'a>,
+    id: &str,
+) -> Result<Vec<&'a str>, AllocError> {
+    let mut values = Vec::new(alloc);
+    if let Some(given) = matches.get_strs(id) {
+        values.extend_from_slice(given)?;
+    }
+    Ok(values)
 }
 
 /// Returns what upsmon is to do by a command line that clap has accepted.
 fn task_of(matches: &ArgMatches<'_>) -> Task {
     if matches.get_flag("killpower") {
         Task::LookForFlag
+    } else if matches.contains_id("machines") {
+        Task::CheckRoom
     } else if matches.get_flag("check") {
         Task::Check
     } else if matches.get_flag("fsd") {
@@ -66,6 +100,8 @@ fn task_of(matches: &ArgMatches<'_>) -> Task {
 /// Returns the command line of upsmon: to watch, to check its file, to force a shutdown, and to look for POWERDOWNFLAG.
 fn upsmon_command<'a>(alloc: Global) -> Result<Command<'a>, AllocError> {
     let force = force(alloc)?;
+    let machines = machines(alloc)?;
+    let delay = delay(alloc)?;
     let kill_power = kill_power(alloc)?;
     let command = Command::new(alloc, "upsmon")
         .version(VERSION)
@@ -82,6 +118,8 @@ fn upsmon_command<'a>(alloc: Global) -> Result<Command<'a>, AllocError> {
             "Watch nothing: say the first fault of upsmon.conf, or how soon this machine stops",
         ),
     );
+    let command = with(command, machines);
+    let command = with(command, delay);
     let command = with(command, force);
     let command = with(command, kill_power);
     let command = with(command, foreground_option(alloc));
@@ -100,6 +138,27 @@ fn conf_of_upsmon<'a>(alloc: Global) -> Arg<'a> {
     Arg::new(alloc, "conf").long("conf").value_name("DIR").help(
         "The folder of upsmon.conf; unless given, that of NUT_CONFPATH or /etc/nut",
     )
+}
+
+fn machines<'a>(alloc: Global) -> Result<Arg<'a>, AllocError> {
+    Arg::new(alloc, "machines")
+        .value_name("DIR")
+        .action(ArgAction::Append)
+        .num_args(1..)
+        .help(
+            "With --check: the folders of upsmon.conf of each machine of a room, to say what the room needs",
+        )
+        .requires_arg("check")?
+        .conflicts_with("conf")
+}
+
+fn delay<'a>(alloc: Global) -> Result<Arg<'a>, AllocError> {
+    Arg::new(alloc, "delay")
+        .long("delay")
+        .value_name("DIR=SECONDS")
+        .action(ArgAction::Append)
+        .help("The longest time for an answer of the server on the machine of DIR; 2 unless given")
+        .requires_arg("machines")
 }
 
 fn force<'a>(alloc: Global) -> Result<Arg<'a>, AllocError> {

@@ -17,6 +17,7 @@ mod notify_command;
 mod power_down_flag;
 mod process_state;
 mod reloader;
+mod room;
 mod shutdown_command;
 mod shutdown_report;
 mod starting;

@@ -269,8 +269,8 @@ fn asked(
     generation: u32,
 ) -> Result<(u64, Vec<Ups>), AllocError> {
     match Stopping::of(config) {
-        Stopping::Within(needed) => Ok((
-            needed,
+        Stopping::Within { seconds, .. } => Ok((
+            seconds,
             upses_of(alloc, &config.monitors.lines, generation)?,
         )),
         Stopping::Never => Ok((0, Vec::new(alloc))),

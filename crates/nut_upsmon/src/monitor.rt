@@ -1,7 +1,7 @@
 //! upsmon: a monitor that decides when to halt its machine.
 
 use crate::beginning::Beginning;
-use crate::command_line::{Task, order_of};
+use crate::command_line::{Order, Task, order_of};
 use crate::faulty_file::last_flag_in;
 use crate::forcing::force_shutdowns;
 use crate::halt::{check_flag, clear_left_flag, halt_heap};
@@ -9,6 +9,7 @@ use crate::low_runtime::check_low_runtimes;
 use crate::machine::Machine;
 use crate::power_down_flag::{FlagState, PowerDownFlag};
 use crate::reloader::Reloader;
+use crate::room::check_room;
 use crate::stopping::Stopping;
 use crate::upsmon_fault::{UpsmonFault, tell_failure};
 use crate::warning::read_and_warn;
@@ -88,10 +89,12 @@ where
     R: Wait + Files + Net + Clock + Processes + Env + Alloc,
 {
     let order = order_of(rt, alloc, words)?;
+    let task = order.task;
     let folder = order.folder.as_str();
-    match order.task {
+    match task {
         Task::LookForFlag => look_for_flag(rt, alloc, folder, streams.out, err),
         Task::Check => check_file(rt, alloc, folder, streams.out, err),
+        Task::CheckRoom => check_machines(rt, alloc, &order, streams.out, err),
         Task::Force => force(rt, alloc, folder, streams, err),
         Task::Watch { is_quiet } => guard(rt, alloc, folder, is_quiet, streams, err),
     }
@@ -157,6 +160,25 @@ where
     Stopping::of(&config).tell(&mut out)?;
     check_flag(rt, alloc, &config, err)?;
     check_low_runtimes(rt, alloc, &config, err)?;
+    Ok(0)
+}
+
+/// Says what the room of these machines needs. Returns the exit status, which is 0.
+fn check_machines(
+    files: &impl Files,
+    alloc: Global,
+    order: &Order<'_>,
+    out: LogStream<Stdout>,
+    err: &mut ErrorLines,
+) -> Result<u8, Failure<UpsmonFault>> {
+    check_room(
+        files,
+        alloc,
+        order.machines.as_slice(),
+        order.delays.as_slice(),
+        out,
+        err,
+    )?;
     Ok(0)
 }
 

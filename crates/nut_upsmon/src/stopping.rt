@@ -18,8 +18,9 @@ pub const DELAY: u32 = 2;
 /// What an operator is told about how soon this machine stops.
 #[derive(Clone, Copy)]
 pub enum Stopping {
-    /// At most this many seconds after so many of its UPSes show OB and LB that the others supply too little.
-    Within(u64),
+    /// At most this many seconds after so many of its UPSes show OB and LB that the others supply too little, if each
+    /// answer comes within `delay` seconds.
+    Within { seconds: u64, delay: u32 },
     /// It needs none of its UPSes.
     Never,
 }
@@ -27,9 +28,9 @@ pub enum Stopping {
 impl fmt::Display for Stopping {
     fn fmt<W: fmt::Write>(&self, f: &mut fmt::Formatter<W>) -> fmt::Result {
         match self {
-            Stopping::Within(seconds) => write!(
+            Stopping::Within { seconds, delay } => write!(
                 f,
-                "stops within {seconds} s of OB LB if each answer comes within {DELAY} s"
+                "stops within {seconds} s of OB LB if each answer comes within {delay} s"
             ),
             Stopping::Never => write!(f, "never stops this machine: MINSUPPLIES is 0"),
         }
@@ -37,15 +38,23 @@ impl fmt::Display for Stopping {
 }
 
 impl Stopping {
-    /// Returns how soon the machine of this configuration stops.
+    /// Returns how soon the machine of this configuration stops, if each answer comes within [`DELAY`] seconds.
     pub fn of(config: &UpsmonConf) -> Stopping {
+        Stopping::within(config, seconds_within(config, DELAY), DELAY)
+    }
+
+    /// Returns how soon the machine of this configuration stops, if each answer comes within `delay` seconds: `None` if
+    /// upsmon doesn't wait so long.
+    pub fn with_delay(config: &UpsmonConf, delay: u32) -> Option<Stopping> {
+        let seconds = stops_within(config, delay)?;
+        Some(Stopping::within(config, seconds, delay))
+    }
+
+    fn within(config: &UpsmonConf, seconds: u64, delay: u32) -> Stopping {
         if config.min_supplies() == 0 {
-            return Stopping::Never;
-        }
-        match stops_within(config, DELAY) {
-            Some(seconds) => Stopping::Within(seconds),
-            // upsmon waits longer for an answer than the bound assumes
-            None => unreachable!(),
+            Stopping::Never
+        } else {
+            Stopping::Within { seconds, delay }
         }
     }
 
@@ -95,7 +104,7 @@ fn begins_within(config: &UpsmonConf, delay: u32) -> u64
 }
 
 /// Returns the most seconds from the moment at which the server shows OB and LB to the moment at which upsmon knows it.
-fn seen_within(config: &UpsmonConf, delay: u32) -> u64
+pub fn seen_within(config: &UpsmonConf, delay: u32) -> u64
     ensures seconds { result ≡ seen_by (configuration_of config.now) (prompt delay) 0 }
     ensures fits { result < 2 ^ 33 }
 {
@@ -103,7 +112,7 @@ fn seen_within(config: &UpsmonConf, delay: u32) -> u64
 }
 
 /// Returns how many seconds pass at most from the beginning of the shutdown to the halt, however long an answer takes.
-fn halts_within(config: &UpsmonConf) -> u64
+pub fn halts_within(config: &UpsmonConf) -> u64
     ensures seconds { result ≡ to_halted (configuration_of config.now) (prompt 0) }
     ensures fits { result < 2 ^ 34 }
 {

@@ -12,6 +12,8 @@ use std::io::Stdout;
 pub enum UpsmonFault {
     /// upsmon.conf gives no configuration.
     File(FileFault<'static>),
+    /// This word isn't `FOLDER=SECONDS`, or names a folder that isn't checked.
+    BadDelay(String),
     /// No MONITOR line of upsmon.conf is primary, so this machine may force no shutdown.
     NoPrimary,
     /// The machine wasn't halted.
@@ -22,6 +24,10 @@ impl fmt::Display for UpsmonFault {
     fn fmt<W: fmt::Write>(&self, f: &mut fmt::Formatter<W>) -> fmt::Result {
         match self {
             UpsmonFault::File(fault) => write!(f, "{fault}"),
+            UpsmonFault::BadDelay(word) => write!(
+                f,
+                "--delay {word}: DIR=SECONDS is meant, with a DIR that is checked"
+            ),
             UpsmonFault::NoPrimary => write!(f, "upsmon.conf: no MONITOR line is primary"),
             UpsmonFault::Halt(fault) => write!(f, "{fault}"),
         }
@@ -32,7 +38,7 @@ impl OwnFault for UpsmonFault {
     fn remark(&self) -> Option<&str> {
         match self {
             UpsmonFault::File(fault) => fault.remark(),
-            UpsmonFault::NoPrimary | UpsmonFault::Halt(_) => None,
+            UpsmonFault::BadDelay(_) | UpsmonFault::NoPrimary | UpsmonFault::Halt(_) => None,
         }
     }
 }

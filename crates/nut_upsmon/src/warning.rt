@@ -48,6 +48,15 @@ impl fmt::Display for Warning {
 }
 
 impl Warning {
+    /// Returns what an operator should set otherwise, in the order in which it is told.
+    pub fn all_of(config: &UpsmonConf) -> [Option<Warning>; 3] {
+        [
+            Warning::of_shutdown_command(config),
+            Warning::of_dead_time(config),
+            Warning::of_host_sync(config),
+        ]
+    }
+
     /// Warns if no command is set to halt the machine with.
     pub fn of_shutdown_command(config: &UpsmonConf) -> Option<Warning>
         ensures { IsSome result ↔ (config.now.shutdown_cmd ≡ None) }
@@ -116,8 +125,8 @@ fn tell_warnings(
     err: &mut ErrorLines,
 ) -> Result<(), AllocError> {
     warn(readable_file::<UpsmonConf>(files, alloc, folder)?, err);
-    warn(Warning::of_shutdown_command(config), err);
-    warn(Warning::of_dead_time(config), err);
-    warn(Warning::of_host_sync(config), err);
+    for warning in Warning::all_of(config) {
+        warn(warning, err);
+    }
     Ok(())
 }
