@@ -90,6 +90,17 @@ class Tests(Shimmed):
             told = f"upsmon: UPS {server.target}: watched as primary, power value 1"
             until(lambda: watch.lines("err").count(told) == 2, "that the UPS is watched")
 
+    def test_each_directive_is_reported(self):
+        changed = {
+            "MINSUPPLIES": "0", "SHUTDOWNCMD": "true", "NOTIFYCMD": "true", "POWERDOWNFLAG": "FOLDER/flag", "POLLFREQ": "2",
+            "DEADTIME": "16", "RBWARNTIME": "9", "NOCOMMWARNTIME": "9", "HOSTSYNC": "3", "FINALDELAY": "1",
+            "NOTIFYMSG": "ONLINE x", "NOTIFYFLAG": "ONLINE IGNORE",
+        }
+        with Upstream() as server, self.watch(line_of(server) + QUICK + OLD) as watch:
+            until_asked(server)
+            watch.reload(line_of(server) + "".join(f"{word} {values}\n" for word, values in changed.items()))
+            watch.until_reloaded(", ".join(f"{word} changed" for word in changed))
+
     def test_quiet(self):
         with Upstream() as server, self.watch(line_of(server) + QUICK + OLD, "-q") as watch:
             until_asked(server)

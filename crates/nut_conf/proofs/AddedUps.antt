@@ -8,6 +8,7 @@ use Rattle.std.specs.Str.{bytes_eq}
 use Rattle.std.specs.HashMap.{HashMap}
 use Rattle.std.proofs.lemmas.Bool.{lt-leb}
 use Rattle.std.proofs.lemmas.Bool.Decides.{nat_tests}
+use Rattle.std.proofs.lemmas.List.{map_push}
 use Rattle.std.proofs.lemmas.Map.Made.{is_some-lookup}
 use Rattle.indexmap.specs.IndexMap.{get, insert_entry}
 use Rattle.indexmap.proofs.CallerLemmas.{insert_entry-new}
@@ -16,7 +17,8 @@ use Rattle.nut_words.specs.declared.limits.TheConstants.{UPS_NAME_MAX}
 use Rattle.nut_conf.specs.Faults.{◌>>=◌, Fails, Reads}
 use Rattle.nut_conf.specs.Values.{name, text}
 use Rattle.nut_conf.specs.Sections.{AllHold}
-use Rattle.nut_conf.specs.Ups.{Shown, shown, is_shown_as, with_ups, UpsHolds}
+use Rattle.nut_conf.specs.Rows.{RowsHold}
+use Rattle.nut_conf.specs.Ups.{Shown, shown, is_shown_as, with_ups, ups_row}
 use Rattle.nut_conf.specs.inside.Tables.{same_name}
 use Rattle.nut_conf.specs.declared.text.Name.{Name}
 use Rattle.nut_conf.specs.declared.text.Text.{Text}
@@ -25,7 +27,6 @@ use Rattle.nut_conf.specs.declared.fault.FaultKind.{FaultKind}
 use Rattle.nut_conf.specs.declared.fault.FaultKind.TheVariants.{PastLimit, Repeated, Unreadable}
 use Rattle.nut_conf.specs.declared.fault.FaultKind.TheVariants as kinds
 use Rattle.nut_conf.proofs.DraftLemmas.{Ok-equal}
-use Rattle.nut_conf.proofs.SlotLemmas.{length-map}
 use Rattle.nut_conf.proofs.SectionLemmas.{none-from_not_some}
 use Rattle.nut_conf.specs.declared.limits.TheConstants.{DESCRIPTION_MAX, UPSES_MAX}
 
@@ -34,7 +35,7 @@ pub text-short : (bytes : List ℕ) → length bytes ≤ DESCRIPTION_MAX → tex
 text-short bytes short = grind (arith, nat_tests)
 
 -- a configuration of no lines has no UPS
-pub no-shown : (es : List (Name UPS_NAME_MAX × Ups)) → AllHold UpsHolds es [] → map shown es ≡ []
+pub no-shown : (es : List (Name UPS_NAME_MAX × Ups)) → AllHold (RowsHold ups_row) es [] → map shown es ≡ []
 no-shown [] all = refl
 no-shown (e ∷ es) all = absurd all
 
@@ -42,21 +43,14 @@ any-shown : (es : List (Name UPS_NAME_MAX × Ups)) (k : Name UPS_NAME_MAX) → l
 any-shown [] k = refl
 any-shown (e ∷ es) k = ap (λ b. bytes_eq k.bytes.items e.0.bytes.items || b) (any-shown es k)
 
-map-push : (es : List (Name UPS_NAME_MAX × Ups)) (k : Name UPS_NAME_MAX) (u : Ups) → map shown (es ++ (k, u) ∷ []) ≡ map shown es ++ shown (k, u) ∷ []
-map-push [] k u = refl
-map-push (e ∷ es) k u = ap (λ (us : List Shown). shown e ∷ us) (map-push es k u)
-
 module _ {H : Type 0} (m : HashMap (Name UPS_NAME_MAX) Ups H) (k : Name UPS_NAME_MAX) (new : is_some (get same_name m k) ≡ false) where
   -- A new UPS comes last.
   pub shown-insert : (es : List (Name UPS_NAME_MAX × Ups)) (u : Ups) → es ≡ insert_entry same_name m.entries k u → map shown es ≡ map shown m.entries ++ shown (k, u) ∷ []
-  shown-insert es u is = ap (map shown) (is ∙ insert_entry-new same_name m k u (none-from_not_some _ new)) ∙ map-push m.entries k u
+  shown-insert es u is = ap (map shown) (is ∙ insert_entry-new same_name m k u (none-from_not_some _ new)) ∙ map_push shown m.entries (k, u)
 
 -- A name is a key of the map if, and only if, a UPS has it.
 pub any-is : {H : Type 0} (m : HashMap (Name UPS_NAME_MAX) Ups H) (k : Name UPS_NAME_MAX) → is_some (get same_name m k) ≡ list_any (is_shown_as k.bytes.items) (map shown m.entries)
 any-is m k = is_some-lookup (same_name k) m.entries ∙ any-shown m.entries k
-
-pub length-shown : (es : List (Name UPS_NAME_MAX × Ups)) → length (map shown es) ≡ length es
-length-shown es = length-map shown es
 
 module _ (before : List Shown) (bytes n desc d : List ℕ) (named : name UPS_NAME_MAX bytes ≡ Ok n) (described : text 0 DESCRIPTION_MAX desc ≡ Ok d) (room : length before < UPSES_MAX) where
   tested : List ℕ → List ℕ → Result (List Shown) FaultKind

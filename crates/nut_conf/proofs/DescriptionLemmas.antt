@@ -5,6 +5,7 @@ use Rattle.std.specs.Map.{keys_of, lookup}
 use Rattle.std.specs.Option.{is_some, option_map}
 use Rattle.std.specs.Str.{bytes_eq}
 use Rattle.std.specs.HashMap.{HashMap}
+use Rattle.std.proofs.lemmas.List.{map_push}
 use Rattle.std.proofs.lemmas.Map.Made.{is_some-lookup}
 use Rattle.indexmap.specs.IndexMap.{get, insert_entry}
 use Rattle.indexmap.proofs.CallerLemmas.{insert_entry-new}
@@ -32,14 +33,10 @@ pub any-is : {H : Type 0} (m : HashMap (Name NAME_MAX) (Text 0 DESCRIPTION_MAX) 
     → is_some (get same_key m k) ≡ list_any (same_described (Description k.bytes.items t)) (set_in m.entries)
 any-is m k t = is_some-lookup (same_key k) m.entries ∙ any-described m.entries k t
 
-set-push : (es : List (Name NAME_MAX × Text 0 DESCRIPTION_MAX)) (k : Name NAME_MAX) (t : Text 0 DESCRIPTION_MAX) → set_in (es ++ (k, t) ∷ []) ≡ set_in es ++ Description k.bytes.items t.bytes.items ∷ []
-set-push [] k t = refl
-set-push (e ∷ es) k t = ap (λ (ss : List Setting). described (row_of e) ∷ ss) (set-push es k t)
-
 -- a new name goes last
 pub set-insert : {H : Type 0} (m : HashMap (Name NAME_MAX) (Text 0 DESCRIPTION_MAX) H) (k : Name NAME_MAX) (t : Text 0 DESCRIPTION_MAX) → is_some (get same_key m k) ≡ false
     → (es : List (Name NAME_MAX × Text 0 DESCRIPTION_MAX)) → es ≡ insert_entry same_key m.entries k t → set_in es ≡ set_in m.entries ++ Description k.bytes.items t.bytes.items ∷ []
-set-insert m k t new es is = ap set_in (is ∙ insert_entry-new same_key m k t (none-from_not_some _ new)) ∙ set-push m.entries k t
+set-insert m k t new es is = ap set_in (is ∙ insert_entry-new same_key m k t (none-from_not_some _ new)) ∙ ap (map described) (map_push row_of m.entries (k, t)) ∙ map_push described (map row_of m.entries) (row_of (k, t))
 
 pub length-set : (es : List (Name NAME_MAX × Text 0 DESCRIPTION_MAX)) → length (set_in es) ≡ length es
 length-set es = length-map described (map row_of es) ∙ length-map row_of es

@@ -39,15 +39,7 @@ module _ (fault : LineFault) where
   pub read_lines-fault : (before : List Words) (n : ℕ) (k : FaultKind) (line : List ℕ) (lines : List (List ℕ)) → Fails k (with_line fault before line)
       → IsFaultOf n k (read_lines fault before n (line ∷ lines))
   read_lines-fault before n kinds.Memory line lines h = tt
-  read_lines-fault before n kinds.Unreadable line lines h = fault_at before n _ line lines h
-  read_lines-fault before n kinds.OutsideSection line lines h = fault_at before n _ line lines h
-  read_lines-fault before n kinds.UnknownDirective line lines h = fault_at before n _ line lines h
-  read_lines-fault before n kinds.BadForm line lines h = fault_at before n _ line lines h
-  read_lines-fault before n kinds.Repeated line lines h = fault_at before n _ line lines h
-  read_lines-fault before n kinds.BadNumber line lines h = fault_at before n _ line lines h
-  read_lines-fault before n kinds.BadName line lines h = fault_at before n _ line lines h
-  read_lines-fault before n kinds.PastLimit line lines h = fault_at before n _ line lines h
-  read_lines-fault before n kinds.UnknownWord line lines h = fault_at before n _ line lines h
+  read_lines-fault before n _ line lines h = fault_at before n _ line lines h
 
   pub read_lines-done : (before : List Words) (n : ℕ) → read_lines fault before n [] ≡ Ok before
   unfolding read_lines

@@ -1,12 +1,11 @@
 -- The flags of words, and of one word more.
-use Rattle.std.proofs.Common.{◌≡◌, ℕ, Bool, true, false, List, [], ◌∷◌, ◌++◌, ◌||◌, ◌&&◌, cond, Ok, Err, refl, ap, ◌∙◌}
+use Rattle.std.proofs.Common.{◌≡◌, ℕ, Bool, true, false, List, [], ◌∷◌, ◌++◌, ◌||◌, refl, ap, ◌∙◌}
 use Rattle.std.specs.List.{list_all, list_any}
 use Rattle.std.specs.Str.{bytes_eq}
 use Rattle.std.specs.Prelude.{codes}
 use Rattle.std.proofs.lemmas.List.Folds.{list_all-append, list_any-append}
 use Rattle.nut_conf.specs.Values.{Words}
-use Rattle.nut_conf.specs.Notices.{flags, flags_in, with_flag, is_flag, plus_parts}
-use Rattle.nut_conf.specs.declared.fault.FaultKind.TheVariants.{UnknownWord}
+use Rattle.nut_conf.specs.Notices.{flags_in, with_flag, is_flag}
 
 or_false : (b : Bool) → (b || false) ≡ b
 or_false true = refl
@@ -23,21 +22,3 @@ flags_in-more ws w =
 -- known words and one more that is known
 pub known_more : (ws : Words) (w : List ℕ) → list_all is_flag ws ≡ true → is_flag w ≡ true → list_all is_flag (ws ++ w ∷ []) ≡ true
 known_more ws w h g = list_all-append is_flag ws (w ∷ []) ∙ rw (h, g) refl
-
--- words among which one is unknown
-pub unknown_at : (ws : Words) (w : List ℕ) (rest : Words) → is_flag w ≡ false → list_all is_flag (ws ++ w ∷ rest) ≡ false
-unknown_at ws w rest h = list_all-append is_flag ws (w ∷ rest) ∙ rw h (and_false (list_all is_flag ws)) where
-  and_false : (b : Bool) → (b && false) ≡ false
-  and_false true = refl
-  and_false false = refl
-
--- flags all of whose parts are known
-pub flags-known : (bytes : List ℕ) (done : Words) → plus_parts bytes ≡ done → list_all is_flag done ≡ true → flags bytes ≡ Ok (flags_in done)
-flags-known bytes done parts known =
-    ap (λ ws. cond (list_all is_flag ws) (Ok (flags_in ws)) (Err UnknownWord)) parts ∙ ap (λ b. cond b (Ok (flags_in done)) (Err UnknownWord)) known
-
--- flags with an unknown part
-pub flags-unknown : (bytes : List ℕ) (done : Words) (w : List ℕ) (rest : Words) → plus_parts bytes ≡ done ++ w ∷ rest → is_flag w ≡ false → flags bytes ≡ Err UnknownWord
-flags-unknown bytes done w rest parts unknown =
-    ap (λ ws. cond (list_all is_flag ws) (Ok (flags_in ws)) (Err UnknownWord)) parts
-    ∙ ap (λ b. cond b (Ok (flags_in (done ++ w ∷ rest))) (Err UnknownWord)) (unknown_at done w rest unknown)

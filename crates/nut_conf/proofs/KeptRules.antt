@@ -25,6 +25,10 @@ apart-push clashes (x ∷ xs) s all new = (
   apart-push clashes xs s all.1 (right_false (clashes s x) (list_any (clashes s) xs) new),
 )
 
+few-none : (most : Option ℕ) → AreFew most []
+few-none None = tt
+few-none (Some n) = omega arith
+
 few-push : (most : Option ℕ) (xs : List Setting) (s : Setting) → is_full most (length xs) ≡ false → AreFew most (xs ++ s ∷ [])
 few-push None xs s room = tt
 few-push (Some n) xs s room = let below : length xs < n = grind (arith, nat_tests) in omega (arith, length-append xs (s ∷ []))
@@ -67,17 +71,11 @@ module _ (directives : List Directive) (d : Directive) (found : directive_of d.w
         by_setting (setting d.rule ws) refl here (sym mine ∙ ok)
 
   pub keeps_rule : (file : List ℕ) (lines : List Words) → read_file (line_fault directives) file ≡ Ok lines → KeepRule d.rule (settings d lines)
-  keeps_rule file lines is = keeps_file (line_fault directives) (λ before. KeepRule d.rule (settings d before)) keep-line file lines (record { apart = tt; few = none d.rule.most }) is where
-    none : (most : Option ℕ) → AreFew most []
-    none None = tt
-    none (Some n) = omega arith
+  keeps_rule file lines is = keeps_file (line_fault directives) (λ before. KeepRule d.rule (settings d before)) keep-line file lines (record { apart = tt; few = few-none d.rule.most }) is
 
   -- The settings of each section keep the rule when one line is added.
   opened : (ss : List Section) (n : List ℕ) → EachKeepsRule d ss → EachKeepsRule d (ss ++ (n, []) ∷ [])
-  opened [] n all = (record { apart = tt; few = none d.rule.most }, tt) where
-    none : (most : Option ℕ) → AreFew most []
-    none None = tt
-    none (Some n) = omega arith
+  opened [] n all = (record { apart = tt; few = few-none d.rule.most }, tt)
   opened (s ∷ ss) n all = (all.0, opened ss n all.1)
 
   inside : (ss : List Section) (ws : Words) → option_map_or (λ (s : Section). line_fault directives s.1 ws) (last ss) (Some OutsideSection) ≡ None → EachKeepsRule d ss → EachKeepsRule d (with_line_in ss ws)

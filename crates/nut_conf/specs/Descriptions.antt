@@ -1,11 +1,12 @@
 -- The file cmdvartab: texts for people, by the names of variables and commands.
-use Rattle.std.specs.Prelude.{◌≡◌, ℕ, ◌==◌, Bool, true, false, List, [], ◌∷◌, length, map, codes, if◌then◌else◌, Some, Result, Ok, Err}
+use Rattle.std.specs.Prelude.{ℕ, ◌==◌, Bool, false, List, [], ◌∷◌, length, map, codes, if◌then◌else◌, Some, Result, Ok, Err}
 use Rattle.std.specs.Str.{bytes_eq}
 use Rattle.nut_words.specs.declared.limits.TheConstants.{NAME_MAX}
 use Rattle.nut_conf.specs.declared.limits.TheConstants.{DESCRIPTION_MAX, DESCRIPTIONS_MAX}
 use Rattle.nut_conf.specs.Faults.{◌>>=◌}
 use Rattle.nut_conf.specs.Values.{Words, nth, name, text}
-use Rattle.nut_conf.specs.Settings.{Setting, Description, Rule, Directive, settings, line_fault, distinct}
+use Rattle.nut_conf.specs.Settings.{Setting, Description, Rule, line_fault, distinct}
+use Rattle.nut_conf.specs.Rows.{Row, list_row, directives_of, line_grows, RowsHold}
 use Rattle.nut_conf.specs.Files.{LineFault}
 use Rattle.nut_conf.specs.declared.fault.FaultKind.{FaultKind}
 use Rattle.nut_conf.specs.declared.fault.FaultKind.TheVariants.{BadForm}
@@ -32,15 +33,6 @@ same_described _ _ = false
 abbrev pub description_rule : Rule
 description_rule = distinct same_described (Some DESCRIPTIONS_MAX) Plain description_value
 
--- the table of directives
-abbrev pub description_directive : DescriptionDirective → Directive
-description_directive Variable = record { word = codes "VARDESC"; rule = description_rule }
-description_directive Command = record { word = codes "CMDDESC"; rule = description_rule }
-
--- the rows of the table
-abbrev pub description_directives : List Directive
-description_directives = map description_directive (Variable ∷ Command ∷ [])
-
 -- a name and its text, without where they lie in memory
 abbrev pub row_of : Name NAME_MAX × Text 0 DESCRIPTION_MAX → List ℕ × List ℕ
 row_of e = (e.0.bytes.items, e.1.bytes.items)
@@ -53,19 +45,23 @@ rows_of t = map row_of t.by_name.entries
 abbrev pub described : List ℕ × List ℕ → Setting
 described row = Description row.0 row.1
 
--- what there is for each directive
-abbrev pub description_settings : Descriptions → DescriptionDirective → List Setting
-description_settings c Variable = map described (rows_of c.variables)
-description_settings c Command = map described (rows_of c.commands)
+-- the directives of the file
+abbrev pub description_row : DescriptionDirective → Row Descriptions
+description_row Variable = list_row (codes "VARDESC") description_rule described (λ (c : Descriptions). rows_of c.variables)
+description_row Command = list_row (codes "CMDDESC") description_rule described (λ (c : Descriptions). rows_of c.commands)
 
--- each line makes a table longer, and that takes memory
+-- the rows of the table
+abbrev pub description_rows : List DescriptionDirective
+description_rows = Variable ∷ Command ∷ []
+
+-- whether a line adds to a list, and so allocates memory for what it sets
 abbrev pub descriptions_grow : Words → Bool
-descriptions_grow ws = true
+descriptions_grow = line_grows description_row description_rows
 
 -- the first fault of a line of cmdvartab
 abbrev pub descriptions_fault : LineFault
-descriptions_fault = line_fault description_directives
+descriptions_fault = line_fault (directives_of description_row description_rows)
 
 -- the descriptions are those that the lines of the file set
 abbrev pub DescriptionsHold : Descriptions → List Words → Type 0
-DescriptionsHold c lines = (d : DescriptionDirective) → description_settings c d ≡ settings (description_directive d) lines
+DescriptionsHold = RowsHold description_row

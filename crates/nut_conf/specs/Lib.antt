@@ -1,7 +1,9 @@
+pub mod Bytes
 pub mod Faults
 pub mod Values
 pub mod Hosts
 pub mod Settings
+pub mod Rows
 pub mod Files
 pub mod Memory
 pub mod Sections

@@ -2,6 +2,7 @@
 use Rattle.std.specs.Prelude.{ℕ, Bool, true, false, ◌||◌, ◌==◌, List, [], ◌∷◌, map, codes, length, if◌then◌else◌, Result, Ok, Err}
 use Rattle.std.specs.List.{list_all, list_any, slice_split}
 use Rattle.std.specs.Str.{bytes_eq}
+use Rattle.nut_conf.specs.Bytes.{plus}
 use Rattle.nut_conf.specs.Faults.{◌>>=◌}
 use Rattle.nut_conf.specs.Values.{Words, nth, text, one_of}
 use Rattle.nut_conf.specs.Settings.{Setting, Message, Flags}
@@ -14,37 +15,39 @@ use Rattle.nut_conf.specs.declared.notice.NoticeFlags.{NoticeFlags}
 use Rattle.nut_conf.specs.declared.notice.NoticeHandling.{NoticeHandling}
 use Rattle.nut_conf.specs.declared.limits.TheConstants.{MESSAGE_MAX}
 
+-- a row of the table of notices: the word of the type, and the text used if none is set, in which the first `%s` stands for
+-- the UPS
+pub record NoticeRow : Type 0 where
+  pub word : List ℕ
+  pub text : List ℕ
+
+abbrev pub notice_row : Notice → NoticeRow
+notice_row notices.Online = record { word = codes "ONLINE"; text = codes "UPS %s on line power" }
+notice_row notices.Onbatt = record { word = codes "ONBATT"; text = codes "UPS %s on battery" }
+notice_row notices.Lowbatt = record { word = codes "LOWBATT"; text = codes "UPS %s battery is low" }
+notice_row notices.Fsd = record { word = codes "FSD"; text = codes "UPS %s: forced shutdown in progress" }
+notice_row notices.Commok = record { word = codes "COMMOK"; text = codes "Communications with UPS %s established" }
+notice_row notices.Commbad = record { word = codes "COMMBAD"; text = codes "Communications with UPS %s lost" }
+notice_row notices.Shutdown = record { word = codes "SHUTDOWN"; text = codes "Auto logout and shutdown proceeding" }
+notice_row notices.Replbatt = record { word = codes "REPLBATT"; text = codes "UPS %s battery needs to be replaced" }
+notice_row notices.Nocomm = record { word = codes "NOCOMM"; text = codes "UPS %s is unavailable" }
+
 -- the word of a type of notice
 abbrev pub notice_word : Notice → List ℕ
-notice_word notices.Online = codes "ONLINE"
-notice_word notices.Onbatt = codes "ONBATT"
-notice_word notices.Lowbatt = codes "LOWBATT"
-notice_word notices.Fsd = codes "FSD"
-notice_word notices.Commok = codes "COMMOK"
-notice_word notices.Commbad = codes "COMMBAD"
-notice_word notices.Shutdown = codes "SHUTDOWN"
-notice_word notices.Replbatt = codes "REPLBATT"
-notice_word notices.Nocomm = codes "NOCOMM"
+notice_word n = (notice_row n).word
 
 -- all types
 abbrev pub all_notices : List Notice
-all_notices = notices.Online ∷ notices.Onbatt ∷ notices.Lowbatt ∷ notices.Fsd ∷ notices.Commok ∷ notices.Commbad ∷ notices.Shutdown ∷ notices.Replbatt ∷ notices.Nocomm ∷ []
+all_notices =
+    notices.Online ∷ notices.Onbatt ∷ notices.Lowbatt ∷ notices.Fsd ∷ notices.Commok ∷ notices.Commbad ∷ notices.Shutdown ∷ notices.Replbatt ∷ notices.Nocomm ∷ []
 
 -- the words of all types
 abbrev pub notice_words : Words
 notice_words = map notice_word all_notices
 
--- the text of a type of notice used if none is set; the first `%s` stands for the UPS
+-- the text of a type of notice used if none is set
 abbrev pub default_text : Notice → List ℕ
-default_text notices.Online = codes "UPS %s on line power"
-default_text notices.Onbatt = codes "UPS %s on battery"
-default_text notices.Lowbatt = codes "UPS %s battery is low"
-default_text notices.Fsd = codes "UPS %s: forced shutdown in progress"
-default_text notices.Commok = codes "Communications with UPS %s established"
-default_text notices.Commbad = codes "Communications with UPS %s lost"
-default_text notices.Shutdown = codes "Auto logout and shutdown proceeding"
-default_text notices.Replbatt = codes "UPS %s battery needs to be replaced"
-default_text notices.Nocomm = codes "UPS %s is unavailable"
+default_text n = (notice_row n).text
 
 -- what a NOTIFYMSG line sets: a type of notice and its text
 abbrev pub message_value : Words → Result Setting FaultKind
@@ -62,7 +65,7 @@ flag_words = codes "SYSLOG" ∷ codes "WALL" ∷ codes "EXEC" ∷ codes "IGNORE"
 
 -- the bytes between the plus signs
 abbrev pub plus_parts : List ℕ → Words
-plus_parts bytes = slice_split (λ c. c == 43) bytes
+plus_parts bytes = slice_split (λ c. c == plus) bytes
 
 -- the flags that are named in these words
 abbrev pub flags_in : Words → NoticeFlags

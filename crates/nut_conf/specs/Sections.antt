@@ -5,6 +5,7 @@ use Rattle.std.specs.Option.{option_map_or}
 use Rattle.std.specs.Result.{result_err}
 use Rattle.std.specs.Str.{bytes_eq}
 use Rattle.nut_words.specs.declared.limits.TheConstants.{UPS_NAME_MAX}
+use Rattle.nut_conf.specs.Bytes.{closing_bracket, opening_bracket}
 use Rattle.nut_conf.specs.Faults.{◌>>=◌}
 use Rattle.nut_conf.specs.Values.{Words, nth, name}
 use Rattle.nut_conf.specs.declared.text.Name.{Name}
@@ -14,7 +15,7 @@ use Rattle.nut_conf.specs.declared.fault.FaultKind.TheVariants.{OutsideSection, 
 -- the bytes between `[` and `]`, if the word begins and ends with these
 abbrev pub bracketed : List ℕ → Option (List ℕ)
 bracketed w =
-    if nat_le 2 (length w) && (slice_index w 0 == 91) && (slice_index w (length w - 1) == 93)
+    if nat_le 2 (length w) && (slice_index w 0 == opening_bracket) && (slice_index w (length w - 1) == closing_bracket)
     then Some (slice_range w 1 (length w - 1)) else None
 
 -- the name in a section line, which is one word in brackets

@@ -2,6 +2,7 @@
 use Rattle.std.specs.Prelude.{ℕ, ◌+◌, ◌==◌, List, take, drop, position, codes, if◌then◌else◌, Option, Result, Ok, Err}
 use Rattle.std.specs.Option.{option_map, option_map_or}
 use Rattle.nut_words.specs.declared.limits.TheConstants.{UPS_NAME_MAX}
+use Rattle.nut_conf.specs.Bytes.{at_sign, colon}
 use Rattle.nut_conf.specs.Faults.{◌>>=◌}
 use Rattle.nut_conf.specs.Values.{name, number}
 use Rattle.nut_conf.specs.Hosts.{is_host}
@@ -26,13 +27,13 @@ host bytes = if is_host bytes then Ok bytes else Err BadHost
 abbrev pub located : List ℕ → Result (List ℕ × ℕ) NameFault
 located bytes =
     option_map_or (λ p. host p.0 >>= (λ h. or_fault BadPort (number 1 65535 p.1) >>= (λ n. Ok (h, n))))
-    (parted 58 bytes) (host bytes >>= (λ h. Ok (h, 3493)))
+    (parted colon bytes) (host bytes >>= (λ h. Ok (h, 3493)))
 
 -- the UPS, the host and the port of `ups[@host[:port]]`; without a host it is localhost, with port 3493
 abbrev pub target : List ℕ → Result (List ℕ × List ℕ × ℕ) NameFault
 target bytes =
     option_map_or (λ p. or_fault BadUps (name UPS_NAME_MAX p.0) >>= (λ u. located p.1 >>= (λ l. Ok (u, l.0, l.1))))
-    (parted 64 bytes) (or_fault BadUps (name UPS_NAME_MAX bytes) >>= (λ u. Ok (u, codes "localhost", 3493)))
+    (parted at_sign bytes) (or_fault BadUps (name UPS_NAME_MAX bytes) >>= (λ u. Ok (u, codes "localhost", 3493)))
 
 -- the UPS, the host and the port that a target names
 abbrev pub target_view : Target → List ℕ × List ℕ × ℕ

@@ -1,13 +1,14 @@
 -- The file ups.conf: the UPSes of a server.
-use Rattle.std.specs.Prelude.{◌≡◌, ℕ, Bool, false, not, List, [], ◌∷◌, ◌++◌, length, map, codes, position, slice_get, nat_le, Option, Result, Ok, Err, if◌then◌else◌}
+use Rattle.std.specs.Prelude.{ℕ, Bool, not, List, [], ◌∷◌, ◌++◌, length, map, codes, position, slice_get, nat_le, Option, Result, Ok, Err, if◌then◌else◌}
 use Rattle.std.specs.List.{list_all, list_any}
-use Rattle.std.specs.Option.{option_map, option_map_or, option_to_list}
+use Rattle.std.specs.Option.{option_map_or}
 use Rattle.std.specs.Str.{bytes_eq}
 use Rattle.indexmap.specs.IndexMap.{keys, values}
 use Rattle.nut_words.specs.Spelling.{is_printing}
 use Rattle.nut_words.specs.declared.limits.TheConstants.{UPS_NAME_MAX}
 use Rattle.nut_conf.specs.Faults.{◌>>=◌}
-use Rattle.nut_conf.specs.Settings.{Setting, Text, Directive, settings, line_fault, once, name_value, text_value}
+use Rattle.nut_conf.specs.Settings.{line_fault}
+use Rattle.nut_conf.specs.Rows.{Row, name_row, text_row, directives_of, line_grows, RowsHold}
 use Rattle.nut_conf.specs.declared.values.Form.TheVariants.{Assigned}
 use Rattle.nut_conf.specs.Values.{Words, name, text}
 use Rattle.nut_conf.specs.Files.{LineFault}
@@ -19,43 +20,29 @@ use Rattle.nut_conf.specs.declared.ups.UpsConf.{UpsConf}
 use Rattle.nut_conf.specs.declared.ups.Ups.{Ups}
 use Rattle.nut_conf.specs.declared.ups.UpsDirective.{UpsDirective}
 use Rattle.nut_conf.specs.declared.ups.UpsDirective.TheVariants.{Driver, Port, Desc}
-use Rattle.nut_conf.specs.declared.limits.TheConstants.{DESCRIPTION_MAX, DEVICE_MAX, DRIVER_NAME_MAX, UPSES_MAX}
+use Rattle.nut_conf.specs.declared.limits.TheConstants.{DESCRIPTION_MAX, UPSES_MAX}
 
 -- the directives of a section
-abbrev pub ups_directive : UpsDirective → Directive
-ups_directive Driver = record { word = codes "driver"; rule = once Assigned (name_value DRIVER_NAME_MAX) }
-ups_directive Port = record { word = codes "port"; rule = once Assigned (text_value 0 DEVICE_MAX) }
-ups_directive Desc = record { word = codes "desc"; rule = once Assigned (text_value 0 DESCRIPTION_MAX) }
+abbrev pub ups_row : UpsDirective → Row Ups
+ups_row Driver = name_row (codes "driver") Assigned (λ (u : Ups). u.driver)
+ups_row Port = text_row (codes "port") Assigned (λ (u : Ups). u.port)
+ups_row Desc = text_row (codes "desc") Assigned (λ (u : Ups). u.desc)
 
--- all directives of a section
-abbrev pub ups_directives : List Directive
-ups_directives = map ups_directive (Driver ∷ Port ∷ Desc ∷ [])
-
--- what the section has set for each directive
-abbrev pub ups_settings : Ups → UpsDirective → List Setting
-ups_settings u Driver = option_to_list (option_map (λ n. Text n.bytes.items) u.driver)
-ups_settings u Port = option_to_list (option_map (λ t. Text t.bytes.items) u.port)
-ups_settings u Desc = option_to_list (option_map (λ t. Text t.bytes.items) u.desc)
-
--- whether a line within a section adds to a list: none does
-abbrev pub ups_grows : Words → Bool
-ups_grows ws = false
+-- the rows of the table
+abbrev pub ups_rows : List UpsDirective
+ups_rows = Driver ∷ Port ∷ Desc ∷ []
 
 -- whether a line allocates memory for what it sets: only a section line does
 abbrev pub ups_conf_grows : Words → Bool
-ups_conf_grows = sectioned_grows ups_grows
+ups_conf_grows = sectioned_grows (line_grows ups_row ups_rows)
 
 -- the first fault of a line of ups.conf, which has at most UPSES_MAX sections
 abbrev pub ups_fault : LineFault
-ups_fault = sectioned_fault (line_fault ups_directives) UPSES_MAX
-
--- A UPS holds what the lines of its section set, for each directive.
-abbrev pub UpsHolds : Ups → List Words → Type 0
-UpsHolds u lines = (d : UpsDirective) → ups_settings u d ≡ settings (ups_directive d) lines
+ups_fault = sectioned_fault (line_fault (directives_of ups_row ups_rows)) UPSES_MAX
 
 -- The configuration holds the sections of the file, in order.
 abbrev pub UpsConfHolds : UpsConf → List Words → Type 0
-UpsConfHolds c lines = AllHold UpsHolds c.ups.by_name.entries (sections lines)
+UpsConfHolds c lines = AllHold (RowsHold ups_row) c.ups.by_name.entries (sections lines)
 
 -- the driver's program of a UPS: `dummy-ups` if none is set
 abbrev pub driver_of : Ups → List ℕ

@@ -1,14 +1,15 @@
 -- The file upsd.users: which users there are, and what they may do.
-use Rattle.std.specs.Prelude.{◌≡◌, ◌||◌, ℕ, Bool, true, false, List, [], ◌∷◌, map, codes, Option, None, Some, Result, Ok, if◌then◌else◌}
+use Rattle.std.specs.Prelude.{ℕ, Bool, true, false, List, [], ◌∷◌, map, codes, Option, None, Some, Result, Ok, if◌then◌else◌}
 use Rattle.std.specs.List.{list_any}
-use Rattle.std.specs.Option.{option_map, option_map_or, option_to_list}
+use Rattle.std.specs.Option.{option_map_or}
 use Rattle.std.specs.Str.{bytes_eq}
 use Rattle.std.specs.Char.{to_ascii_lowercase}
 use Rattle.nut_words.specs.declared.limits.TheConstants.{NAME_MAX}
 use Rattle.indexmap.specs.IndexMap.{get_by}
 use Rattle.nut_conf.specs.Faults.{◌>>=◌}
-use Rattle.nut_conf.specs.Values.{Words, nth, one, name}
-use Rattle.nut_conf.specs.Settings.{Setting, Text, AllCommands, Directive, settings, line_fault, once, listed, text_value, word_value}
+use Rattle.nut_conf.specs.Values.{Words, one, name}
+use Rattle.nut_conf.specs.Settings.{Setting, Text, AllCommands, line_fault, listed, word_value}
+use Rattle.nut_conf.specs.Rows.{Row, once_row, text_row, list_row, directives_of, line_grows, RowsHold}
 use Rattle.nut_conf.specs.Files.{LineFault}
 use Rattle.nut_conf.specs.Sections.{AllHold, sections, sectioned_fault, sectioned_grows, is_named}
 use Rattle.nut_conf.specs.declared.fault.FaultKind.{FaultKind}
@@ -23,7 +24,7 @@ use Rattle.nut_conf.specs.declared.users.Role.{Role}
 use Rattle.nut_conf.specs.declared.users.Role.TheVariants as roles
 use Rattle.nut_conf.specs.declared.users.UserDirective.{UserDirective}
 use Rattle.nut_conf.specs.declared.users.UserDirective.TheVariants.{Password, Actions, Instcmds, Upsmon}
-use Rattle.nut_conf.specs.declared.limits.TheConstants.{INSTCMDS_MAX, PASSWORD_MAX, USERS_MAX}
+use Rattle.nut_conf.specs.declared.limits.TheConstants.{INSTCMDS_MAX, USERS_MAX}
 
 -- the word of a role
 abbrev pub role_word : Role → List ℕ
@@ -58,45 +59,32 @@ commands_setting (commands.Named n) = Text n.bytes.items
 
 -- what an `instcmds` line sets: its only value, `all` in upper or lower case, or the name of a command
 abbrev pub commands_value : Words → Result Setting FaultKind
-commands_value vs = one vs >>= (λ w. if bytes_eq (map to_ascii_lowercase w) (codes "all") then Ok AllCommands else name NAME_MAX w >>= (λ n. Ok (Text n)))
+commands_value vs =
+    one vs >>= (λ w. if bytes_eq (map to_ascii_lowercase w) (codes "all") then Ok AllCommands else name NAME_MAX w >>= (λ n. Ok (Text n)))
 
 -- the directives of a section
-abbrev pub user_directive : UserDirective → Directive
-user_directive Password = record { word = codes "password"; rule = once Assigned (text_value 1 PASSWORD_MAX) }
-user_directive Actions = record { word = codes "actions"; rule = listed None Assigned action_value }
-user_directive Instcmds = record { word = codes "instcmds"; rule = listed (Some INSTCMDS_MAX) Assigned commands_value }
-user_directive Upsmon = record { word = codes "upsmon"; rule = once Plain role_value }
+abbrev pub user_row : UserDirective → Row User
+user_row Password = text_row (codes "password") Assigned (λ (u : User). u.password)
+user_row Actions = list_row (codes "actions") (listed None Assigned action_value) action_setting (λ (u : User). u.actions.items)
+user_row Instcmds =
+    list_row (codes "instcmds") (listed (Some INSTCMDS_MAX) Assigned commands_value) commands_setting (λ (u : User). u.instcmds.items)
+user_row Upsmon = once_row (codes "upsmon") Plain role_value role_setting (λ (u : User). u.upsmon)
 
--- all directives of a section
-abbrev pub user_directives : List Directive
-user_directives = map user_directive (Password ∷ Actions ∷ Instcmds ∷ Upsmon ∷ [])
-
--- what the user has set for each directive
-abbrev pub user_settings : User → UserDirective → List Setting
-user_settings u Password = option_to_list (option_map (λ t. Text t.bytes.items) u.password)
-user_settings u Actions = map action_setting u.actions.items
-user_settings u Instcmds = map commands_setting u.instcmds.items
-user_settings u Upsmon = option_to_list (option_map role_setting u.upsmon)
-
--- whether a line within a section adds to a list: only `actions` and `instcmds` lines do
-abbrev pub user_grows : Words → Bool
-user_grows ws = bytes_eq (nth ws 0) (codes "actions") || bytes_eq (nth ws 0) (codes "instcmds")
+-- the rows of the table
+abbrev pub user_rows : List UserDirective
+user_rows = Password ∷ Actions ∷ Instcmds ∷ Upsmon ∷ []
 
 -- whether a line allocates memory for what it sets: only these lines and section lines do
 abbrev pub users_conf_grows : Words → Bool
-users_conf_grows = sectioned_grows user_grows
+users_conf_grows = sectioned_grows (line_grows user_row user_rows)
 
 -- the first fault of a line of upsd.users, which has at most USERS_MAX sections
 abbrev pub users_fault : LineFault
-users_fault = sectioned_fault (line_fault user_directives) USERS_MAX
-
--- A user holds what the lines of the section set, for each directive.
-abbrev pub UserHolds : User → List Words → Type 0
-UserHolds u lines = (d : UserDirective) → user_settings u d ≡ settings (user_directive d) lines
+users_fault = sectioned_fault (line_fault (directives_of user_row user_rows)) USERS_MAX
 
 -- The configuration holds the sections of the file, in order.
 abbrev pub UsersConfHolds : UsersConf → List Words → Type 0
-UsersConfHolds c lines = AllHold UserHolds c.users.by_name.entries (sections lines)
+UsersConfHolds c lines = AllHold (RowsHold user_row) c.users.by_name.entries (sections lines)
 
 -- the user with this name
 abbrev pub user_named : List ℕ → UsersConf → Option User

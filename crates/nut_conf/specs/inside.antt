@@ -1,5 +1,6 @@
+pub mod Apart
 pub mod Drafts
+pub mod Found
 pub mod Slots
-pub mod Spares
 pub mod Tables
 pub mod Upses

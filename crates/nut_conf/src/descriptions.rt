@@ -1,10 +1,10 @@
 //! The file cmdvartab.
-ghost use Rattle.std.specs.Prelude.{◌≡◌, [], None, IfErr, MatchOption};
+ghost use Rattle.std.specs.Prelude.{◌≡◌, [], IfErr};
 ghost use Rattle.nut_conf.specs.Files.{Means, read_file};
 ghost use Rattle.nut_conf.specs.Memory.{MayRunOut};
 ghost use Rattle.nut_conf.specs.Descriptions.{DescriptionsHold, descriptions_fault, descriptions_grow, rows_of};
 
-use crate::draft::Draft;
+use crate::directives::Directives;
 use crate::fault::{ConfFault, FaultKind};
 use crate::file::read_draft;
 use crate::line::Line;
@@ -50,41 +50,36 @@ pub enum DescriptionDirective {
     Command,
 }
 
-impl DescriptionDirective {
-    ghost use Rattle.nut_conf.specs.Settings.{directive_of};
-    ghost use Rattle.nut_conf.specs.Descriptions.{description_directive, description_directives};
+/// Each directive, with its word.
+const DIRECTIVES: [(&[u8], DescriptionDirective); 2] = [
+    (b"VARDESC", DescriptionDirective::Variable),
+    (b"CMDDESC", DescriptionDirective::Command),
+];
 
-    fn of(word: &[u8]) -> Option<Self>
-        ensures { MatchOption result (directive_of word.now description_directives ≡ None) (λ d. word.now ≡ (description_directive d).word) }
-    {
-        if word == b"VARDESC".as_slice() {
-            Some(DescriptionDirective::Variable)
-        } else if word == b"CMDDESC".as_slice() {
-            Some(DescriptionDirective::Command)
-        } else {
-            None
-        }
+impl Directives for Descriptions {
+    ghost use Rattle.nut_conf.specs.Descriptions.{description_row, description_rows};
+    ghost use Rattle.nut_conf.specs.inside.Found.{description_found};
+
+    type Directive = DescriptionDirective;
+
+    ghost all = { description_rows };
+
+    ghost table = { description_row };
+
+    ghost found = { description_found };
+
+    fn rows() -> &'static [(&'static [u8], DescriptionDirective)] {
+        &DIRECTIVES
     }
-}
 
-impl Draft for Descriptions {
-    ghost use Rattle.nut_conf.specs.Descriptions.{DescriptionsHold, descriptions_fault, descriptions_grow};
-
-    ghost fault = { descriptions_fault };
-
-    ghost grows = { descriptions_grow };
-
-    ghost Holds = { DescriptionsHold };
-
-    fn new(alloc: Global) -> Self {
+    fn unset(alloc: Global) -> Self {
         Descriptions::new(alloc)
     }
 
-    fn put(&mut self, line: &Line<'_>) -> Result<(), FaultKind> {
-        match DescriptionDirective::of(line.directive()) {
-            Some(DescriptionDirective::Variable) => self.variables.put(line),
-            Some(DescriptionDirective::Command) => self.commands.put(line),
-            None => Err(FaultKind::UnknownDirective),
+    fn set(&mut self, directive: DescriptionDirective, line: &Line<'_>) -> Result<(), FaultKind> {
+        match directive {
+            DescriptionDirective::Variable => self.variables.put(line),
+            DescriptionDirective::Command => self.commands.put(line),
         }
     }
 }
@@ -100,7 +95,8 @@ impl Draft for Descriptions {
 /// fault.
 pub fn read_descriptions(alloc: Global, bytes: &[u8]) -> Result<Descriptions, ConfFault>
     ensures means { Means (read_file descriptions_fault bytes.now) DescriptionsHold result }
-    ensures memory { IfErr result (λ fault. fault.kind ≡ FaultKind.Memory → MayRunOut descriptions_fault descriptions_grow bytes.now fault.line) }
+    ensures memory { IfErr result (λ fault. fault.kind ≡ FaultKind.Memory
+        → MayRunOut descriptions_fault descriptions_grow bytes.now fault.line) }
 {
     read_draft(alloc, bytes)
 }

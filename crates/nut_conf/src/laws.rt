@@ -6,11 +6,11 @@ ghost use Rattle.nut_conf.specs.Files.{LineFault, read_file, read_lines};
 ghost use Rattle.nut_conf.specs.laws.Laws.{BlankChangesNothing, EachKeepsRule, HasDistinctNames, KeepRule};
 ghost use Rattle.nut_conf.specs.Sections.{sections};
 ghost use Rattle.nut_conf.specs.Settings.{settings};
-ghost use Rattle.nut_conf.specs.Descriptions.{description_directive, descriptions_fault};
-ghost use Rattle.nut_conf.specs.Ups.{ups_directive, ups_fault};
-ghost use Rattle.nut_conf.specs.Upsd.{upsd_directive, upsd_fault};
-ghost use Rattle.nut_conf.specs.Upsmon.{upsmon_directive, upsmon_fault};
-ghost use Rattle.nut_conf.specs.Users.{user_directive, users_fault};
+ghost use Rattle.nut_conf.specs.Descriptions.{description_row, descriptions_fault};
+ghost use Rattle.nut_conf.specs.Ups.{ups_row, ups_fault};
+ghost use Rattle.nut_conf.specs.Upsd.{upsd_row, upsd_fault};
+ghost use Rattle.nut_conf.specs.Upsmon.{upsmon_row, upsmon_fault};
+ghost use Rattle.nut_conf.specs.Users.{user_row, users_fault};
 ghost use Rattle.nut_conf.specs.declared.descriptions.DescriptionDirective.{DescriptionDirective};
 ghost use Rattle.nut_conf.specs.declared.ups.UpsDirective.{UpsDirective};
 ghost use Rattle.nut_conf.specs.declared.upsd.UpsdDirective.{UpsdDirective};
@@ -42,13 +42,13 @@ pub fn names_are_distinct()
 /// `limits` says, no target twice, no type of notice with two texts or two lines of flags, and no name with two descriptions.
 pub fn rules_are_kept()
     ensures ups { (file : List ℕ) (lines : List Words) → read_file ups_fault file ≡ Ok lines
-        → (d : UpsDirective) → EachKeepsRule (ups_directive d) (sections lines) }
+        → (d : UpsDirective) → EachKeepsRule (ups_row d).directive (sections lines) }
     ensures users { (file : List ℕ) (lines : List Words) → read_file users_fault file ≡ Ok lines
-        → (d : UserDirective) → EachKeepsRule (user_directive d) (sections lines) }
+        → (d : UserDirective) → EachKeepsRule (user_row d).directive (sections lines) }
     ensures upsd { (file : List ℕ) (lines : List Words) → read_file upsd_fault file ≡ Ok lines
-        → (d : UpsdDirective) → KeepRule (upsd_directive d).rule (settings (upsd_directive d) lines) }
+        → (d : UpsdDirective) → KeepRule (upsd_row d).directive.rule (settings (upsd_row d).directive lines) }
     ensures upsmon { (file : List ℕ) (lines : List Words) → read_file upsmon_fault file ≡ Ok lines
-        → (d : UpsmonDirective) → KeepRule (upsmon_directive d).rule (settings (upsmon_directive d) lines) }
+        → (d : UpsmonDirective) → KeepRule (upsmon_row d).directive.rule (settings (upsmon_row d).directive lines) }
     ensures descriptions { (file : List ℕ) (lines : List Words) → read_file descriptions_fault file ≡ Ok lines
-        → (d : DescriptionDirective) → KeepRule (description_directive d).rule (settings (description_directive d) lines) }
+        → (d : DescriptionDirective) → KeepRule (description_row d).directive.rule (settings (description_row d).directive lines) }
 {}

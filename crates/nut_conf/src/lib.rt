@@ -5,6 +5,7 @@
 #![tactic(auto)]
 
 mod descriptions;
+mod directives;
 mod draft;
 mod fault;
 mod file;
@@ -12,8 +13,8 @@ mod host;
 mod laws;
 mod limits;
 mod line;
+mod lines;
 mod monitor;
-mod monitors;
 mod notice;
 mod sections;
 mod slot;
@@ -36,14 +37,14 @@ pub use limits::{
     FILE_LINE_MAX, FILE_MAX, HOST_MAX, INSTCMDS_MAX, LISTENERS_MAX, MESSAGE_MAX, MONITORS_MAX,
     PASSWORD_MAX, TARGET_MAX, UPSES_MAX, USER_NAME_MAX, USERS_MAX, file_limits,
 };
+pub use lines::Lines;
 pub use monitor::Monitored;
-pub use monitors::Monitors;
 pub use notice::{Notice, NoticeFlags, NoticeHandling, NoticeText};
 pub use sections::Sections;
 pub use target::{NameFault, Target, split_name};
-pub use text::{Name, Number, Port, Text};
+pub use text::{Name, Number, NumberOr, Port, Text};
 pub use texts::Texts;
-pub use ups::{Ups, UpsConf, UpsDirective, read_ups};
-pub use upsd::{Endpoint, UpsdConf, UpsdDirective, read_upsd};
-pub use upsmon::{UpsmonConf, UpsmonDirective, read_upsmon};
-pub use users::{Action, Commands, Role, User, UserDirective, UsersConf, read_users};
+pub use ups::{Ups, UpsConf, UpsDirective, read_ups, ups_limits};
+pub use upsd::{Endpoint, UpsdConf, UpsdDirective, read_upsd, upsd_limits};
+pub use upsmon::{UPSMON_DIRECTIVES, UpsmonConf, UpsmonDirective, read_upsmon, upsmon_limits};
+pub use users::{Action, Commands, Role, User, UserDirective, UsersConf, read_users, user_limits};

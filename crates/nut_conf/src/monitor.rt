@@ -1,7 +1,8 @@
 //! The UPSes that a monitor watches.
 ghost use Rattle.std.specs.Prelude.{◌≡◌, ◌==◌};
 ghost use Rattle.std.specs.List.{list_any};
-ghost use Rattle.nut_conf.specs.Faults.{Reads};
+ghost use Rattle.nut_conf.specs.Bytes.{at_sign};
+ghost use Rattle.nut_conf.specs.Faults.{Reads, Spares};
 ghost use Rattle.nut_conf.specs.Target.{target_view};
 ghost use Rattle.nut_conf.specs.Upsmon.{monitored_target, written_target};
 
@@ -15,7 +16,7 @@ use crate::values::Values;
 use arrayvec::ArrayVec;
 
 /// A UPS that a monitor watches: a MONITOR line.
-#[derive(Drop)]
+#[derive(PartialEq, Eq, Drop)]
 pub struct Monitored {
     /// The target as the file writes it. Notices name the UPS by it.
     pub written: ArrayVec<u8, TARGET_MAX>,
@@ -32,14 +33,15 @@ pub struct Monitored {
 }
 
 fn has_at(bytes: &[u8]) -> bool
-    ensures { result ≡ list_any (λ c. c == 64) bytes.now }
+    ensures { result ≡ list_any (λ c. c == at_sign) bytes.now }
 {
     bytes.iter().any(|b| *b == b'@')
 }
 
 /// Reads a target that names its host. Returns `BadName` for anything else.
 fn read_target(bytes: &[u8]) -> Result<Target, FaultKind>
-    ensures { Reads target_view result (monitored_target bytes.now) }
+    ensures reads { Reads target_view result (monitored_target bytes.now) }
+    ensures spares { Spares result }
 {
     if !has_at(bytes) {
         return Err(FaultKind::BadName);
@@ -52,7 +54,8 @@ fn read_target(bytes: &[u8]) -> Result<Target, FaultKind>
 
 /// Reads a target that names its host. Returns the target as written, and what it names.
 fn read_written(bytes: &[u8]) -> Result<(ArrayVec<u8, TARGET_MAX>, Target), FaultKind>
-    ensures { Reads (λ t. (t.0.items, target_view t.1)) result (written_target bytes.now) }
+    ensures reads { Reads (λ t. (t.0.items, target_view t.1)) result (written_target bytes.now) }
+    ensures spares { Spares result }
 {
     let target = read_target(bytes)?;
     match ArrayVec::try_from(bytes) {
@@ -63,13 +66,10 @@ fn read_written(bytes: &[u8]) -> Result<(ArrayVec<u8, TARGET_MAX>, Target), Faul
 
 impl FromValues for Monitored {
     ghost use Rattle.nut_conf.specs.Upsmon.{monitor_setting, monitor_value};
-    ghost use Rattle.nut_conf.specs.inside.Spares.{monitor_value_spares};
 
     ghost setting = { monitor_setting };
 
     ghost reads = { monitor_value };
-
-    ghost spares = { monitor_value_spares };
 
     fn from_values(values: &Values<'_, '_>) -> Result<Self, FaultKind> {
         if values.len() != 5 {

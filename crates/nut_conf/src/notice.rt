@@ -3,7 +3,7 @@ ghost use Rattle.std.specs.Prelude.{◌≡◌, [], true, false, MatchOption, Mat
 ghost use Rattle.std.specs.List.{find, list_any};
 ghost use Rattle.std.specs.Option.{option_copied};
 ghost use Rattle.std.specs.Str.{bytes_eq};
-ghost use Rattle.nut_conf.specs.Faults.{Reads};
+ghost use Rattle.nut_conf.specs.Faults.{Reads, Spares};
 ghost use Rattle.nut_conf.specs.Values.{one_of};
 ghost use Rattle.nut_conf.specs.Notices.{all_notices, notice_word, notice_words, default_text as usual_text, flags, flags_in, with_flag, is_flag as flag_word, default_flags as usual_flags, is_text_of, is_handling_of};
 
@@ -45,17 +45,18 @@ impl Notice {
     fn of(word: &[u8]) -> Option<Self>
         ensures { MatchOption result (list_any (bytes_eq word.now) notice_words ≡ false) (λ n. word.now ≡ notice_word n) }
     {
-        Notice::row(word)
+        Notice::named(word)
     }
 
-    fn row(word: &[u8]) -> Option<Self>
+    fn named(word: &[u8]) -> Option<Self>
         ensures { result ≡ find (λ n. bytes_eq word.now (notice_word n)) all_notices }
     {
         NOTICES.iter().copied().find(|notice| word == notice.word())
     }
 
     fn read(word: &[u8]) -> Result<Self, FaultKind>
-        ensures { Reads notice_word result (one_of notice_words word.now) }
+        ensures reads { Reads notice_word result (one_of notice_words word.now) }
+        ensures spares { Spares result }
     {
         match Notice::of(word) {
             Some(notice) => Ok(notice),
@@ -63,38 +64,36 @@ impl Notice {
         }
     }
 
+    /// Returns the word and the default text.
+    fn row(self) -> (&'static [u8], &'static [u8])
+        ensures word { result.0.now ≡ notice_word self }
+        ensures text { result.1.now ≡ usual_text self }
+    {
+        match self {
+            Notice::Online => (b"ONLINE", b"UPS %s on line power"),
+            Notice::Onbatt => (b"ONBATT", b"UPS %s on battery"),
+            Notice::Lowbatt => (b"LOWBATT", b"UPS %s battery is low"),
+            Notice::Fsd => (b"FSD", b"UPS %s: forced shutdown in progress"),
+            Notice::Commok => (b"COMMOK", b"Communications with UPS %s established"),
+            Notice::Commbad => (b"COMMBAD", b"Communications with UPS %s lost"),
+            Notice::Shutdown => (b"SHUTDOWN", b"Auto logout and shutdown proceeding"),
+            Notice::Replbatt => (b"REPLBATT", b"UPS %s battery needs to be replaced"),
+            Notice::Nocomm => (b"NOCOMM", b"UPS %s is unavailable"),
+        }
+    }
+
     /// Returns the type as upsmon.conf writes it.
     pub fn word(self) -> &'static [u8]
         ensures { result.now ≡ notice_word self }
     {
-        match self {
-            Notice::Online => b"ONLINE",
-            Notice::Onbatt => b"ONBATT",
-            Notice::Lowbatt => b"LOWBATT",
-            Notice::Fsd => b"FSD",
-            Notice::Commok => b"COMMOK",
-            Notice::Commbad => b"COMMBAD",
-            Notice::Shutdown => b"SHUTDOWN",
-            Notice::Replbatt => b"REPLBATT",
-            Notice::Nocomm => b"NOCOMM",
-        }
+        self.row().0
     }
 
     /// Returns the text used if none is set. The first `%s` stands for the UPS.
     pub fn default_text(self) -> &'static [u8]
         ensures { result.now ≡ usual_text self }
     {
-        match self {
-            Notice::Online => b"UPS %s on line power",
-            Notice::Onbatt => b"UPS %s on battery",
-            Notice::Lowbatt => b"UPS %s battery is low",
-            Notice::Fsd => b"UPS %s: forced shutdown in progress",
-            Notice::Commok => b"Communications with UPS %s established",
-            Notice::Commbad => b"Communications with UPS %s lost",
-            Notice::Shutdown => b"Auto logout and shutdown proceeding",
-            Notice::Replbatt => b"UPS %s battery needs to be replaced",
-            Notice::Nocomm => b"UPS %s is unavailable",
-        }
+        self.row().1
     }
 }
 
@@ -123,13 +122,10 @@ pub fn text_of(texts: &[NoticeText], notice: Notice) -> Option<&NoticeText>
 
 impl FromValues for NoticeText {
     ghost use Rattle.nut_conf.specs.Notices.{message_setting, message_value};
-    ghost use Rattle.nut_conf.specs.inside.Spares.{message_value_spares};
 
     ghost setting = { message_setting };
 
     ghost reads = { message_value };
-
-    ghost spares = { message_value_spares };
 
     fn from_values(values: &Values<'_, '_>) -> Result<Self, FaultKind> {
         if values.len() != 2 {
@@ -218,7 +214,8 @@ impl NoticeFlags {
     ///
     /// `UnknownWord` for anything else.
     pub fn read(bytes: &[u8]) -> Result<Self, FaultKind>
-        ensures { Reads (λ f. f) result (flags bytes.now) }
+        ensures reads { Reads (λ f. f) result (flags bytes.now) }
+        ensures spares { Spares result }
     {
         let mut flags = NoticeFlags::none();
         let mut rest = Some(bytes);
@@ -256,13 +253,10 @@ pub fn handling_of(handlings: &[NoticeHandling], notice: Notice) -> Option<&Noti
 
 impl FromValues for NoticeHandling {
     ghost use Rattle.nut_conf.specs.Notices.{handling_setting, flags_value};
-    ghost use Rattle.nut_conf.specs.inside.Spares.{flags_value_spares};
 
     ghost setting = { handling_setting };
 
     ghost reads = { flags_value };
-
-    ghost spares = { flags_value_spares };
 
     fn from_values(values: &Values<'_, '_>) -> Result<Self, FaultKind> {
         if values.len() != 2 {

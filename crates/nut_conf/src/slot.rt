@@ -22,10 +22,8 @@ pub trait FromValues: Drop + Sized {
 
     /// Reads the values of a line. Returns their first fault, if they have one.
     fn from_values(values: &Values<'_, '_>) -> Result<Self, FaultKind>
-        ensures { Reads setting result (reads values.now) };
-
-    /// Reading the values never gives the fault `Memory`.
-    ghost spares: { (values : List (List ℕ)) → Spares (reads values) };
+        ensures reads { Reads setting result (reads values.now) }
+        ensures spares { Spares result };
 }
 
 /// Reads the setting of a line. Returns its first fault, if it has one.
@@ -43,7 +41,8 @@ pub fn once<T: FromValues>(
     form: Form,
     line: &Line<'_>,
 ) -> Result<(), FaultKind>
-    ensures puts { Puts (rules.once form T.reads) (option_to_list (option_map T.setting slot.old)) line.now.words result (option_to_list (option_map T.setting slot.new)) }
+    ensures puts { Puts (rules.once form T.reads) (option_to_list (option_map T.setting slot.old))
+        line.now.words result (option_to_list (option_map T.setting slot.new)) }
     ensures spares { Spares result }
 {
     let value: T = setting_of(form, line)?;
@@ -82,7 +81,9 @@ pub fn listed<T: FromValues>(
     line: &Line<'_>,
     most: Option<usize>,
 ) -> Result<(), FaultKind>
-    ensures { Puts (rules.listed most form T.reads) (map T.setting slot.old.items) line.now.words result (map T.setting slot.new.items) }
+    ensures puts { Puts (rules.listed most form T.reads) (map T.setting slot.old.items)
+        line.now.words result (map T.setting slot.new.items) }
+    ensures bounded { (n : ℕ) → most ≡ Some n → length slot.old.items ≤ n → length slot.new.items ≤ n }
 {
     let value: T = setting_of(form, line)?;
     push_within(slot, value, most)
@@ -112,7 +113,8 @@ pub fn listed_apart<T: Clashes>(
     line: &Line<'_>,
     most: Option<usize>,
 ) -> Result<(), FaultKind>
-    ensures puts { Puts (rules.distinct T.clashes most form T.reads) (map T.setting slot.old.items) line.now.words result (map T.setting slot.new.items) }
+    ensures puts { Puts (rules.distinct T.clashes most form T.reads) (map T.setting slot.old.items)
+        line.now.words result (map T.setting slot.new.items) }
     ensures bounded { (n : ℕ) → most ≡ Some n → length slot.old.items ≤ n → length slot.new.items ≤ n }
 {
     let value: T = setting_of(form, line)?;

@@ -1,15 +1,16 @@
 //! Names, texts and numbers.
-ghost use Rattle.std.specs.Prelude.{◌≡◌, ◌≤◌, IsTrue};
+ghost use Rattle.std.specs.Prelude.{◌≡◌, ◌≤◌, false, IsTrue};
 ghost use Rattle.std.specs.List.{list_all};
 ghost use Rattle.nut_words.specs.Quoting.{IsPrintable};
 ghost use Rattle.nut_words.specs.Spelling.{is_printing};
-ghost use Rattle.nut_conf.specs.Faults.{Reads};
+ghost use Rattle.nut_conf.specs.Faults.{Reads, Spares};
 ghost use Rattle.nut_words.specs.Name.{is_name};
 ghost use Rattle.nut_conf.specs.Values.{is_text, name, number, text as bounded_text};
 
 use crate::fault::FaultKind;
-use crate::slot::FromValues;
-use crate::values::Values;
+use crate::line::Line;
+use crate::slot::{FromValues, setting_of};
+use crate::values::{Form, Values};
 use arrayvec::ArrayVec;
 use nut_words::{are_name_bytes, natural};
 
@@ -35,6 +36,17 @@ pub struct Number<const LEAST: u32, const MOST: u32> {
     pub ghost most: { value ≤ MOST },
 }
 
+/// A number from `LEAST` to `MOST`: the one that a line sets, or else `DEFAULT`.
+#[derive(Clone, Copy, Debug, PartialEq, Eq)]
+pub struct NumberOr<const LEAST: u32, const MOST: u32, const DEFAULT: u32> {
+    pub value: u32,
+    /// Whether a line has set it.
+    pub is_set: bool,
+    pub ghost least: { LEAST ≤ value },
+    pub ghost most: { value ≤ MOST },
+    pub ghost unset: { is_set ≡ false → value ≡ DEFAULT },
+}
+
 /// A TCP port, 1 to 65,535.
 #[derive(Clone, Copy, Debug, PartialEq, Eq)]
 pub struct Port {
@@ -50,7 +62,8 @@ impl<const MOST: usize> Name<MOST> {
     /// `BadName` if it is empty or has a byte that names can't have; else `PastLimit` if it is longer than `MOST`
     /// bytes.
     pub fn read(bytes: &[u8]) -> Result<Self, FaultKind>
-        ensures { Reads (λ n. n.bytes.items) result (name MOST bytes.now) }
+        ensures reads { Reads (λ n. n.bytes.items) result (name MOST bytes.now) }
+        ensures spares { Spares result }
     {
         if bytes.is_empty() || !are_name_bytes(bytes) {
             return Err(FaultKind::BadName);
@@ -79,7 +92,8 @@ impl<const LEAST: usize, const MOST: usize> Text<LEAST, MOST> {
     /// `PastLimit` if there are fewer bytes than `LEAST` or more than `MOST`.
     pub fn read(bytes: &[u8]) -> Result<Self, FaultKind>
         requires { IsTrue (list_all is_printing bytes.now) }
-        ensures { Reads (λ t. t.bytes.items) result (bounded_text LEAST MOST bytes.now) }
+        ensures reads { Reads (λ t. t.bytes.items) result (bounded_text LEAST MOST bytes.now) }
+        ensures spares { Spares result }
     {
         if bytes.len() < LEAST {
             return Err(FaultKind::PastLimit);
@@ -107,7 +121,8 @@ impl<const LEAST: u32, const MOST: u32> Number<LEAST, MOST> {
     ///
     /// `BadNumber` for anything else, or if the number isn't `LEAST` to `MOST`.
     pub fn read(bytes: &[u8]) -> Result<Self, FaultKind>
-        ensures { Reads (λ n. n.value) result (number LEAST MOST bytes.now) }
+        ensures reads { Reads (λ n. n.value) result (number LEAST MOST bytes.now) }
+        ensures spares { Spares result }
     {
         let Some(value) = natural(bytes) else {
             return Err(FaultKind::BadNumber);
@@ -120,6 +135,41 @@ impl<const LEAST: u32, const MOST: u32> Number<LEAST, MOST> {
     }
 }
 
+impl<const LEAST: u32, const MOST: u32, const DEFAULT: u32> NumberOr<LEAST, MOST, DEFAULT> {
+    ghost use Rattle.std.specs.Prelude.{[]};
+    ghost use Rattle.nut_conf.specs.Rows.{number_set};
+    ghost use Rattle.nut_conf.specs.Settings.{Puts, once, number_value};
+    ghost use Rattle.nut_conf.specs.declared.values.Form.TheVariants.{Plain};
+
+    /// Returns the default.
+    pub(crate) fn new() -> Self
+        requires least { LEAST ≤ DEFAULT }
+        requires most { DEFAULT ≤ MOST }
+        ensures { number_set result ≡ [] }
+    {
+        NumberOr {
+            value: DEFAULT,
+            is_set: false,
+        }
+    }
+
+    /// Takes the number on a line. Returns `Repeated` if one is set. Allocates no memory.
+    pub(crate) fn put(&mut self, line: &Line<'_>) -> Result<(), FaultKind>
+        ensures puts { Puts (once Plain (number_value LEAST MOST)) (number_set self.old) line.now.words result (number_set self.new) }
+        ensures spares { Spares result }
+    {
+        let number: Number<LEAST, MOST> = setting_of(Form::Plain, line)?;
+        if self.is_set {
+            return Err(FaultKind::Repeated);
+        }
+        *self = NumberOr {
+            value: number.value,
+            is_set: true,
+        };
+        Ok(())
+    }
+}
+
 impl Port {
     /// Reads a port.
     ///
@@ -127,7 +177,8 @@ impl Port {
     ///
     /// `BadNumber` if it isn't one to nine digits, or not a number from 1 to 65,535.
     pub fn read(bytes: &[u8]) -> Result<Self, FaultKind>
-        ensures { Reads (λ p. p.number) result (number 1 65535 bytes.now) }
+        ensures reads { Reads (λ p. p.number) result (number 1 65535 bytes.now) }
+        ensures spares { Spares result }
     {
         let number: Number<1, 65535> = Number::read(bytes)?;
         Ok(Port {
@@ -138,13 +189,10 @@ impl Port {
 
 impl<const MOST: usize> FromValues for Name<MOST> {
     ghost use Rattle.nut_conf.specs.Settings.{Text, name_value};
-    ghost use Rattle.nut_conf.specs.inside.Spares.{name_value_spares};
 
     ghost setting = { λ n. Text n.bytes.items };
 
     ghost reads = { name_value MOST };
-
-    ghost spares = { name_value_spares MOST };
 
     fn from_values(values: &Values<'_, '_>) -> Result<Self, FaultKind> {
         Name::read(values.one()?)
@@ -153,13 +201,10 @@ impl<const MOST: usize> FromValues for Name<MOST> {
 
 impl<const LEAST: usize, const MOST: usize> FromValues for Text<LEAST, MOST> {
     ghost use Rattle.nut_conf.specs.Settings.{Text as TextSetting, text_value};
-    ghost use Rattle.nut_conf.specs.inside.Spares.{text_value_spares};
 
     ghost setting = { λ t. TextSetting t.bytes.items };
 
     ghost reads = { text_value LEAST MOST };
-
-    ghost spares = { text_value_spares LEAST MOST };
 
     fn from_values(values: &Values<'_, '_>) -> Result<Self, FaultKind> {
         Text::read(values.one()?)
@@ -168,13 +213,10 @@ impl<const LEAST: usize, const MOST: usize> FromValues for Text<LEAST, MOST> {
 
 impl<const LEAST: u32, const MOST: u32> FromValues for Number<LEAST, MOST> {
     ghost use Rattle.nut_conf.specs.Settings.{Number as NumberSetting, number_value};
-    ghost use Rattle.nut_conf.specs.inside.Spares.{number_value_spares};
 
     ghost setting = { λ n. NumberSetting n.value };
 
     ghost reads = { number_value LEAST MOST };
-
-    ghost spares = { number_value_spares LEAST MOST };
 
     fn from_values(values: &Values<'_, '_>) -> Result<Self, FaultKind> {
         Number::read(values.one()?)

@@ -30,13 +30,10 @@ struct Described {
 impl FromValues for Described {
     ghost use Rattle.nut_conf.specs.Settings.{Description};
     ghost use Rattle.nut_conf.specs.Descriptions.{description_value};
-    ghost use Rattle.nut_conf.specs.inside.Spares.{description_value_spares};
 
     ghost setting = { λ d. Description d.name.bytes.items d.text.bytes.items };
 
     ghost reads = { description_value };
-
-    ghost spares = { description_value_spares };
 
     fn from_values(values: &Values<'_, '_>) -> Result<Self, FaultKind> {
         if values.len() != 2 {

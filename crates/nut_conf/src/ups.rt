@@ -1,5 +1,5 @@
 //! The file ups.conf.
-ghost use Rattle.std.specs.Prelude.{◌≡◌, ◌==◌, ◌<◌, ◌≤◌, [], false, Err, IfSome, IsOk, IsTrue, None, MatchOption, IfErr, OnErr, OnOk, length, slice_get};
+ghost use Rattle.std.specs.Prelude.{◌≡◌, ◌==◌, ◌<◌, ◌≤◌, [], false, Err, IfSome, IsOk, IsTrue, None, IfErr, OnErr, OnOk, length, slice_get};
 ghost use Rattle.std.specs.List.{IsDistinct, list_any};
 ghost use Rattle.std.specs.Option.{option_copied, option_map};
 ghost use Rattle.std.specs.Str.{bytes_eq};
@@ -11,7 +11,10 @@ ghost use Rattle.nut_words.specs.Name.{is_name};
 ghost use Rattle.nut_conf.specs.Values.{is_text};
 ghost use Rattle.nut_conf.specs.Ups.{UpsConfHolds, ups_fault, ups_conf_grows, driver_of, port_of, desc_of, names_of, number_of, ups_at, shown_in, is_shown_as, with_ups};
 ghost use Rattle.nut_conf.specs.inside.Upses.{and_ups};
+ghost use Rattle.nut_conf.specs.Rows.{lengths_of};
+ghost use Rattle.nut_conf.specs.declared.ups.Ups.{Ups as UpsFields};
 
+use crate::directives::Directives;
 use crate::draft::Draft;
 use crate::fault::{ConfFault, FaultKind};
 use crate::file::read_draft;
@@ -130,7 +133,8 @@ impl UpsConf {
         name: &Name<UPS_NAME_MAX>,
         desc: &[u8],
     ) -> Result<Text<0, DESCRIPTION_MAX>, FaultKind>
-        ensures reads { Reads (λ d. and_ups (shown_in self.now) name.now.bytes.items d.bytes.items) result (with_ups (shown_in self.now) name.now.bytes.items desc.now) }
+        ensures reads { Reads (λ d. and_ups (shown_in self.now) name.now.bytes.items d.bytes.items) result
+            (with_ups (shown_in self.now) name.now.bytes.items desc.now) }
         ensures room { OnOk result (length self.now.ups.by_name.entries < UPSES_MAX) }
         ensures unnamed { OnOk result (list_any (is_shown_as name.now.bytes.items) (shown_in self.now) ≡ false) }
         ensures spares { Spares result }
@@ -203,6 +207,12 @@ impl UpsConf {
     }
 }
 
+/// States a law and does nothing when called: the least and the greatest length of each text.
+pub fn ups_limits()
+    ensures port { lengths_of (λ (u : UpsFields). u.port) ≡ (0, 128) }
+    ensures desc { lengths_of (λ (u : UpsFields). u.desc) ≡ (0, 128) }
+{}
+
 /// The directives of a section.
 #[derive(Clone, Copy)]
 pub enum UpsDirective {
@@ -211,36 +221,30 @@ pub enum UpsDirective {
     Desc,
 }
 
-impl UpsDirective {
-    ghost use Rattle.nut_conf.specs.Settings.{directive_of};
-    ghost use Rattle.nut_conf.specs.Ups.{ups_directive, ups_directives};
+/// Each directive, with its word.
+const DIRECTIVES: [(&[u8], UpsDirective); 3] = [
+    (b"driver", UpsDirective::Driver),
+    (b"port", UpsDirective::Port),
+    (b"desc", UpsDirective::Desc),
+];
 
-    fn of(word: &[u8]) -> Option<Self>
-        ensures { MatchOption result (directive_of word.now ups_directives ≡ None) (λ d. word.now ≡ (ups_directive d).word) }
-    {
-        if word == b"driver".as_slice() {
-            Some(UpsDirective::Driver)
-        } else if word == b"port".as_slice() {
-            Some(UpsDirective::Port)
-        } else if word == b"desc".as_slice() {
-            Some(UpsDirective::Desc)
-        } else {
-            None
-        }
+impl Directives for Ups {
+    ghost use Rattle.nut_conf.specs.Ups.{ups_row, ups_rows};
+    ghost use Rattle.nut_conf.specs.inside.Found.{ups_found};
+
+    type Directive = UpsDirective;
+
+    ghost all = { ups_rows };
+
+    ghost table = { ups_row };
+
+    ghost found = { ups_found };
+
+    fn rows() -> &'static [(&'static [u8], UpsDirective)] {
+        &DIRECTIVES
     }
-}
 
-impl Draft for Ups {
-    ghost use Rattle.nut_conf.specs.Settings.{line_fault};
-    ghost use Rattle.nut_conf.specs.Ups.{UpsHolds, ups_directives, ups_grows};
-
-    ghost fault = { line_fault ups_directives };
-
-    ghost grows = { ups_grows };
-
-    ghost Holds = { UpsHolds };
-
-    fn new(_: Global) -> Self {
+    fn unset(_: Global) -> Self {
         Ups {
             driver: None,
             port: None,
@@ -248,12 +252,11 @@ impl Draft for Ups {
         }
     }
 
-    fn put(&mut self, line: &Line<'_>) -> Result<(), FaultKind> {
-        match UpsDirective::of(line.directive()) {
-            Some(UpsDirective::Driver) => once(&mut self.driver, Form::Assigned, line),
-            Some(UpsDirective::Port) => once(&mut self.port, Form::Assigned, line),
-            Some(UpsDirective::Desc) => once(&mut self.desc, Form::Assigned, line),
-            None => Err(FaultKind::UnknownDirective),
+    fn set(&mut self, directive: UpsDirective, line: &Line<'_>) -> Result<(), FaultKind> {
+        match directive {
+            UpsDirective::Driver => once(&mut self.driver, Form::Assigned, line),
+            UpsDirective::Port => once(&mut self.port, Form::Assigned, line),
+            UpsDirective::Desc => once(&mut self.desc, Form::Assigned, line),
         }
     }
 }

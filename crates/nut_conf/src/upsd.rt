@@ -1,20 +1,24 @@
 //! The file upsd.conf.
-ghost use Rattle.std.specs.Prelude.{◌≡◌, ◌≤◌, [], None, IfErr, IfOk, MatchOption, length, slice_get};
+ghost use Rattle.std.specs.Prelude.{◌≡◌, [], IfErr, length, slice_get};
 ghost use Rattle.std.specs.Option.{option_map};
-ghost use Rattle.nut_conf.specs.Faults.{Reads};
+ghost use Rattle.nut_conf.specs.Faults.{Reads, Spares};
 ghost use Rattle.nut_conf.specs.Files.{Means, read_file};
 ghost use Rattle.nut_conf.specs.Memory.{MayRunOut};
-ghost use Rattle.nut_conf.specs.Upsd.{UpsdHolds, upsd_fault, upsd_grows, address as address_of, max_age_of, max_conn_of, endpoints_of};
+ghost use Rattle.nut_conf.specs.Upsd.{UpsdHolds, upsd_fault, upsd_grows, address as address_of, endpoints_of};
+ghost use Rattle.nut_conf.specs.Rows.{numbers_of};
+ghost use Rattle.nut_conf.specs.declared.upsd.UpsdConf.{UpsdConf};
 
+use crate::directives::Directives;
 use crate::draft::Draft;
 use crate::fault::{ConfFault, FaultKind};
 use crate::file::read_draft;
 use crate::host::Address;
 use crate::limits::{CONNECTIONS_MAX, LISTENERS_MAX};
 use crate::line::Line;
-use crate::slot::{FromValues, listed, once};
-use crate::text::{Number, Port};
-use crate::values::{Form, Values};
+use crate::lines::Lines;
+use crate::slot::FromValues;
+use crate::text::{NumberOr, Port};
+use crate::values::Values;
 use std::alloc::Global;
 
 /// An address and a port on which a server listens.
@@ -28,12 +32,12 @@ pub struct Endpoint {
 
 /// The configuration of upsd.conf. A directive that isn't set has its default.
 pub struct UpsdConf {
-    /// LISTEN, in the order of the file. A file that was read has at most [`LISTENERS_MAX`].
-    pub listen: Vec<Endpoint>,
-    /// MAXAGE, in seconds.
-    pub max_age: Option<Number<1, 86400>>,
+    /// LISTEN.
+    pub listen: Lines<Endpoint, LISTENERS_MAX>,
+    /// MAXAGE: after this many seconds without a word from its driver, the data of a UPS are stale.
+    pub max_age: NumberOr<1, 86_400, 15>,
     /// MAXCONN: how many connections may be open at once.
-    pub max_conn: Option<Number<1, CONNECTIONS_MAX>>,
+    pub max_conn: NumberOr<1, CONNECTIONS_MAX, CONNECTIONS_MAX>,
 }
 
 // A derived drop would be proved again in each crate that drops a value, with those of its parts.
@@ -55,36 +59,11 @@ impl UpsdConf {
         Draft::new(alloc)
     }
 
-    /// Returns MAXAGE: after this many seconds without a word from its driver, the data of a UPS are stale. It is 15 if
-    /// none is set.
-    pub fn max_age(&self) -> u32
-        ensures value { result ≡ max_age_of self.now }
-        ensures least { 1 ≤ result }
-        ensures most { result ≤ 86400 }
-    {
-        match &self.max_age {
-            Some(number) => number.value,
-            None => 15,
-        }
-    }
-
-    /// How many connections may be open; where none is set, [`CONNECTIONS_MAX`].
-    pub fn max_conn(&self) -> u32
-        ensures value { result ≡ max_conn_of self.now }
-        ensures least { 1 ≤ result }
-        ensures most { result ≤ CONNECTIONS_MAX }
-    {
-        match &self.max_conn {
-            Some(number) => number.value,
-            None => CONNECTIONS_MAX,
-        }
-    }
-
     /// Returns on how many endpoints the server listens: at least one.
     pub fn endpoints(&self) -> usize
         ensures { result ≡ length (endpoints_of self.now) }
     {
-        self.listen.len().max(1)
+        self.listen.lines.len().max(1)
     }
 
     /// Returns the address and the port of an endpoint, counted from 0 in the order of the file. `None` past the last.
@@ -92,15 +71,22 @@ impl UpsdConf {
     pub fn endpoint(&self, index: usize) -> Option<(&[u8], u16)>
         ensures { option_map (λ e. (e.0.now, e.1)) result ≡ slice_get (endpoints_of self.now) index }
     {
-        if self.listen.is_empty() && index == 0 {
+        if self.listen.lines.is_empty() && index == 0 {
             return Some((b"127.0.0.1", 3493));
         }
-        match self.listen.as_slice().get(index) {
+        match self.listen.lines.as_slice().get(index) {
             Some(endpoint) => Some((endpoint.address.bytes.as_slice(), endpoint.port.number)),
             None => None,
         }
     }
 }
+
+/// States a law and does nothing when called: the least and the greatest number that each directive takes, and its
+/// default.
+pub fn upsd_limits()
+    ensures max_age { numbers_of (λ (c : UpsdConf). c.max_age) ≡ (1, 86400, 15) }
+    ensures max_conn { numbers_of (λ (c : UpsdConf). c.max_conn) ≡ (1, 256, 256) }
+{}
 
 /// The directives of the file.
 #[derive(Clone, Copy)]
@@ -110,27 +96,16 @@ pub enum UpsdDirective {
     MaxConn,
 }
 
-impl UpsdDirective {
-    ghost use Rattle.nut_conf.specs.Settings.{directive_of};
-    ghost use Rattle.nut_conf.specs.Upsd.{upsd_directive, upsd_directives};
-
-    fn of(word: &[u8]) -> Option<Self>
-        ensures { MatchOption result (directive_of word.now upsd_directives ≡ None) (λ d. word.now ≡ (upsd_directive d).word) }
-    {
-        if word == b"LISTEN".as_slice() {
-            Some(UpsdDirective::Listen)
-        } else if word == b"MAXAGE".as_slice() {
-            Some(UpsdDirective::MaxAge)
-        } else if word == b"MAXCONN".as_slice() {
-            Some(UpsdDirective::MaxConn)
-        } else {
-            None
-        }
-    }
-}
+/// Each directive, with its word.
+const DIRECTIVES: [(&[u8], UpsdDirective); 3] = [
+    (b"LISTEN", UpsdDirective::Listen),
+    (b"MAXAGE", UpsdDirective::MaxAge),
+    (b"MAXCONN", UpsdDirective::MaxConn),
+];
 
 fn address(bytes: &[u8]) -> Result<Address, FaultKind>
-    ensures { Reads (λ a. a.bytes.items) result (address_of bytes.now) }
+    ensures reads { Reads (λ a. a.bytes.items) result (address_of bytes.now) }
+    ensures spares { Spares result }
 {
     match Address::read(bytes) {
         Some(address) => Ok(address),
@@ -140,13 +115,10 @@ fn address(bytes: &[u8]) -> Result<Address, FaultKind>
 
 impl FromValues for Endpoint {
     ghost use Rattle.nut_conf.specs.Upsd.{endpoint_setting, listen_value};
-    ghost use Rattle.nut_conf.specs.inside.Spares.{listen_value_spares};
 
     ghost setting = { endpoint_setting };
 
     ghost reads = { listen_value };
-
-    ghost spares = { listen_value_spares };
 
     fn from_values(values: &Values<'_, '_>) -> Result<Self, FaultKind> {
         match values.len() {
@@ -163,34 +135,35 @@ impl FromValues for Endpoint {
     }
 }
 
-impl Draft for UpsdConf {
-    ghost use Rattle.nut_conf.specs.Upsd.{UpsdHolds, upsd_fault, upsd_grows};
+impl Directives for UpsdConf {
+    ghost use Rattle.nut_conf.specs.Upsd.{upsd_row, upsd_rows};
+    ghost use Rattle.nut_conf.specs.inside.Found.{upsd_found};
 
-    ghost fault = { upsd_fault };
+    type Directive = UpsdDirective;
 
-    ghost grows = { upsd_grows };
+    ghost all = { upsd_rows };
 
-    ghost Holds = { UpsdHolds };
+    ghost table = { upsd_row };
 
-    fn new(alloc: Global) -> Self {
+    ghost found = { upsd_found };
+
+    fn rows() -> &'static [(&'static [u8], UpsdDirective)] {
+        &DIRECTIVES
+    }
+
+    fn unset(alloc: Global) -> Self {
         UpsdConf {
-            listen: Vec::new(alloc),
-            max_age: None,
-            max_conn: None,
+            listen: Lines::new(alloc),
+            max_age: NumberOr::new(),
+            max_conn: NumberOr::new(),
         }
     }
 
-    fn put(&mut self, line: &Line<'_>) -> Result<(), FaultKind> {
-        match UpsdDirective::of(line.directive()) {
-            Some(UpsdDirective::Listen) => listed(
-                &mut self.listen,
-                Form::Plain,
-                line,
-                Some(LISTENERS_MAX),
-            ),
-            Some(UpsdDirective::MaxAge) => once(&mut self.max_age, Form::Plain, line),
-            Some(UpsdDirective::MaxConn) => once(&mut self.max_conn, Form::Plain, line),
-            None => Err(FaultKind::UnknownDirective),
+    fn set(&mut self, directive: UpsdDirective, line: &Line<'_>) -> Result<(), FaultKind> {
+        match directive {
+            UpsdDirective::Listen => self.listen.put(line),
+            UpsdDirective::MaxAge => self.max_age.put(line),
+            UpsdDirective::MaxConn => self.max_conn.put(line),
         }
     }
 }
@@ -205,7 +178,6 @@ impl Draft for UpsdConf {
 /// without a fault.
 pub fn read_upsd(alloc: Global, bytes: &[u8]) -> Result<UpsdConf, ConfFault>
     ensures means { Means (read_file upsd_fault bytes.now) UpsdHolds result }
-    ensures few { IfOk result (λ conf. length conf.listen.items ≤ LISTENERS_MAX) }
     ensures memory { IfErr result (λ fault. fault.kind ≡ FaultKind.Memory → MayRunOut upsd_fault upsd_grows bytes.now fault.line) }
 {
     read_draft(alloc, bytes)

@@ -1,51 +1,51 @@
 //! The file upsmon.conf.
-ghost use Rattle.std.specs.Prelude.{◌≡◌, None, IfErr, MatchOption, IsTrue, nat_lt, sum_by};
-ghost use Rattle.std.specs.List.{find};
-ghost use Rattle.std.specs.Option.{option_map_or};
-ghost use Rattle.std.specs.Str.{bytes_eq};
+ghost use Rattle.std.specs.Prelude.{◌≡◌, IfErr, IsTrue, nat_lt, sum_by};
 ghost use Rattle.nut_words.specs.Quoting.{IsPrintable};
 ghost use Rattle.nut_conf.specs.Files.{Means};
 ghost use Rattle.nut_conf.specs.Memory.{MayRunOut};
 ghost use Rattle.nut_conf.specs.Values.{is_text};
-ghost use Rattle.nut_conf.specs.Upsmon.{UpsmonHolds, upsmon_fault, upsmon_grows, upsmon_reading, min_supplies_of, poll_freq_of, dead_time_of, rb_warn_time_of, no_comm_warn_time_of, host_sync_of, final_delay_of, message_of, flags_of};
+ghost use Rattle.nut_conf.specs.Upsmon.{UpsmonHolds, upsmon_fault, upsmon_grows, upsmon_reading, message_of, flags_of};
+ghost use Rattle.nut_conf.specs.Rows.{lengths_of, numbers_of};
+ghost use Rattle.nut_conf.specs.declared.upsmon.UpsmonConf.{UpsmonConf};
 
-use crate::draft::Draft;
+use crate::directives::Directives;
 use crate::fault::{ConfFault, FaultKind};
 use crate::file::read_draft;
-use crate::limits::{COMMAND_MAX, MESSAGE_MAX};
+use crate::limits::{COMMAND_MAX, MESSAGE_MAX, MONITORS_MAX};
 use crate::line::Line;
+use crate::lines::Lines;
 use crate::monitor::Monitored;
-use crate::monitors::Monitors;
 use crate::notice::{Notice, NoticeFlags, NoticeHandling, NoticeText, handling_of, text_of};
 use crate::slot::{listed_apart, once};
-use crate::text::{Number, Text};
+use crate::text::{NumberOr, Text};
 use crate::values::Form;
 use std::alloc::Global;
 
-/// The configuration of upsmon.conf(5). Each method returns what is set, or the default.
+/// The configuration of upsmon.conf(5). A directive that isn't set has its default.
 pub struct UpsmonConf {
-    /// At most [`MONITORS_MAX`](crate::limits::MONITORS_MAX), in the order of the file.
-    pub monitors: Monitors,
-    /// MINSUPPLIES, in power values.
-    pub min_supplies: Option<Number<0, 32000>>,
+    /// MONITOR. A file that was read has no two with the same target.
+    pub monitors: Lines<Monitored, MONITORS_MAX>,
+    /// MINSUPPLIES: a shutdown begins if the power values of the UPSes that aren't critical sum to less than this.
+    pub min_supplies: NumberOr<0, 32_000, 1>,
     /// SHUTDOWNCMD, run by the shell. If none is set, nothing is run.
     pub shutdown_cmd: Option<Text<1, COMMAND_MAX>>,
     /// NOTIFYCMD, run by the shell. If none is set, nothing is run.
     pub notify_cmd: Option<Text<1, COMMAND_MAX>>,
     /// POWERDOWNFLAG, the path of a file. If none is set, no file is written.
     pub power_down_flag: Option<Text<1, COMMAND_MAX>>,
-    /// POLLFREQ, in seconds.
-    pub poll_freq: Option<Number<1, 1000000>>,
-    /// DEADTIME, in seconds.
-    pub dead_time: Option<Number<1, 1000000>>,
-    /// RBWARNTIME, in seconds.
-    pub rb_warn_time: Option<Number<1, 1000000>>,
-    /// NOCOMMWARNTIME, in seconds.
-    pub no_comm_warn_time: Option<Number<1, 1000000>>,
-    /// HOSTSYNC, in seconds.
-    pub host_sync: Option<Number<0, 1000000>>,
-    /// FINALDELAY, in seconds.
-    pub final_delay: Option<Number<0, 1000000>>,
+    /// POLLFREQ: the seconds between two queries for the status of a UPS.
+    pub poll_freq: NumberOr<1, 1_000_000, 5>,
+    /// DEADTIME: after this many seconds without a status, a UPS on battery is critical.
+    pub dead_time: NumberOr<1, 1_000_000, 15>,
+    /// RBWARNTIME: the seconds between two notices that a battery needs to be replaced.
+    pub rb_warn_time: NumberOr<1, 1_000_000, 43_200>,
+    /// NOCOMMWARNTIME: the seconds between two notices that a UPS is unavailable.
+    pub no_comm_warn_time: NumberOr<1, 1_000_000, 300>,
+    /// HOSTSYNC, in seconds: how long a primary waits for the other machines to log out, and how long a secondary with
+    /// a low battery waits for its primary.
+    pub host_sync: NumberOr<0, 1_000_000, 15>,
+    /// FINALDELAY: the seconds between the last notice and the halt.
+    pub final_delay: NumberOr<0, 1_000_000, 5>,
     /// The texts that are set. A file that was read has at most one for each type of notice.
     pub messages: Vec<NoticeText>,
     /// The flags that are set. A file that was read has at most one line of them for each type of notice.
@@ -73,73 +73,7 @@ impl Drop for UpsmonConf {
     }
 }
 
-/// Returns the number that is set, or else `default`.
-fn number_or<const LEAST: u32, const MOST: u32>(
-    number: &Option<Number<LEAST, MOST>>,
-    default: u32,
-) -> u32
-    ensures { result ≡ option_map_or (λ n. n.value) number.now default }
-{
-    match number {
-        Some(number) => number.value,
-        None => default,
-    }
-}
-
 impl UpsmonConf {
-    /// Returns MINSUPPLIES. A shutdown begins if the power values of the UPSes that aren't critical sum to less than
-    /// this. It is 1 if none is set.
-    pub fn min_supplies(&self) -> u32
-        ensures { result ≡ min_supplies_of self.now }
-    {
-        number_or(&self.min_supplies, 1)
-    }
-
-    /// Returns POLLFREQ: the seconds between two queries for the status of a UPS. It is 5 if none is set.
-    pub fn poll_freq(&self) -> u32
-        ensures { result ≡ poll_freq_of self.now }
-    {
-        number_or(&self.poll_freq, 5)
-    }
-
-    /// Returns DEADTIME: after this many seconds without a status, a UPS on battery is critical. It is 15 if none is
-    /// set.
-    pub fn dead_time(&self) -> u32
-        ensures { result ≡ dead_time_of self.now }
-    {
-        number_or(&self.dead_time, 15)
-    }
-
-    /// Returns RBWARNTIME: the seconds between two notices that a battery needs to be replaced. It is 43,200 if none is
-    /// set.
-    pub fn rb_warn_time(&self) -> u32
-        ensures { result ≡ rb_warn_time_of self.now }
-    {
-        number_or(&self.rb_warn_time, 43_200)
-    }
-
-    /// Returns NOCOMMWARNTIME: the seconds between two notices that a UPS is unavailable. It is 300 if none is set.
-    pub fn no_comm_warn_time(&self) -> u32
-        ensures { result ≡ no_comm_warn_time_of self.now }
-    {
-        number_or(&self.no_comm_warn_time, 300)
-    }
-
-    /// Returns HOSTSYNC, in seconds: how long a primary waits for the other machines to log out, and how long a
-    /// secondary with a low battery waits for its primary. It is 15 if none is set.
-    pub fn host_sync(&self) -> u32
-        ensures { result ≡ host_sync_of self.now }
-    {
-        number_or(&self.host_sync, 15)
-    }
-
-    /// Returns FINALDELAY: the seconds between the last notice and the halt. It is 5 if none is set.
-    pub fn final_delay(&self) -> u32
-        ensures { result ≡ final_delay_of self.now }
-    {
-        number_or(&self.final_delay, 5)
-    }
-
     /// Returns the text of a type of notice, or its default. The first `%s` stands for the UPS.
     pub fn message(&self, notice: Notice) -> &[u8]
         ensures value { result.now ≡ message_of notice self.now }
@@ -161,7 +95,44 @@ impl UpsmonConf {
             None => NoticeFlags::default_flags(),
         }
     }
+
+    /// Whether a directive has the same value in both configurations: what is set, or else the default. The order of
+    /// lines counts.
+    pub fn agrees(&self, other: &Self, directive: UpsmonDirective) -> bool {
+        match directive {
+            UpsmonDirective::Monitor => self.monitors.lines == other.monitors.lines,
+            UpsmonDirective::MinSupplies => self.min_supplies.value == other.min_supplies.value,
+            UpsmonDirective::ShutdownCmd => self.shutdown_cmd == other.shutdown_cmd,
+            UpsmonDirective::NotifyCmd => self.notify_cmd == other.notify_cmd,
+            UpsmonDirective::PowerDownFlag => self.power_down_flag == other.power_down_flag,
+            UpsmonDirective::PollFreq => self.poll_freq.value == other.poll_freq.value,
+            UpsmonDirective::DeadTime => self.dead_time.value == other.dead_time.value,
+            UpsmonDirective::RbWarnTime => self.rb_warn_time.value == other.rb_warn_time.value,
+            UpsmonDirective::NoCommWarnTime => {
+                self.no_comm_warn_time.value == other.no_comm_warn_time.value
+            }
+            UpsmonDirective::HostSync => self.host_sync.value == other.host_sync.value,
+            UpsmonDirective::FinalDelay => self.final_delay.value == other.final_delay.value,
+            UpsmonDirective::NotifyMsg => self.messages == other.messages,
+            UpsmonDirective::NotifyFlag => self.handlings == other.handlings,
+        }
+    }
 }
+
+/// States a law and does nothing when called: the least and the greatest number that each directive takes, and its
+/// default; and the least and the greatest length of a text.
+pub fn upsmon_limits()
+    ensures min_supplies { numbers_of (λ (c : UpsmonConf). c.min_supplies) ≡ (0, 32000, 1) }
+    ensures poll_freq { numbers_of (λ (c : UpsmonConf). c.poll_freq) ≡ (1, 1000000, 5) }
+    ensures dead_time { numbers_of (λ (c : UpsmonConf). c.dead_time) ≡ (1, 1000000, 15) }
+    ensures rb_warn_time { numbers_of (λ (c : UpsmonConf). c.rb_warn_time) ≡ (1, 1000000, 43200) }
+    ensures no_comm_warn_time { numbers_of (λ (c : UpsmonConf). c.no_comm_warn_time) ≡ (1, 1000000, 300) }
+    ensures host_sync { numbers_of (λ (c : UpsmonConf). c.host_sync) ≡ (0, 1000000, 15) }
+    ensures final_delay { numbers_of (λ (c : UpsmonConf). c.final_delay) ≡ (0, 1000000, 5) }
+    ensures shutdown_cmd { lengths_of (λ (c : UpsmonConf). c.shutdown_cmd) ≡ (1, 256) }
+    ensures notify_cmd { lengths_of (λ (c : UpsmonConf). c.notify_cmd) ≡ (1, 256) }
+    ensures power_down_flag { lengths_of (λ (c : UpsmonConf). c.power_down_flag) ≡ (1, 256) }
+{}
 
 /// The directives of the file.
 #[derive(Clone, Copy)]
@@ -181,64 +152,22 @@ pub enum UpsmonDirective {
     NotifyFlag,
 }
 
-/// The rows of the table of directives.
-const DIRECTIVES: [UpsmonDirective; 13] = [
-    UpsmonDirective::Monitor,
-    UpsmonDirective::MinSupplies,
-    UpsmonDirective::ShutdownCmd,
-    UpsmonDirective::NotifyCmd,
-    UpsmonDirective::PowerDownFlag,
-    UpsmonDirective::PollFreq,
-    UpsmonDirective::DeadTime,
-    UpsmonDirective::RbWarnTime,
-    UpsmonDirective::NoCommWarnTime,
-    UpsmonDirective::HostSync,
-    UpsmonDirective::FinalDelay,
-    UpsmonDirective::NotifyMsg,
-    UpsmonDirective::NotifyFlag,
+/// Each directive of the file, with its word.
+pub const UPSMON_DIRECTIVES: [(&[u8], UpsmonDirective); 13] = [
+    (b"MONITOR", UpsmonDirective::Monitor),
+    (b"MINSUPPLIES", UpsmonDirective::MinSupplies),
+    (b"SHUTDOWNCMD", UpsmonDirective::ShutdownCmd),
+    (b"NOTIFYCMD", UpsmonDirective::NotifyCmd),
+    (b"POWERDOWNFLAG", UpsmonDirective::PowerDownFlag),
+    (b"POLLFREQ", UpsmonDirective::PollFreq),
+    (b"DEADTIME", UpsmonDirective::DeadTime),
+    (b"RBWARNTIME", UpsmonDirective::RbWarnTime),
+    (b"NOCOMMWARNTIME", UpsmonDirective::NoCommWarnTime),
+    (b"HOSTSYNC", UpsmonDirective::HostSync),
+    (b"FINALDELAY", UpsmonDirective::FinalDelay),
+    (b"NOTIFYMSG", UpsmonDirective::NotifyMsg),
+    (b"NOTIFYFLAG", UpsmonDirective::NotifyFlag),
 ];
-
-impl UpsmonDirective {
-    ghost use Rattle.nut_conf.specs.Settings.{directive_of};
-    ghost use Rattle.nut_conf.specs.Upsmon.{upsmon_directive, upsmon_directives, upsmon_rows};
-
-    /// Returns the directive with this word, if there is one.
-    #[tactic(auto, using(crate::proofs::Rows::row_of_directive))]
-    fn of(word: &[u8]) -> Option<Self>
-        ensures { MatchOption result (directive_of word.now upsmon_directives ≡ None) (λ d. word.now ≡ (upsmon_directive d).word) }
-    {
-        UpsmonDirective::row(word)
-    }
-
-    fn row(word: &[u8]) -> Option<Self>
-        ensures { result ≡ find (λ d. bytes_eq word.now (upsmon_directive d).word) upsmon_rows }
-    {
-        DIRECTIVES
-            .iter()
-            .copied()
-            .find(|directive| word == directive.word())
-    }
-
-    fn word(self) -> &'static [u8]
-        ensures { result.now ≡ (upsmon_directive self).word }
-    {
-        match self {
-            UpsmonDirective::Monitor => b"MONITOR",
-            UpsmonDirective::MinSupplies => b"MINSUPPLIES",
-            UpsmonDirective::ShutdownCmd => b"SHUTDOWNCMD",
-            UpsmonDirective::NotifyCmd => b"NOTIFYCMD",
-            UpsmonDirective::PowerDownFlag => b"POWERDOWNFLAG",
-            UpsmonDirective::PollFreq => b"POLLFREQ",
-            UpsmonDirective::DeadTime => b"DEADTIME",
-            UpsmonDirective::RbWarnTime => b"RBWARNTIME",
-            UpsmonDirective::NoCommWarnTime => b"NOCOMMWARNTIME",
-            UpsmonDirective::HostSync => b"HOSTSYNC",
-            UpsmonDirective::FinalDelay => b"FINALDELAY",
-            UpsmonDirective::NotifyMsg => b"NOTIFYMSG",
-            UpsmonDirective::NotifyFlag => b"NOTIFYFLAG",
-        }
-    }
-}
 
 /// Whether the power values of the lines sum to less than `needed`.
 fn lacks_power(monitors: &[Monitored], needed: u32) -> bool
@@ -251,52 +180,56 @@ fn lacks_power(monitors: &[Monitored], needed: u32) -> bool
     missing > 0
 }
 
-impl Draft for UpsmonConf {
-    ghost use Rattle.nut_conf.specs.Upsmon.{UpsmonHolds, upsmon_fault, upsmon_grows};
+impl Directives for UpsmonConf {
+    ghost use Rattle.nut_conf.specs.Upsmon.{upsmon_row, upsmon_rows};
+    ghost use Rattle.nut_conf.specs.inside.Found.{upsmon_found};
 
-    ghost fault = { upsmon_fault };
+    type Directive = UpsmonDirective;
 
-    ghost grows = { upsmon_grows };
+    ghost all = { upsmon_rows };
 
-    ghost Holds = { UpsmonHolds };
+    ghost table = { upsmon_row };
 
-    fn new(alloc: Global) -> Self {
+    ghost found = { upsmon_found };
+
+    fn rows() -> &'static [(&'static [u8], UpsmonDirective)] {
+        &UPSMON_DIRECTIVES
+    }
+
+    fn unset(alloc: Global) -> Self {
         UpsmonConf {
-            monitors: Monitors::new(alloc),
-            min_supplies: None,
+            monitors: Lines::new(alloc),
+            min_supplies: NumberOr::new(),
             shutdown_cmd: None,
             notify_cmd: None,
             power_down_flag: None,
-            poll_freq: None,
-            dead_time: None,
-            rb_warn_time: None,
-            no_comm_warn_time: None,
-            host_sync: None,
-            final_delay: None,
+            poll_freq: NumberOr::new(),
+            dead_time: NumberOr::new(),
+            rb_warn_time: NumberOr::new(),
+            no_comm_warn_time: NumberOr::new(),
+            host_sync: NumberOr::new(),
+            final_delay: NumberOr::new(),
             messages: Vec::new(alloc),
             handlings: Vec::new(alloc),
         }
     }
 
-    fn put(&mut self, line: &Line<'_>) -> Result<(), FaultKind> {
+    fn set(&mut self, directive: UpsmonDirective, line: &Line<'_>) -> Result<(), FaultKind> {
         let form = Form::Plain;
-        match UpsmonDirective::of(line.directive()) {
-            Some(UpsmonDirective::Monitor) => self.monitors.put(line),
-            Some(UpsmonDirective::MinSupplies) => once(&mut self.min_supplies, form, line),
-            Some(UpsmonDirective::ShutdownCmd) => once(&mut self.shutdown_cmd, form, line),
-            Some(UpsmonDirective::NotifyCmd) => once(&mut self.notify_cmd, form, line),
-            Some(UpsmonDirective::PowerDownFlag) => once(&mut self.power_down_flag, form, line),
-            Some(UpsmonDirective::PollFreq) => once(&mut self.poll_freq, form, line),
-            Some(UpsmonDirective::DeadTime) => once(&mut self.dead_time, form, line),
-            Some(UpsmonDirective::RbWarnTime) => once(&mut self.rb_warn_time, form, line),
-            Some(UpsmonDirective::NoCommWarnTime) => once(&mut self.no_comm_warn_time, form, line),
-            Some(UpsmonDirective::HostSync) => once(&mut self.host_sync, form, line),
-            Some(UpsmonDirective::FinalDelay) => once(&mut self.final_delay, form, line),
-            Some(UpsmonDirective::NotifyMsg) => listed_apart(&mut self.messages, form, line, None),
-            Some(UpsmonDirective::NotifyFlag) => {
-                listed_apart(&mut self.handlings, form, line, None)
-            }
-            None => Err(FaultKind::UnknownDirective),
+        match directive {
+            UpsmonDirective::Monitor => self.monitors.put_apart(line),
+            UpsmonDirective::MinSupplies => self.min_supplies.put(line),
+            UpsmonDirective::ShutdownCmd => once(&mut self.shutdown_cmd, form, line),
+            UpsmonDirective::NotifyCmd => once(&mut self.notify_cmd, form, line),
+            UpsmonDirective::PowerDownFlag => once(&mut self.power_down_flag, form, line),
+            UpsmonDirective::PollFreq => self.poll_freq.put(line),
+            UpsmonDirective::DeadTime => self.dead_time.put(line),
+            UpsmonDirective::RbWarnTime => self.rb_warn_time.put(line),
+            UpsmonDirective::NoCommWarnTime => self.no_comm_warn_time.put(line),
+            UpsmonDirective::HostSync => self.host_sync.put(line),
+            UpsmonDirective::FinalDelay => self.final_delay.put(line),
+            UpsmonDirective::NotifyMsg => listed_apart(&mut self.messages, form, line, None),
+            UpsmonDirective::NotifyFlag => listed_apart(&mut self.handlings, form, line, None),
         }
     }
 }
@@ -314,7 +247,7 @@ pub fn read_upsmon(alloc: Global, bytes: &[u8]) -> Result<UpsmonConf, ConfFault>
     ensures memory { IfErr result (λ fault. fault.kind ≡ FaultKind.Memory → MayRunOut upsmon_fault upsmon_grows bytes.now fault.line) }
 {
     let conf: UpsmonConf = read_draft(alloc, bytes)?;
-    if lacks_power(conf.monitors.lines.as_slice(), conf.min_supplies()) {
+    if lacks_power(conf.monitors.lines.as_slice(), conf.min_supplies.value) {
         return Err(ConfFault {
             line: 0,
             kind: FaultKind::PastLimit,

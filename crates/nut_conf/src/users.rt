@@ -1,12 +1,15 @@
 //! The file upsd.users.
-ghost use Rattle.std.specs.Prelude.{◌≡◌, [], None, IfErr, MatchOption, map, codes};
+ghost use Rattle.std.specs.Prelude.{◌≡◌, [], IfErr, map, codes};
 ghost use Rattle.std.specs.Str.{bytes_eq};
 ghost use Rattle.std.specs.Char.{to_ascii_lowercase};
 ghost use Rattle.std.specs.Option.{option_copied};
 ghost use Rattle.nut_conf.specs.Files.{Means, read_file};
 ghost use Rattle.nut_conf.specs.Memory.{MayRunOut};
 ghost use Rattle.nut_conf.specs.Users.{UsersConfHolds, users_fault, users_conf_grows, user_named, has_password as password_is, may_act as may_take, may_command as may_give, covers as covers_name, action_word};
+ghost use Rattle.nut_conf.specs.Rows.{lengths_of};
+ghost use Rattle.nut_conf.specs.declared.users.User.{User as UserFields};
 
+use crate::directives::Directives;
 use crate::draft::Draft;
 use crate::fault::{ConfFault, FaultKind};
 use crate::file::read_draft;
@@ -140,6 +143,11 @@ impl UsersConf {
     }
 }
 
+/// States a law and does nothing when called: the least and the greatest length of a password.
+pub fn user_limits()
+    ensures { lengths_of (λ (u : UserFields). u.password) ≡ (1, 128) }
+{}
+
 /// The directives of a section.
 #[derive(Clone, Copy)]
 pub enum UserDirective {
@@ -149,37 +157,21 @@ pub enum UserDirective {
     Upsmon,
 }
 
-impl UserDirective {
-    ghost use Rattle.nut_conf.specs.Settings.{directive_of};
-    ghost use Rattle.nut_conf.specs.Users.{user_directive, user_directives};
-
-    fn of(word: &[u8]) -> Option<Self>
-        ensures { MatchOption result (directive_of word.now user_directives ≡ None) (λ d. word.now ≡ (user_directive d).word) }
-    {
-        if word == b"password".as_slice() {
-            Some(UserDirective::Password)
-        } else if word == b"actions".as_slice() {
-            Some(UserDirective::Actions)
-        } else if word == b"instcmds".as_slice() {
-            Some(UserDirective::Instcmds)
-        } else if word == b"upsmon".as_slice() {
-            Some(UserDirective::Upsmon)
-        } else {
-            None
-        }
-    }
-}
+/// Each directive, with its word.
+const DIRECTIVES: [(&[u8], UserDirective); 4] = [
+    (b"password", UserDirective::Password),
+    (b"actions", UserDirective::Actions),
+    (b"instcmds", UserDirective::Instcmds),
+    (b"upsmon", UserDirective::Upsmon),
+];
 
 impl FromValues for Action {
     ghost use Rattle.std.specs.Prelude.{[], ◌∷◌, codes};
     ghost use Rattle.nut_conf.specs.Users.{action_setting, action_value};
-    ghost use Rattle.nut_conf.specs.inside.Spares.{word_value_spares};
 
     ghost setting = { action_setting };
 
     ghost reads = { action_value };
-
-    ghost spares = { word_value_spares (codes "SET" ∷ codes "FSD" ∷ []) };
 
     fn from_values(values: &Values<'_, '_>) -> Result<Self, FaultKind> {
         let word = values.one()?;
@@ -201,13 +193,10 @@ fn is_all(word: &[u8]) -> bool
 
 impl FromValues for Commands {
     ghost use Rattle.nut_conf.specs.Users.{commands_setting, commands_value};
-    ghost use Rattle.nut_conf.specs.inside.Spares.{commands_value_spares};
 
     ghost setting = { commands_setting };
 
     ghost reads = { commands_value };
-
-    ghost spares = { commands_value_spares };
 
     fn from_values(values: &Values<'_, '_>) -> Result<Self, FaultKind> {
         let word = values.one()?;
@@ -221,7 +210,7 @@ impl FromValues for Commands {
 
 impl Role {
     ghost use Rattle.std.specs.Prelude.{[], ◌∷◌};
-    ghost use Rattle.nut_conf.specs.Faults.{Reads};
+    ghost use Rattle.nut_conf.specs.Faults.{Reads, Spares};
     ghost use Rattle.nut_conf.specs.Values.{one_of};
     ghost use Rattle.nut_conf.specs.Users.{role_word};
 
@@ -231,7 +220,8 @@ impl Role {
     ///
     /// `UnknownWord` for anything else.
     pub fn read(word: &[u8]) -> Result<Self, FaultKind>
-        ensures { Reads role_word result (one_of (codes "primary" ∷ codes "secondary" ∷ []) word.now) }
+        ensures reads { Reads role_word result (one_of (codes "primary" ∷ codes "secondary" ∷ []) word.now) }
+        ensures spares { Spares result }
     {
         if word == b"primary".as_slice() {
             Ok(Role::Primary)
@@ -246,30 +236,33 @@ impl Role {
 impl FromValues for Role {
     ghost use Rattle.std.specs.Prelude.{[], ◌∷◌, codes};
     ghost use Rattle.nut_conf.specs.Users.{role_setting, role_value};
-    ghost use Rattle.nut_conf.specs.inside.Spares.{word_value_spares};
 
     ghost setting = { role_setting };
 
     ghost reads = { role_value };
-
-    ghost spares = { word_value_spares (codes "primary" ∷ codes "secondary" ∷ []) };
 
     fn from_values(values: &Values<'_, '_>) -> Result<Self, FaultKind> {
         Role::read(values.one()?)
     }
 }
 
-impl Draft for User {
-    ghost use Rattle.nut_conf.specs.Settings.{line_fault};
-    ghost use Rattle.nut_conf.specs.Users.{UserHolds, user_directives, user_grows};
+impl Directives for User {
+    ghost use Rattle.nut_conf.specs.Users.{user_row, user_rows};
+    ghost use Rattle.nut_conf.specs.inside.Found.{user_found};
 
-    ghost fault = { line_fault user_directives };
+    type Directive = UserDirective;
 
-    ghost grows = { user_grows };
+    ghost all = { user_rows };
 
-    ghost Holds = { UserHolds };
+    ghost table = { user_row };
 
-    fn new(alloc: Global) -> Self {
+    ghost found = { user_found };
+
+    fn rows() -> &'static [(&'static [u8], UserDirective)] {
+        &DIRECTIVES
+    }
+
+    fn unset(alloc: Global) -> Self {
         User {
             password: None,
             actions: Vec::new(alloc),
@@ -278,15 +271,14 @@ impl Draft for User {
         }
     }
 
-    fn put(&mut self, line: &Line<'_>) -> Result<(), FaultKind> {
-        match UserDirective::of(line.directive()) {
-            Some(UserDirective::Password) => once(&mut self.password, Form::Assigned, line),
-            Some(UserDirective::Actions) => listed(&mut self.actions, Form::Assigned, line, None),
-            Some(UserDirective::Instcmds) => {
+    fn set(&mut self, directive: UserDirective, line: &Line<'_>) -> Result<(), FaultKind> {
+        match directive {
+            UserDirective::Password => once(&mut self.password, Form::Assigned, line),
+            UserDirective::Actions => listed(&mut self.actions, Form::Assigned, line, None),
+            UserDirective::Instcmds => {
                 listed(&mut self.instcmds, Form::Assigned, line, Some(INSTCMDS_MAX))
             }
-            Some(UserDirective::Upsmon) => once(&mut self.upsmon, Form::Plain, line),
-            None => Err(FaultKind::UnknownDirective),
+            UserDirective::Upsmon => once(&mut self.upsmon, Form::Plain, line),
         }
     }
 }

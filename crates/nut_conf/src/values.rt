@@ -2,7 +2,7 @@
 ghost use Rattle.std.specs.Prelude.{◌≡◌, ◌<◌, [], IfOk, IsTrue, length, slice_index_or};
 ghost use Rattle.std.specs.List.{list_all};
 ghost use Rattle.nut_words.specs.Spelling.{is_printing};
-ghost use Rattle.nut_conf.specs.Faults.{Reads};
+ghost use Rattle.nut_conf.specs.Faults.{Reads, Spares};
 ghost use Rattle.nut_conf.specs.Values.{one, values_of};
 
 use crate::fault::FaultKind;
@@ -38,7 +38,8 @@ impl<'a, 'b> Model for Values<'a, 'b> {
 impl<'a, 'b> Values<'a, 'b> {
     /// Returns the values of a line of this form, or `BadForm` if an `=` is missing.
     pub fn of(form: Form, line: &'a Line<'b>) -> Result<Self, FaultKind>
-        ensures { Reads (λ values. values) result (values_of form line.now.words) }
+        ensures reads { Reads (λ values. values) result (values_of form line.now.words) }
+        ensures spares { Spares result }
     {
         match form {
             Form::Plain => Ok(Values { line, first: 1 }),
@@ -72,6 +73,7 @@ impl<'a, 'b> Values<'a, 'b> {
     pub fn one(&self) -> Result<&'a [u8], FaultKind>
         ensures value { Reads (λ value. value.now) result (one self.now) }
         ensures printing { IfOk result (λ value. IsTrue (list_all is_printing value.now)) }
+        ensures spares { Spares result }
     {
         if self.len() == 1 {
             Ok(self.get(0))

@@ -6,7 +6,7 @@ use Rattle.nut_words.specs.Lines.{lines_after}
 use Rattle.nut_link.specs.Hearing.{RunsOut}
 use Rattle.nut_link.specs.Link.{LinkValue, answer_by}
 use Rattle.nut_link.specs.declared.fault.LinkFault.{LinkFault}
-use Rattle.nut_link.specs.declared.fault.LinkFault.TheVariants.{NotMine, BadLine, OutOfOrder, Memory, BadQuery, TooMuchTaken}
+use Rattle.nut_link.specs.declared.fault.LinkFault.TheVariants.{Memory}
 use Rattle.nut_words.specs.declared.limits.TheConstants.{PIECE_MAX}
 use Rattle.nut_monitor_spec.specs.Acceptance.{is_linked, refusal, watch_at}
 use Rattle.nut_monitor_spec.specs.Content.{Watch, Content}
@@ -28,12 +28,8 @@ some_of None h = absurd (false≢true h)
 some_of (Some v) h = (v, refl)
 
 memory_is : (f : LinkFault) → is_memory f ≡ true → f ≡ Memory
-memory_is NotMine h = absurd (false≢true h)
-memory_is BadLine h = absurd (false≢true h)
-memory_is OutOfOrder h = absurd (false≢true h)
 memory_is Memory h = refl
-memory_is BadQuery h = absurd (false≢true h)
-memory_is TooMuchTaken h = absurd (false≢true h)
+memory_is _ h = absurd (false≢true h)
 
 lacking : (r : Result (Unit {0}) LinkFault) (f : Option LinkFault) → r ≡ answer_by f → lacks_memory r ≡ true → f ≡ Some Memory
 lacking r None is h = absurd (false≢true (sym (ap lacks_memory is) ∙ h))

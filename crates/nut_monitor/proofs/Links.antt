@@ -19,13 +19,13 @@ use Rattle.nut_link.specs.declared.expected.Expected.{Expected}
 use Rattle.nut_link.specs.declared.expected.Expected.TheVariants as expects
 use Rattle.nut_link.specs.declared.expected.More.TheVariants as mores
 use Rattle.nut_link.specs.declared.fault.LinkFault.{LinkFault}
-use Rattle.nut_link.specs.declared.fault.LinkFault.TheVariants.{NotMine, BadLine, OutOfOrder, Memory, BadQuery, TooMuchTaken}
+use Rattle.nut_link.specs.declared.fault.LinkFault.TheVariants.{NotMine, BadLine, OutOfOrder, Memory}
 use Rattle.nut_link.specs.declared.outcome.Outcome.{Outcome}
 use Rattle.nut_link.specs.declared.outcome.Outcome.TheVariants as outcomes
 use Rattle.nut_proto.specs.declared.limits.TheConstants.{ROWS_MAX}
 use Rattle.nut_monitor_spec.specs.declared.LastQuery.{LastQuery}
 use Rattle.nut_monitor_spec.specs.declared.Query.{Query}
-use Rattle.nut_monitor_spec.specs.declared.Query.TheVariants.{Username, Password, Login, Primary, Status, Fsd, NumLogins}
+use Rattle.nut_monitor_spec.specs.declared.Query.TheVariants.{NumLogins}
 use Rattle.nut_monitor.specs.inside.Hearing.{IsFed}
 use Rattle.nut_monitor.specs.inside.Sound.{ExpectsCount, IsCount, IsCountAfter, IsSoundLink, IsSoundStage}
 use Rattle.nut_monitor.proofs.Counts.{left_true, right_true}
@@ -51,13 +51,10 @@ row_count q true ws h = h refl
 row_count q false ws h = tt
 
 first_count : (q : Asked) (heading : List (List ℕ)) (a : Answer) → FineResult NumLogins (stage_after q (first (expects.Line heading mores.Number) a))
-first_count q heading (answers.Ok words) = tt
-first_count q heading (answers.Err name) = tt
-first_count q heading (answers.Begin words) = tt
-first_count q heading (answers.End words) = tt
 first_count q heading (answers.Row words) =
     let ws = drop (length heading) words in
     row_count q (is_line heading mores.Number words) ws (λ e. said_count ws (right_true (length ws == 1) (list_all is_natural ws) (right_true (begins heading words) (has_more mores.Number ws) e)))
+first_count q heading _ = tt
 
 fine_if : (q : Asked) (b : Bool) (r : Result Progress LinkFault) → FineResult NumLogins (stage_after q r) → FineResult NumLogins (stage_after q (if b then r else Err OutOfOrder))
 fine_if q true r h = h
@@ -69,50 +66,22 @@ asked_count q a h =
     ap (λ e. progress e q.rows a) h.0.1 ∙ ap (λ rows. progress (expects.Line h.0.0 mores.Number) rows a) h.1 in
     fine_if q (length q.waits == 0) (progress q.expected q.rows a) (subst (λ r. FineResult NumLogins (stage_after q r)) (sym same) (first_count q h.0.0 a))
 
-fine_username : (q : Asked) (r : Result Progress LinkFault) → FineResult Username (stage_after q r)
-fine_username q (Ok (Listing rows)) = tt
-fine_username q (Ok (Complete outcome)) = tt
-fine_username q (Err fault) = tt
-
-fine_password : (q : Asked) (r : Result Progress LinkFault) → FineResult Password (stage_after q r)
-fine_password q (Ok (Listing rows)) = tt
-fine_password q (Ok (Complete outcome)) = tt
-fine_password q (Err fault) = tt
-
-fine_login : (q : Asked) (r : Result Progress LinkFault) → FineResult Login (stage_after q r)
-fine_login q (Ok (Listing rows)) = tt
-fine_login q (Ok (Complete outcome)) = tt
-fine_login q (Err fault) = tt
-
-fine_primary : (q : Asked) (r : Result Progress LinkFault) → FineResult Primary (stage_after q r)
-fine_primary q (Ok (Listing rows)) = tt
-fine_primary q (Ok (Complete outcome)) = tt
-fine_primary q (Err fault) = tt
-
-fine_status : (q : Asked) (r : Result Progress LinkFault) → FineResult Status (stage_after q r)
-fine_status q (Ok (Listing rows)) = tt
-fine_status q (Ok (Complete outcome)) = tt
-fine_status q (Err fault) = tt
-
-fine_fsd : (q : Asked) (r : Result Progress LinkFault) → FineResult Fsd (stage_after q r)
-fine_fsd q (Ok (Listing rows)) = tt
-fine_fsd q (Ok (Complete outcome)) = tt
-fine_fsd q (Err fault) = tt
+-- A line that answers another query than that for the logins may say anything.
+fine_result : (query : Query) (q : Asked) (r : Result Progress LinkFault) → (query ≡ NumLogins → FineResult query (stage_after q r)) → FineResult query (stage_after q r)
+fine_result NumLogins q r count = count refl
+fine_result _ q (Ok (Listing rows)) count = tt
+fine_result _ q (Ok (Complete outcome)) count = tt
+fine_result _ q (Err fault) count = tt
 
 fine_asked : (query : Query) (q : Asked) (a : Answer) → ExpectsCount query q → FineResult query (stage_after q (progress_of q a))
-fine_asked Username q a h = fine_username q (progress_of q a)
-fine_asked Password q a h = fine_password q (progress_of q a)
-fine_asked Login q a h = fine_login q (progress_of q a)
-fine_asked Primary q a h = fine_primary q (progress_of q a)
-fine_asked Status q a h = fine_status q (progress_of q a)
-fine_asked Fsd q a h = fine_fsd q (progress_of q a)
-fine_asked NumLogins q a h = asked_count q a h
+fine_asked query q a h =
+    fine_result query q (progress_of q a) (λ is.
+    let P : Query → Type 0 = λ k. ExpectsCount k q → FineResult k (stage_after q (progress_of q a)) in subst P (sym is) (asked_count q a) h)
 
 fine_read : (query : Query) (s : Stage) (r : Result Answer AnswerFault) → Fine query s → FineResult query (on_read s r)
-fine_read query s (Err fault) h = tt
-fine_read query stages.Idle (Ok a) h = tt
-fine_read query (stages.Answered outcome) (Ok a) h = tt
 fine_read query (stages.Asked q) (Ok a) h = fine_asked query q a h
+fine_read query _ (Ok a) h = tt
+fine_read query _ (Err fault) h = tt
 
 fine_line : (query : Query) (s : Stage) (l : LineText) → Fine query s → FineResult query (on_line s l)
 fine_line query s TooLong h = tt
@@ -177,12 +146,8 @@ fed_sound (Some last) v p done r w sound feeds going = record { going = going; s
 -- ---- no line says that memory is lacking
 
 abbrev NotMemory : LinkFault → Type 0
-NotMemory NotMine = Unit {0}
-NotMemory BadLine = Unit {0}
-NotMemory OutOfOrder = Unit {0}
 NotMemory Memory = ⊥
-NotMemory BadQuery = Unit {0}
-NotMemory TooMuchTaken = Unit {0}
+NotMemory _ = Unit {0}
 
 abbrev Fed : {A : Type 0} → Result A LinkFault → Type 0
 Fed (Ok x) = Unit {0}
@@ -203,68 +168,18 @@ nm_any true p q = tt
 nm_any false p q = tt
 
 nm_first : (e : Expected) (a : Answer) → Fed (first e a)
+nm_first e (answers.Err name) = tt
 nm_first expects.Success (answers.Ok words) = tt
-nm_first expects.Success (answers.Err name) = tt
-nm_first expects.Success (answers.Begin words) = tt
-nm_first expects.Success (answers.End words) = tt
-nm_first expects.Success (answers.Row words) = tt
 nm_first expects.NumberedSuccess (answers.Ok words) = nm_any (is_numbered words) (outcomes.Said (drop 1 words)) outcomes.Done
-nm_first expects.NumberedSuccess (answers.Err name) = tt
-nm_first expects.NumberedSuccess (answers.Begin words) = tt
-nm_first expects.NumberedSuccess (answers.End words) = tt
-nm_first expects.NumberedSuccess (answers.Row words) = tt
-nm_first (expects.Line heading more) (answers.Ok words) = tt
-nm_first (expects.Line heading more) (answers.Err name) = tt
-nm_first (expects.Line heading more) (answers.Begin words) = tt
-nm_first (expects.Line heading more) (answers.End words) = tt
 nm_first (expects.Line heading more) (answers.Row words) = nm_if (is_line heading more words) (Ok (Complete (outcomes.Said (drop (length heading) words)))) tt
-nm_first expects.AnyLine (answers.Ok words) = tt
-nm_first expects.AnyLine (answers.Err name) = tt
-nm_first expects.AnyLine (answers.Begin words) = tt
-nm_first expects.AnyLine (answers.End words) = tt
 nm_first expects.AnyLine (answers.Row words) = tt
-nm_first (expects.Listing heading count) (answers.Ok words) = tt
-nm_first (expects.Listing heading count) (answers.Err name) = tt
 nm_first (expects.Listing heading count) (answers.Begin words) = nm_if (is_heading heading words) (Ok (Listing [])) tt
-nm_first (expects.Listing heading count) (answers.End words) = tt
-nm_first (expects.Listing heading count) (answers.Row words) = tt
-nm_first expects.Refusal (answers.Ok words) = tt
-nm_first expects.Refusal (answers.Err name) = tt
-nm_first expects.Refusal (answers.Begin words) = tt
-nm_first expects.Refusal (answers.End words) = tt
-nm_first expects.Refusal (answers.Row words) = tt
+nm_first e answer = tt
 
 nm_next : (e : Expected) (rows : List (List (List ℕ))) (a : Answer) → Fed (next e rows a)
-nm_next expects.Success rows (answers.Ok words) = tt
-nm_next expects.Success rows (answers.Err name) = tt
-nm_next expects.Success rows (answers.Begin words) = tt
-nm_next expects.Success rows (answers.End words) = tt
-nm_next expects.Success rows (answers.Row words) = tt
-nm_next expects.NumberedSuccess rows (answers.Ok words) = tt
-nm_next expects.NumberedSuccess rows (answers.Err name) = tt
-nm_next expects.NumberedSuccess rows (answers.Begin words) = tt
-nm_next expects.NumberedSuccess rows (answers.End words) = tt
-nm_next expects.NumberedSuccess rows (answers.Row words) = tt
-nm_next (expects.Line heading more) rows (answers.Ok words) = tt
-nm_next (expects.Line heading more) rows (answers.Err name) = tt
-nm_next (expects.Line heading more) rows (answers.Begin words) = tt
-nm_next (expects.Line heading more) rows (answers.End words) = tt
-nm_next (expects.Line heading more) rows (answers.Row words) = tt
-nm_next expects.AnyLine rows (answers.Ok words) = tt
-nm_next expects.AnyLine rows (answers.Err name) = tt
-nm_next expects.AnyLine rows (answers.Begin words) = tt
-nm_next expects.AnyLine rows (answers.End words) = tt
-nm_next expects.AnyLine rows (answers.Row words) = tt
-nm_next (expects.Listing heading count) rows (answers.Ok words) = tt
-nm_next (expects.Listing heading count) rows (answers.Err name) = tt
-nm_next (expects.Listing heading count) rows (answers.Begin words) = tt
-nm_next (expects.Listing heading count) rows (answers.End words) = nm_if (is_heading heading words) (Ok (Complete (outcomes.List rows))) tt
 nm_next (expects.Listing heading count) rows (answers.Row words) = nm_row heading count rows words (is_row heading count words) (nat_lt (length rows) ROWS_MAX)
-nm_next expects.Refusal rows (answers.Ok words) = tt
-nm_next expects.Refusal rows (answers.Err name) = tt
-nm_next expects.Refusal rows (answers.Begin words) = tt
-nm_next expects.Refusal rows (answers.End words) = tt
-nm_next expects.Refusal rows (answers.Row words) = tt
+nm_next (expects.Listing heading count) rows (answers.End words) = nm_if (is_heading heading words) (Ok (Complete (outcomes.List rows))) tt
+nm_next e rows answer = tt
 
 nm_progress : (e : Expected) (rows : Option (List (List (List ℕ)))) (a : Answer) → Fed (progress e rows a)
 nm_progress e None a = nm_first e a
@@ -280,10 +195,9 @@ nm_stage q (Ok (Complete outcome)) h = tt
 nm_stage q (Err fault) h = h
 
 nm_read : (s : Stage) (r : Result Answer AnswerFault) → Fed (on_read s r)
-nm_read s (Err fault) = tt
-nm_read stages.Idle (Ok a) = tt
-nm_read (stages.Answered outcome) (Ok a) = tt
 nm_read (stages.Asked q) (Ok a) = nm_stage q (progress_of q a) (nm_taken (length q.waits == 0) (progress q.expected q.rows a) (nm_progress q.expected q.rows a))
+nm_read _ (Ok a) = tt
+nm_read _ (Err fault) = tt
 
 nm_line : (s : Stage) (l : LineText) → Fed (on_line s l)
 nm_line s TooLong = tt

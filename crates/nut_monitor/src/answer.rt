@@ -11,11 +11,14 @@ ghost use Rattle.nut_monitor.specs.inside.Sound.{IsCount, with_flags};
 ghost use Rattle.nut_monitor_spec.specs.declared.Communication.TheVariants as communications;
 
 use crate::flags::{no_flags, read_flags};
-use crate::notices::{ANSWER_NOTICES_MAX, Notices};
+use crate::notices::Notices;
 use crate::time::is_over;
 use nut_conf::{Notice as Kind, Number, UpsmonConf};
 use nut_link::{Fields, Outcome};
 use nut_monitor_spec::{Communication, Known, NOTICES_MAX, Notice, Query, StatusFlags};
+
+/// The greatest number of notices that one answer gives, without that of a loss of its link: those of a status.
+pub const ANSWER_NOTICES_MAX: usize = 6;
 
 /// The line and the time at which an answer is heard.
 #[derive(Clone, Copy)]
@@ -61,9 +64,9 @@ fn had(known: Known) -> StatusFlags
 fn tells_replace(config: &UpsmonConf, clock: u64, known: Known, flags: StatusFlags) -> bool
     ensures { result ≡ replaces (configuration_of config.now) clock known.replace_told known.flags flags }
 {
+    let pause = u64::from(config.rb_warn_time.value);
     flags.replace_battery
-        && (!had(known).replace_battery
-            || is_over(u64::from(config.rb_warn_time()), clock, known.replace_told))
+        && (!had(known).replace_battery || is_over(pause, clock, known.replace_told))
 }
 
 /// Queues the notices that a status gives.

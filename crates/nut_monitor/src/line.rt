@@ -14,8 +14,8 @@ ghost use Rattle.nut_monitor.specs.inside.Hearing.{HearsPiece, IsFed};
 ghost use Rattle.nut_monitor.specs.inside.Inside.{to_lose, unwatched};
 ghost use Rattle.nut_monitor.specs.inside.Sound.{IsCountAfter, IsSound};
 
-use crate::answer::{Scene, hear, on_line, tell_loss, with_loss};
-use crate::notices::{ANSWER_NOTICES_MAX, Notices};
+use crate::answer::{ANSWER_NOTICES_MAX, Scene, hear, on_line, tell_loss, with_loss};
+use crate::notices::Notices;
 use crate::query::{next_query, request};
 use crate::time::{is_over, is_past};
 use nut_conf::{Monitored, Notice as Kind, UpsmonConf};
@@ -130,7 +130,7 @@ fn tell_silence(
     ensures few { length notices.new ≤ length notices.old + 1 }
     ensures told { notices.new ≡ notices.old ++ when result (told_of kinds.Nocomm line) }
 {
-    let warning = u64::from(config.no_comm_warn_time());
+    let warning = u64::from(config.no_comm_warn_time.value);
     let silent = is_past(warning, clock, known.polled)
         && is_over(warning, clock, known.silence_told);
     notices.tell_when(silent, on_line(Kind::Nocomm, line));

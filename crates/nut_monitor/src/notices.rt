@@ -7,9 +7,6 @@ use std::alloc::{AllocError, Global};
 use std::collections::VecDeque;
 use std::marker::Model;
 
-/// The greatest number of notices that one answer gives, without that of a loss of its link: those of a status.
-pub const ANSWER_NOTICES_MAX: usize = 6;
-
 /// The notices that wait, the oldest first, with room for all that may wait.
 #[derive(Drop)]
 pub struct Notices {

@@ -54,7 +54,7 @@ fn interval(config: &UpsmonConf, query: Query) -> u64
 {
     match query {
         Query::Username | Query::Password | Query::Login | Query::Primary => 0,
-        Query::Status => u64::from(config.poll_freq()),
+        Query::Status => u64::from(config.poll_freq.value),
         Query::Fsd | Query::NumLogins => 1,
     }
 }

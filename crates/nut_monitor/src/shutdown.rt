@@ -20,8 +20,8 @@ fn is_critical(config: &UpsmonConf, line: &Monitored, clock: u64, known: Known) 
         return false;
     };
     let low = flags.on_battery && flags.low_battery && !flags.calibrating;
-    let waited = is_primary(line) || is_past(u64::from(config.host_sync()), clock, known.calm);
-    let dead = is_past(u64::from(config.dead_time()), clock, known.polled);
+    let waited = is_primary(line) || is_past(u64::from(config.host_sync.value), clock, known.calm);
+    let dead = is_past(u64::from(config.dead_time.value), clock, known.polled);
     flags.forced_shutdown || (low && waited) || (flags.on_battery && dead)
 }
 
@@ -44,7 +44,7 @@ pub fn is_short(config: &UpsmonConf, clock: u64, watches: &[MonitorLine]) -> boo
 {
     let monitors = &config.monitors;
     let lines = monitors.lines.as_slice();
-    let mut missing = config.min_supplies();
+    let mut missing = config.min_supplies.value;
     for i in 0..watches.len() {
         missing = missing.saturating_sub(power(config, &lines[i], clock, watches[i].known()));
     }
@@ -83,7 +83,7 @@ pub fn is_over_by(config: &UpsmonConf, clock: u64, alone: bool, begun: Option<u6
     ensures { result ≡ over_by (configuration_of config.now) clock alone begun }
 {
     match begun {
-        Some(begun) => alone || is_past(u64::from(config.host_sync()), clock, begun),
+        Some(begun) => alone || is_past(u64::from(config.host_sync.value), clock, begun),
         None => false,
     }
 }
@@ -114,7 +114,7 @@ pub fn phase(config: &UpsmonConf, clock: u64, begun: Option<u64>, ended: Option<
             Phase::Watching
         };
     };
-    if is_within(u64::from(config.final_delay()), clock, ended) {
+    if is_within(u64::from(config.final_delay.value), clock, ended) {
         return Phase::Final;
     }
     Phase::Halted {

@@ -5,9 +5,9 @@ use Rattle.std.proofs.lemmas.List.{take-append-drop}
 use Rattle.std.proofs.Math.ListN.{drop_of_length-le}
 use Rattle.nut_words.specs.Lines.{rest}
 use Rattle.nut_link.specs.Link.{LinkValue}
-use Rattle.nut_monitor_spec.specs.declared.MonitorFault.TheVariants.{NoSuchLink, WrongLinkState, PieceTooLong, TooMuchTaken, Busy, Memory}
+use Rattle.nut_monitor_spec.specs.declared.MonitorFault.TheVariants.{Memory}
 use Rattle.nut_monitor_spec.specs.Configuration.{Configuration, line_in}
-use Rattle.nut_monitor_spec.specs.Event.{Event, Moment, Linked, LinkBytes, LinkLost, LinkTook, OutOfMemory, NoticeTaken}
+use Rattle.nut_monitor_spec.specs.Event.{Event, LinkBytes, OutOfMemory}
 use Rattle.nut_monitor_spec.specs.Trace.{Asked, Entry, earliest, clock, moment_of, linked, input, taken, queries, answers, number, outstanding, due, waits, trace, is_short, is_over_at, entry_of}
 use Rattle.nut_monitor_spec.specs.Content.{Content, stage_in, watch, content}
 use Rattle.nut_monitor_spec.specs.Acceptance.{Accepts, Tells, answer_on, is_linked, waiting_on, waits_on}
@@ -29,28 +29,13 @@ one-more configuration events s event told accepted =
 lacking : (configuration : Configuration) (events : List Event) (s : Content) (event : Event) (link : Option ℕ) (k : ℕ) → Tells configuration events s →
     IsRefusal s event (Memory link k) → Tells configuration (after {U = Unit {0}} (Err (Memory link k)) event events) (content_after {U = Unit {0}} (Err (Memory link k)) s event)
 lacking configuration events s (LinkBytes i piece) (Some j) k told is = one-more configuration events s (OutOfMemory i piece k) told (is.0, tt)
-lacking configuration events s (LinkBytes i piece) None k told is = absurd is.1
-lacking configuration events s (Moment t) (Some j) k told is = absurd is.1
-lacking configuration events s (Moment t) None k told is = absurd is.1
-lacking configuration events s (Linked i) (Some j) k told is = absurd is.1
-lacking configuration events s (Linked i) None k told is = absurd is.1
-lacking configuration events s (LinkLost i) (Some j) k told is = absurd is.1
-lacking configuration events s (LinkLost i) None k told is = absurd is.1
-lacking configuration events s (LinkTook i n) (Some j) k told is = absurd is.1
-lacking configuration events s (LinkTook i n) None k told is = absurd is.1
-lacking configuration events s (OutOfMemory i piece n) (Some j) k told is = absurd is.1
-lacking configuration events s (OutOfMemory i piece n) None k told is = absurd is.1
-lacking configuration events s NoticeTaken (Some j) k told is = absurd is.1
-lacking configuration events s NoticeTaken None k told is = absurd is.1
+lacking configuration events s _ (Some j) k told is = absurd is.1
+lacking configuration events s _ None k told is = absurd is.1
 
 pub answers-keep : AnswersKeepContent
 answers-keep configuration events s event (Ok u) told is = one-more configuration events s event told is
 answers-keep configuration events s event (Err (Memory link k)) told is = lacking configuration events s event link k told is
-answers-keep configuration events s event (Err NoSuchLink) told is = told
-answers-keep configuration events s event (Err WrongLinkState) told is = told
-answers-keep configuration events s event (Err PieceTooLong) told is = told
-answers-keep configuration events s event (Err TooMuchTaken) told is = told
-answers-keep configuration events s event (Err Busy) told is = told
+answers-keep configuration events s event (Err _) told is = told
 
 -- ---- links
 

@@ -4,7 +4,7 @@ use Rattle.std.proofs.lemmas.Bool.{ltb-true}
 use Rattle.std.proofs.lemmas.List.{drop-append-le}
 use Rattle.nut_monitor_spec.specs.declared.Notice.{Notice}
 use Rattle.nut_monitor_spec.specs.Configuration.{Configuration}
-use Rattle.nut_monitor_spec.specs.Event.{Event, Moment, Linked, LinkBytes, LinkLost, LinkTook, OutOfMemory, NoticeTaken}
+use Rattle.nut_monitor_spec.specs.Event.{Event, NoticeTaken}
 use Rattle.nut_monitor_spec.specs.Trace.{Entry, trace, entry_of, notices, notices_taken, notices_waiting, taken_notice}
 use Rattle.nut_monitor_spec.specs.Acceptance.{IsAccepted}
 use Rattle.nut_monitor_spec.specs.Handing.{handed_by, notices_handed}
@@ -24,15 +24,10 @@ HandsOut configuration events event m =
     × (m ≤ length (notices_waiting past))
 
 hands_out : (configuration : Configuration) (events : List Event) (event : Event) → IsAccepted configuration (event ∷ events) → (m : ℕ) × HandsOut configuration events event m
-hands_out configuration events (Moment t) accepted = (0, (refl, omega arith, omega arith))
-hands_out configuration events (Linked i) accepted = (0, (refl, omega arith, omega arith))
-hands_out configuration events (LinkBytes i piece) accepted = (0, (refl, omega arith, omega arith))
-hands_out configuration events (LinkLost i) accepted = (0, (refl, omega arith, omega arith))
-hands_out configuration events (LinkTook i n) accepted = (0, (refl, omega arith, omega arith))
-hands_out configuration events (OutOfMemory i piece k) accepted = (0, (refl, omega arith, omega arith))
 hands_out configuration events NoticeTaken accepted =
     let past = trace configuration events in
     (1, (refl, refl, omega (arith, ltb-true 0 (length (notices_waiting past)) accepted.1.1)))
+hands_out configuration events _ accepted = (0, (refl, omega arith, omega arith))
 
 -- what was handed out and what waits are still all notices, after m more were handed out and others were added
 whole_with : (m : ℕ) (handed waiting more all : List Notice) → handed ++ waiting ≡ all → (handed ++ take m waiting) ++ (drop m waiting ++ more) ≡ all ++ more

@@ -32,40 +32,19 @@ tests-whole false outcome fault rows is = cc
 
 is-whole : (line : Line) (ask : Ask) (said : Said) (rows : List (List (List ℕ))) → progress (expected (request line ask)) None said ≡ Ok (Listing rows) → ⊥
 is-whole line Username (answers.Ok words) rows is = cc
-is-whole line Username (answers.Err name) rows is = cc
-is-whole line Username (answers.Begin words) rows is = cc
-is-whole line Username (answers.End words) rows is = cc
-is-whole line Username (answers.Row words) rows is = cc
+is-whole line Username _ rows is = cc
 is-whole line Password (answers.Ok words) rows is = cc
-is-whole line Password (answers.Err name) rows is = cc
-is-whole line Password (answers.Begin words) rows is = cc
-is-whole line Password (answers.End words) rows is = cc
-is-whole line Password (answers.Row words) rows is = cc
+is-whole line Password _ rows is = cc
 is-whole line Login (answers.Ok words) rows is = cc
-is-whole line Login (answers.Err name) rows is = cc
-is-whole line Login (answers.Begin words) rows is = cc
-is-whole line Login (answers.End words) rows is = cc
-is-whole line Login (answers.Row words) rows is = cc
+is-whole line Login _ rows is = cc
 is-whole line Primary (answers.Ok words) rows is = cc
-is-whole line Primary (answers.Err name) rows is = cc
-is-whole line Primary (answers.Begin words) rows is = cc
-is-whole line Primary (answers.End words) rows is = cc
-is-whole line Primary (answers.Row words) rows is = cc
-is-whole line Status (answers.Ok words) rows is = cc
-is-whole line Status (answers.Err name) rows is = cc
-is-whole line Status (answers.Begin words) rows is = cc
-is-whole line Status (answers.End words) rows is = cc
-is-whole line Status (answers.Row words) rows is = tests-whole _ _ _ rows is
+is-whole line Primary _ rows is = cc
 is-whole line Fsd (answers.Ok words) rows is = cc
-is-whole line Fsd (answers.Err name) rows is = cc
-is-whole line Fsd (answers.Begin words) rows is = cc
-is-whole line Fsd (answers.End words) rows is = cc
-is-whole line Fsd (answers.Row words) rows is = cc
-is-whole line NumLogins (answers.Ok words) rows is = cc
-is-whole line NumLogins (answers.Err name) rows is = cc
-is-whole line NumLogins (answers.Begin words) rows is = cc
-is-whole line NumLogins (answers.End words) rows is = cc
+is-whole line Fsd _ rows is = cc
+is-whole line Status (answers.Row words) rows is = tests-whole _ _ _ rows is
+is-whole line Status _ rows is = cc
 is-whole line NumLogins (answers.Row words) rows is = tests-whole _ _ _ rows is
+is-whole line NumLogins _ rows is = cc
 
 -- ---- one line
 

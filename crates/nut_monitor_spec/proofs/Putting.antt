@@ -3,9 +3,9 @@ use Rattle.std.proofs.Common.{◌≡◌, ℕ, Bool, true, false, ◌⊎◌, inl,
 use Rattle.std.proofs.lemmas.Bool.{and_parts}
 use Rattle.nut_monitor_spec.specs.declared.LastQuery.{LastQuery}
 use Rattle.nut_monitor_spec.specs.declared.Phase.{Phase}
-use Rattle.nut_monitor_spec.specs.declared.Phase.TheVariants.{Watching, Forcing, Final, Halted}
+use Rattle.nut_monitor_spec.specs.declared.Phase.TheVariants.{Forcing}
 use Rattle.nut_monitor_spec.specs.declared.Query.{Query}
-use Rattle.nut_monitor_spec.specs.declared.Query.TheVariants.{Username, Password, Login, Primary, Status, Fsd, NumLogins}
+use Rattle.nut_monitor_spec.specs.declared.Query.TheVariants.{Login, Primary, NumLogins}
 use Rattle.nut_monitor_spec.specs.Configuration.{Line, Configuration, line_in}
 use Rattle.nut_monitor_spec.specs.Decision.{opening, wanted, is_early, unless_early, first_of_both}
 use Rattle.nut_monitor_spec.specs.Trace.{Entry, clock, linked, outstanding, may_ask, last_query, forced, phase, queries, answers, trace}
@@ -32,13 +32,8 @@ opening-no_count line (Some last) is = by line.primary last.query last is
     primary-if false is = cc
 
     by : (primary : Bool) (query : Query) (last : LastQuery) → opening (record line { primary = primary }) (Some (record last { query = query })) ≡ Some NumLogins → ⊥
-    by primary Username last is = cc
-    by primary Password last is = cc
     by primary Login last is = primary-if primary is
-    by primary Primary last is = cc
-    by primary Status last is = cc
-    by primary Fsd last is = cc
-    by primary NumLogins last is = cc
+    by primary _ last is = cc
 
 first-some : (one other : Option Query) (query : Query) → first_of_both one other ≡ Some query → (one ≡ Some query) ⊎ (other ≡ Some query)
 first-some None other query is = inr is
@@ -54,12 +49,8 @@ unless-some configuration time (Some asked) last query is = by (is_early configu
     by false is = is
 
 wanted-count : (now : Phase) (primary done : Bool) → wanted now primary done ≡ Some NumLogins → (done ≡ true) × (primary ≡ true)
-wanted-count Watching primary done is = cc
 wanted-count Forcing true true is = (refl, refl)
-wanted-count Forcing true false is = cc
-wanted-count Forcing false done is = cc
-wanted-count Final primary done is = cc
-wanted-count (Halted flag) primary done is = cc
+wanted-count _ _ _ is = cc
 
 asked-if : (b : Bool) (query : Option Query) (asked : Query) → (if b then query else None) ≡ Some asked → query ≡ Some asked
 asked-if true query asked is = is

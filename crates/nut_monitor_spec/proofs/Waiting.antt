@@ -20,7 +20,7 @@ use Rattle.nut_monitor_spec.specs.declared.StatusFlags.{StatusFlags}
 use Rattle.nut_monitor_spec.specs.Configuration.{Line, Configuration}
 use Rattle.nut_monitor_spec.specs.Event.{Event, Moment, Linked, LinkBytes, LinkLost, LinkTook, OutOfMemory, NoticeTaken}
 use Rattle.nut_monitor_spec.specs.Query.{status_in, is_no_status, flags_of}
-use Rattle.nut_monitor_spec.specs.Decision.{is_bad, is_new, told, shutdown_told, when, tells_replace, status_notices, status_notices_in, loss_notices, next_query}
+use Rattle.nut_monitor_spec.specs.Decision.{is_bad, told, shutdown_told, when, status_notices, status_notices_in, loss_notices, next_query}
 use Rattle.nut_monitor_spec.specs.Trace.{trace}
 use Rattle.nut_monitor_spec.specs.Content.{Watch, Content, watch, for_each_line, content, phase_of}
 use Rattle.nut_monitor_spec.specs.Acceptance.{IsAccepted, refusal, bytes_refusal, busy, watch_at}
@@ -34,28 +34,12 @@ when-one : (b : Bool) (notice : Notice) → length (when b notice) ≤ 1
 when-one true notice = omega arith
 when-one false notice = omega arith
 
+when-more : (n : ℕ) (front : List Notice) (b : Bool) (notice : Notice) → length front ≤ n → length (front ++ when b notice) ≤ n + 1
+when-more n front b notice few = omega (arith, length-append front (when b notice), when-one b notice, few)
+
 status-six : (configuration : Configuration) (time i : ℕ) (known : Known) (flags : StatusFlags) → length (status_notices configuration time i known flags) ≤ 6
 status-six configuration time i known flags =
-    let a = when (is_bad known.communication) (told kinds.Commok i) in
-    let b = when (is_some known.flags && is_new (λ f. f.on_line) known.flags flags) (told kinds.Online i) in
-    let c = when (is_new (λ f. f.on_battery) known.flags flags) (told kinds.Onbatt i) in
-    let d = when (is_new (λ f. f.low_battery) known.flags flags) (told kinds.Lowbatt i) in
-    let e = when (is_new (λ f. f.forced_shutdown) known.flags flags) (told kinds.Fsd i) in
-    let f = when (tells_replace configuration time known.replace_told known.flags flags) (told kinds.Replbatt i) in
-    omega (
-      arith,
-      length-append (a ++ b ++ c ++ d ++ e) f,
-      length-append (a ++ b ++ c ++ d) e,
-      length-append (a ++ b ++ c) d,
-      length-append (a ++ b) c,
-      length-append a b,
-      when-one (is_bad known.communication) (told kinds.Commok i),
-      when-one (is_some known.flags && is_new (λ f. f.on_line) known.flags flags) (told kinds.Online i),
-      when-one (is_new (λ f. f.on_battery) known.flags flags) (told kinds.Onbatt i),
-      when-one (is_new (λ f. f.low_battery) known.flags flags) (told kinds.Lowbatt i),
-      when-one (is_new (λ f. f.forced_shutdown) known.flags flags) (told kinds.Fsd i),
-      when-one (tells_replace configuration time known.replace_told known.flags flags) (told kinds.Replbatt i),
-    )
+    when-more 5 _ _ _ (when-more 4 _ _ _ (when-more 3 _ _ _ (when-more 2 _ _ _ (when-more 1 _ _ _ (when-one (is_bad known.communication) (told kinds.Commok i))))))
 
 status-few : (configuration : Configuration) (time i : ℕ) (known : Known) (words : Option (List (List ℕ))) → length (status_notices_in configuration time i known words) ≤ 6
 status-few configuration time i known None = omega arith
@@ -63,13 +47,9 @@ status-few configuration time i known (Some words) = status-six configuration ti
 
 answer-few : (configuration : Configuration) (time i : ℕ) (last : Option LastQuery) (outcome : Option Outcome) (known : Known) →
     length (answer_told configuration time i last outcome known) ≤ 7
-answer-few configuration time i None None known = omega arith
-answer-few configuration time i None (Some outcome) known = omega arith
-answer-few configuration time i (Some last) None known = omega arith
 answer-few configuration time i (Some last) (Some outcome) known =
-    let first = status_notices_in configuration time i known (status_in last.query outcome) in
-    let b = is_no_status last.query outcome && not (is_bad known.communication) in
-    omega (arith, length-append first (when b (told kinds.Commbad i)), status-few configuration time i known (status_in last.query outcome), when-one b (told kinds.Commbad i))
+    when-more 6 _ (is_no_status last.query outcome && not (is_bad known.communication)) (told kinds.Commbad i) (status-few configuration time i known (status_in last.query outcome))
+answer-few configuration time i _ _ known = omega arith
 
 loss-if : (b : Bool) (i : ℕ) (communication : Communication) → length (let ns : List Notice = if b then loss_notices i communication else [] in ns) ≤ 1
 loss-if true i communication = when-one (not (is_bad communication)) (told kinds.Commbad i)

@@ -4,7 +4,6 @@ use Rattle.nut_conf.specs.declared.monitor.Monitored.{Monitored}
 use Rattle.nut_conf.specs.declared.upsmon.UpsmonConf.{UpsmonConf}
 use Rattle.nut_conf.specs.declared.users.Role.{Role}
 use Rattle.nut_conf.specs.declared.users.Role.TheVariants as roles
-use Rattle.nut_conf.specs.Upsmon.{min_supplies_of, poll_freq_of, dead_time_of, host_sync_of, final_delay_of, rb_warn_time_of, no_comm_warn_time_of}
 
 -- A MONITOR line: the name of the UPS at its server, how many power supplies of this machine it feeds, the user, the
 -- password, and whether this machine is the primary of the UPS, which shuts down last.
@@ -59,11 +58,11 @@ line_of m = record {
 abbrev pub configuration_of : UpsmonConf → Configuration
 configuration_of c = record {
   lines = map line_of c.monitors.lines.items;
-  min_supplies = min_supplies_of c;
-  poll_freq = poll_freq_of c;
-  dead_time = dead_time_of c;
-  host_sync = host_sync_of c;
-  final_delay = final_delay_of c;
-  rb_warn_time = rb_warn_time_of c;
-  no_comm_warn_time = no_comm_warn_time_of c;
+  min_supplies = c.min_supplies.value;
+  poll_freq = c.poll_freq.value;
+  dead_time = c.dead_time.value;
+  host_sync = c.host_sync.value;
+  final_delay = c.final_delay.value;
+  rb_warn_time = c.rb_warn_time.value;
+  no_comm_warn_time = c.no_comm_warn_time.value;
 }

@@ -1,9 +1,6 @@
 -- What an arrival changes.
 use Rattle.std.proofs.Common.{◌≡◌, ℕ, zero, suc, ◌<◌, ◌≤◌, List, [], ◌∷◌, length, refl, sym, ◌∙◌, ap, subst, inl, inr, eqb, Option, Some, None, IfSome, Result, Ok, Err, slice_set, slice_index_or, arith}
 use Rattle.std.specs.Prelude.{IsTrue}
-use Rattle.std.specs.Option.{option_map_or}
-use Rattle.nut_conf.specs.declared.text.Number.{Number}
-use Rattle.nut_conf.specs.declared.limits.TheConstants.{CONNECTIONS_MAX}
 use Rattle.std.proofs.lemmas.Bool.{cases_Bool, eqb-true, false≢true, le-ltb}
 use Rattle.nut_words.specs.declared.limits.TheConstants.{PIECE_MAX}
 use Rattle.nut_server_spec.specs.declared.Refused.{Refused}
@@ -110,8 +107,3 @@ none_waits (x ∷ xs) le = absurd (omega arith)
 pub fits_of : (n least : ℕ) (ks : List Session) (o : Option ℕ) → IsUpTo n (numbers_of ks) → n ≤ OPENED_MAX → IsNextUnsettled ks least o → IfSome o (λ c. c < 18446744073709551615)
 fits_of n least ks None up few next = tt
 fits_of n least ks (Some c) up few next = omega (arith, unsettled_up_to n c ks up next.1, few)
-
--- MAXCONN is at most CONNECTIONS_MAX
-pub most_few : (o : Option (Number 1 CONNECTIONS_MAX)) → option_map_or (λ n. n.value) o CONNECTIONS_MAX ≤ CONNECTIONS_MAX
-most_few None = omega arith
-most_few (Some n) = n.most

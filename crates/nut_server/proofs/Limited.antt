@@ -23,7 +23,6 @@ use Rattle.nut_server_spec.specs.Event.{Event}
 use Rattle.nut_server_spec.specs.Acceptance.{Tells, session_of}
 use Rattle.nut_server_spec.specs.laws.Limits.{AreWithin, IsTextWithin, IsUpsWithin, IsWithin, WaitsAreBounded, most_waits}
 use Rattle.nut_server.specs.Configured.{command_texts_of, configuration_of, ups_of, variable_texts_of}
-use Rattle.nut_server.proofs.Arrives.{most_few}
 
 both : (a b : Bool) → (a && b) ≡ true → (a ≡ true) × (b ≡ true)
 both true b e = (refl, e)
@@ -60,7 +59,7 @@ pub config_within : (ups : UpsConf) (users : UsersConf) (upsd : UpsdConf) (descr
 config_within ups users upsd descriptions = record {
   upses = omega (arith, length-map (map shown ups.ups.by_name.entries) ups_of, length-map ups.ups.by_name.entries shown, ups.ups.few);
   each_ups = each_within ups.ups.by_name.entries;
-  connections = most_few upsd.max_conn;
+  connections = upsd.max_conn.most;
   variable_texts = variables_within descriptions;
   command_texts = commands_within descriptions;
 }

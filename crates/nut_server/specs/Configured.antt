@@ -4,7 +4,6 @@ use Rattle.std.specs.Option.{option_map}
 use Rattle.nut_conf.specs.Descriptions.{rows_of}
 use Rattle.nut_words.specs.declared.limits.TheConstants.{UPS_NAME_MAX}
 use Rattle.nut_conf.specs.Ups.{Shown, shown_in}
-use Rattle.nut_conf.specs.Upsd.{max_age_of, max_conn_of}
 use Rattle.nut_conf.specs.declared.descriptions.Descriptions.{Descriptions}
 use Rattle.nut_conf.specs.declared.text.Name.{Name}
 use Rattle.nut_conf.specs.declared.ups.UpsConf.{UpsConf}
@@ -61,8 +60,8 @@ abbrev pub configuration_of : UpsConf → UsersConf → UpsdConf → Option Desc
 configuration_of ups users upsd descriptions = record {
   upses = upses_of ups;
   users = users_of users;
-  max_age = max_age_of upsd;
-  most_connections = max_conn_of upsd;
+  max_age = upsd.max_age.value;
+  most_connections = upsd.max_conn.value;
   variable_texts = variable_texts_of descriptions;
   command_texts = command_texts_of descriptions;
 }

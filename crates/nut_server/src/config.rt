@@ -308,7 +308,7 @@ impl Config {
         ensures least { 1 ≤ result }
         ensures most { result ≤ 86400 }
     {
-        self.upsd.max_age()
+        self.upsd.max_age.value
     }
 
     /// How many connections may be open at once, 1 to [`CONNECTIONS_MAX`] (MAXCONN of upsd.conf(5)).
@@ -317,6 +317,6 @@ impl Config {
         ensures least { 1 ≤ result }
         ensures most { result ≤ CONNECTIONS_MAX }
     {
-        self.upsd.max_conn() as usize
+        self.upsd.max_conn.value as usize
     }
 }

@@ -76,7 +76,7 @@ impl<'r, F: Files> Reloading<'r, F> {
 
     /// Makes the configuration of the start, whose LISTEN lines stay in force.
     pub fn start(&mut self, mut settings: Settings) -> Config {
-        self.endpoints = mem::replace(&mut settings.upsd.listen, Vec::new(self.alloc));
+        self.endpoints = mem::replace(&mut settings.upsd.listen.lines, Vec::new(self.alloc));
         settings.into_config()
     }
 
@@ -95,7 +95,7 @@ impl<'r, F: Files> Reloading<'r, F> {
 
     /// Makes a new configuration, and notes what differs from that of a server.
     fn give(&mut self, server: &Server, settings: Settings) -> Result<Box<Config>, AllocError> {
-        let listens_elsewhere = settings.upsd.listen != self.endpoints;
+        let listens_elsewhere = settings.upsd.listen.lines != self.endpoints;
         let config = Box::new(self.alloc, settings.into_config())?;
         let noted = self.note(server.config(), &config, listens_elsewhere);
         // `and` drops the configuration if that failed

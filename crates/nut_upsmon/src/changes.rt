@@ -1,6 +1,6 @@
 //! What a changed upsmon.conf sets otherwise.
 
-use nut_conf::{Monitored, UpsmonConf};
+use nut_conf::{Monitored, UPSMON_DIRECTIVES, UpsmonConf, UpsmonDirective};
 use nut_poll::text_of;
 use std::alloc::{AllocError, Global};
 
@@ -27,7 +27,12 @@ impl Changes {
             text: String::new(alloc),
         };
         changes.add_lines(&former.monitors.lines, &config.monitors.lines)?;
-        changes.add_settings(former, config)?;
+        for (word, directive) in UPSMON_DIRECTIVES {
+            let is_monitor = matches!(directive, UpsmonDirective::Monitor);
+            if !is_monitor && !config.agrees(former, directive) {
+                changes.add(&[text_of(word), "changed"])?;
+            }
+        }
         Ok(changes)
     }
 
@@ -46,23 +51,13 @@ impl Changes {
         for line in lines {
             match line_of(former, line) {
                 None => self.add_line(line, "added")?,
-                Some(before) if !is_same(before, line) => self.add_line(line, "changed")?,
+                Some(before) if before != line => self.add_line(line, "changed")?,
                 Some(_) => {}
             }
         }
         for line in former {
             if line_of(lines, line).is_none() {
                 self.add_line(line, "removed")?;
-            }
-        }
-        Ok(())
-    }
-
-    /// Adds the other directives whose values differ.
-    fn add_settings(&mut self, former: &UpsmonConf, config: &UpsmonConf) -> Result<(), AllocError> {
-        for (name, is_same) in settings(former, config) {
-            if !is_same {
-                self.add(&[name, "changed"])?;
             }
         }
         Ok(())
@@ -90,37 +85,4 @@ impl Changes {
 /// Returns the line among these that watches the same UPS.
 pub fn line_of<'a>(lines: &'a [Monitored], line: &Monitored) -> Option<&'a Monitored> {
     lines.iter().find(|other| other.target == line.target)
-}
-
-/// Whether two lines that watch the same UPS are the same.
-fn is_same(a: &Monitored, b: &Monitored) -> bool {
-    a.written == b.written
-        && a.power == b.power
-        && a.user == b.user
-        && a.password == b.password
-        && a.role == b.role
-}
-
-/// The directives other than MONITOR, and whether each has the same value in both configurations.
-fn settings(a: &UpsmonConf, b: &UpsmonConf) -> [(&'static str, bool); 12] {
-    [
-        ("MINSUPPLIES", a.min_supplies() == b.min_supplies()),
-        ("SHUTDOWNCMD", a.shutdown_cmd == b.shutdown_cmd),
-        ("NOTIFYCMD", a.notify_cmd == b.notify_cmd),
-        ("POWERDOWNFLAG", a.power_down_flag == b.power_down_flag),
-        ("POLLFREQ", a.poll_freq() == b.poll_freq()),
-        ("DEADTIME", a.dead_time() == b.dead_time()),
-        ("RBWARNTIME", a.rb_warn_time() == b.rb_warn_time()),
-        (
-            "NOCOMMWARNTIME",
-            a.no_comm_warn_time() == b.no_comm_warn_time(),
-        ),
-        ("HOSTSYNC", a.host_sync() == b.host_sync()),
-        ("FINALDELAY", a.final_delay() == b.final_delay()),
-        ("NOTIFYMSG", a.messages.as_slice() == b.messages.as_slice()),
-        (
-            "NOTIFYFLAG",
-            a.handlings.as_slice() == b.handlings.as_slice(),
-        ),
-    ]
 }

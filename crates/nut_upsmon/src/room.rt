@@ -304,7 +304,7 @@ fn all_halted_within(primary: &Machine<'_>, machines: &[Machine<'_>]) -> u64 {
 
 impl<'a> Machine<'a> {
     fn host_sync(&self) -> u64 {
-        u64::from(self.config.host_sync())
+        u64::from(self.config.host_sync.value)
     }
 
     fn is_too_slow(&self) -> bool {
@@ -313,7 +313,7 @@ impl<'a> Machine<'a> {
 
     /// Whether this machine needs UPSes, and no machine of the room is the primary of one of its own.
     fn is_alone(&self, machines: &[Machine<'_>]) -> bool {
-        self.config.min_supplies() > 0
+        self.config.min_supplies.value > 0
             && !machines
                 .iter()
                 .any(|it| leads_some(&it.config, &self.config))
@@ -384,7 +384,7 @@ fn has_one_line(config: &UpsmonConf) -> bool
 
 /// Whether a machine has too little for MINSUPPLIES without the UPSes of which another machine, or itself, is the primary.
 fn needs(machine: &UpsmonConf, primary: &UpsmonConf) -> bool {
-    supply_without(machine, primary) < u64::from(machine.min_supplies())
+    supply_without(machine, primary) < u64::from(machine.min_supplies.value)
 }
 
 /// Returns the sum of a machine's power values without those of the UPSes of which another machine is the primary.

@@ -51,7 +51,7 @@ impl Stopping {
     }
 
     fn within(config: &UpsmonConf, seconds: u64, delay: u32) -> Stopping {
-        if config.min_supplies() == 0 {
+        if config.min_supplies.value == 0 {
             Stopping::Never
         } else {
             Stopping::Within { seconds, delay }
@@ -97,7 +97,7 @@ fn begins_within(config: &UpsmonConf, delay: u32) -> u64
 {
     let seen = seen_within(config, delay);
     if is_led(config) {
-        seen + u64::from(config.host_sync()) + 1
+        seen + u64::from(config.host_sync.value) + 1
     } else {
         seen
     }
@@ -108,7 +108,7 @@ pub fn seen_within(config: &UpsmonConf, delay: u32) -> u64
     ensures seconds { result ≡ seen_by (configuration_of config.now) (prompt delay) 0 }
     ensures fits { result < 2 ^ 33 }
 {
-    u64::from(config.poll_freq().max(delay)) + u64::from(delay)
+    u64::from(config.poll_freq.value.max(delay)) + u64::from(delay)
 }
 
 /// Returns how many seconds pass at most from the beginning of the shutdown to the halt, however long an answer takes.
@@ -116,9 +116,9 @@ pub fn halts_within(config: &UpsmonConf) -> u64
     ensures seconds { result ≡ to_halted (configuration_of config.now) (prompt 0) }
     ensures fits { result < 2 ^ 34 }
 {
-    let final_delay = u64::from(config.final_delay());
+    let final_delay = u64::from(config.final_delay.value);
     if has_primary(config) {
-        u64::from(config.host_sync()) + 1 + final_delay
+        u64::from(config.host_sync.value) + 1 + final_delay
     } else {
         final_delay
     }

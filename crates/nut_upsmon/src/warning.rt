@@ -1,7 +1,6 @@
 //! What upsmon can be started with but shouldn't be.
 
 ghost use Rattle.std.specs.Prelude.{◌↔◌, ◌≡◌, ◌<◌, ◌+◌, IsSome, None};
-ghost use Rattle.nut_conf.specs.Upsmon.{poll_freq_of, dead_time_of, host_sync_of};
 
 use crate::stopping::DELAY;
 use nut_conf::UpsmonConf;
@@ -69,10 +68,10 @@ impl Warning {
 
     /// Warns if POLLFREQ and the [`DELAY`] of an answer are together greater than DEADTIME.
     pub fn of_dead_time(config: &UpsmonConf) -> Option<Warning>
-        ensures { IsSome result ↔ (dead_time_of config.now < poll_freq_of config.now + 2) }
+        ensures { IsSome result ↔ (config.now.dead_time.value < config.now.poll_freq.value + 2) }
     {
-        let poll_freq = config.poll_freq();
-        let dead_time = config.dead_time();
+        let poll_freq = config.poll_freq.value;
+        let dead_time = config.dead_time.value;
         if u64::from(poll_freq) + u64::from(DELAY) <= u64::from(dead_time) {
             return None;
         }
@@ -84,10 +83,10 @@ impl Warning {
 
     /// Warns if POLLFREQ is greater than HOSTSYNC.
     pub fn of_host_sync(config: &UpsmonConf) -> Option<Warning>
-        ensures { IsSome result ↔ (host_sync_of config.now < poll_freq_of config.now) }
+        ensures { IsSome result ↔ (config.now.host_sync.value < config.now.poll_freq.value) }
     {
-        let poll_freq = config.poll_freq();
-        let host_sync = config.host_sync();
+        let poll_freq = config.poll_freq.value;
+        let host_sync = config.host_sync.value;
         if poll_freq <= host_sync {
             return None;
         }

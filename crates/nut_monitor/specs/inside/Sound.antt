@@ -83,11 +83,7 @@ IsSound last (Some v) = IsSoundLink last v
 -- a link failed because memory could not be allocated
 abbrev pub is_memory : LinkFault → Bool
 is_memory faults.Memory = true
-is_memory faults.NotMine = false
-is_memory faults.BadLine = false
-is_memory faults.OutOfOrder = false
-is_memory faults.BadQuery = false
-is_memory faults.TooMuchTaken = false
+is_memory _ = false
 
 abbrev pub lacks_memory : Result (Unit {0}) LinkFault → Bool
 lacks_memory (Ok u) = false

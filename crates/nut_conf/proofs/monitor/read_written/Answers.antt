@@ -5,4 +5,4 @@ use Rattle.nut_conf.proofs.monitor.read_written.Goals as goal
 
 pub unreachable-requires : goal.unreachable-requires
 unreachable-requires c =
-    omega (arith, monitored-short c.args.bytes.now (target_view c.in_ok-target.target) (c.in_ok-target.ensures {u = tt}), c.in-Err.ensures {u = tt})
+    omega (arith, monitored-short c.args.bytes.now (target_view c.in_ok-target.target) (c.in_ok-target.ensures.reads), c.in-Err.ensures {u = tt})

@@ -18,5 +18,5 @@ loop-rest-preserved c =
       },
     )
 
-pub returns-in_err-add : goal.returns-in_err-add
-returns-in_err-add c = grind (arith, common_steps)
+pub returns-in_err-add-clause-reads : goal.returns-in_err-add-clause-reads
+returns-in_err-add-clause-reads c = grind (arith, common_steps)

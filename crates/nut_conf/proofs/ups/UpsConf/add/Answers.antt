@@ -15,19 +15,19 @@ invariant_of-self c = record {
 
 pub returns-in_err-desc-clause-added : goal.returns-in_err-desc-clause-added
 returns-in_err-desc-clause-added c =
-    let is = name-same UPS_NAME_MAX c.args.name.now c.in_ok-name.name.bytes.items (c.in_ok-name.ensures {u = tt}) in
+    let is = name-same UPS_NAME_MAX c.args.name.now c.in_ok-name.name.bytes.items (c.in_ok-name.ensures.reads) in
     let p = err_from_is_err_and c.from_residual-in_err-desc.result c.from_residual-in_err-desc.ensures.1 in
     rw (p.1, p.2) (fails-with _ _ (ap (λ n. with_ups (shown_in c.args.self.now) n c.args.desc.now) (sym is) ∙ c.in_err-desc.ensures.reads))
 
 pub returns-in_err-insert-clause-memory : goal.returns-in_err-insert-clause-memory
 returns-in_err-insert-clause-memory c = λ _.
-    let is = name-same UPS_NAME_MAX c.args.name.now c.in_ok-name.name.bytes.items (c.in_ok-name.ensures {u = tt}) in
+    let is = name-same UPS_NAME_MAX c.args.name.now c.in_ok-name.name.bytes.items (c.in_ok-name.ensures.reads) in
     is_read _ _ (ap (λ n. with_ups (shown_in c.args.self.now) n c.args.desc.now) (sym is) ∙ c.in_ok-desc.ensures.reads)
 
 pub returns-clause-added : goal.returns-clause-added
 returns-clause-added c =
     let map = c.args.self.now.ups.by_name in
     let name = c.in_ok-name.name in
-    let is = name-same UPS_NAME_MAX c.args.name.now name.bytes.items (c.in_ok-name.ensures {u = tt}) in
+    let is = name-same UPS_NAME_MAX c.args.name.now name.bytes.items (c.in_ok-name.ensures.reads) in
     ap (λ n. with_ups (shown_in c.args.self.now) n c.args.desc.now) (sym is) ∙ c.in_ok-desc.ensures.reads
     ∙ ap Ok (sym (shown-insert map name (any-is map name ∙ c.in_ok-desc.ensures.unnamed) _ _ c.in_ok-insert.ensures.entries))

@@ -11,10 +11,10 @@ pub returns-in-Ok-clause-number : goal.returns-in-Ok-clause-number
 returns-in-Ok-clause-number c =
     let word = c.args.name.now in
     let names = keys c.args.self.now.ups.by_name in
-    c.get_index_of.ensures.index ∙ ap (λ w. position (is_named w) names) (name-same UPS_NAME_MAX word c.in-Ok.name.bytes.items (c.in-Ok.ensures {u = tt})) ∙ sym (position-names word names)
+    c.get_index_of.ensures.index ∙ ap (λ w. position (is_named w) names) (name-same UPS_NAME_MAX word c.in-Ok.name.bytes.items (c.in-Ok.ensures.reads)) ∙ sym (position-names word names)
 
 pub returns-in-Err-clause-number : goal.returns-in-Err-clause-number
 returns-in-Err-clause-number c =
     let word = c.args.name.now in
     let names = keys c.args.self.now.ups.by_name in
-    sym (position-names word names ∙ position-no (is_named word) names (is_named-no word c.in-Err.field-0 (c.in-Err.ensures {u = tt})))
+    sym (position-names word names ∙ position-no (is_named word) names (is_named-no word c.in-Err.field-0 (c.in-Err.ensures.reads)))
