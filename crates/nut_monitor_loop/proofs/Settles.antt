@@ -1,5 +1,5 @@
 -- What a write changes: only what waits on its link.
-use Rattle.std.proofs.Common.{◌≡◌, ◌≢◌, ℕ, zero, suc, ◌<◌, ◌≤◌, Bool, true, false, List, [], ◌∷◌, length, drop, Option, Some, None, is_some, Result, if◌then◌else◌, refl, sym, ◌∙◌, ap, subst, inl, inr, arith, length-drop, le-leb}
+use Rattle.std.proofs.Common.{◌≡◌, ◌≢◌, ◌⊎◌, ℕ, zero, suc, ◌+◌, ◌<◌, ◌≤◌, Bool, true, false, List, [], ◌∷◌, length, drop, Option, Some, None, is_some, Result, if◌then◌else◌, refl, sym, ◌∙◌, ap, subst, inl, inr, arith, length-drop, le-leb}
 use Rattle.std.specs.Prelude.{option_map, nat_le}
 use Rattle.nut_link.specs.declared.exchange.Exchange.{Exchange}
 use Rattle.nut_link.specs.declared.exchange.Stage.{Stage}
@@ -18,9 +18,9 @@ use Rattle.nut_monitor_spec.specs.machine.MachineOutcome.{content_after}
 use Rattle.nut_io.specs.declared.types.Written.{Written}
 use Rattle.nut_io.specs.declared.types.Written.TheVariants.{Took}
 use Rattle.nut_io.specs.Writes.{IsWithin}
-use Rattle.nut_monitor_loop.specs.Record.{Entry, waiting_of}
+use Rattle.nut_monitor_loop.specs.Record.{Entry, IsSettled, waiting_of}
 use Rattle.nut_monitor_loop.specs.Watched.{history_of, Watched}
-use Rattle.nut_monitor_loop.specs.inside.Kept.{OnlyAt}
+use Rattle.nut_monitor_loop.specs.inside.Kept.{OnlyAt, StaysLate}
 use Rattle.nut_monitor_loop.proofs.Sent.{found}
 use Rattle.nut_monitor_loop.proofs.Steps.{moved_on, no_memory_took}
 use Rattle.nut_monitor_loop.proofs.Writes.{may_take}
@@ -128,3 +128,46 @@ only_took first o s s' i part w n r watched is within all answer moved =
       as_many = ap (λ (t : Content). length t.watches) facts.2 ∙ update_as_many i (took n) s.watches;
       others = λ j other. ap (λ (t : Content). waiting_of j t.watches) facts.2 ∙ ap waiting_on (update_other i j (took n) s.watches other);
     }
+
+-- ---- all links, one after the other
+
+here_or_below : (i j : ℕ) → j < i + 1 → (j ≡ i) ⊎ (j < i)
+here_or_below zero zero less = inl refl
+here_or_below zero (suc j) less = absurd (omega (arith, less))
+here_or_below (suc i) zero less = inr (omega arith)
+here_or_below (suc i) (suc j) less =
+    elim (here_or_below i j (omega (arith, less))) [
+      | inl is ↦ inl (ap suc is)
+      | inr below ↦ inr (omega (arith, below))
+    ]
+
+-- the links before i were settled, and now i is
+pub settled_to : (late late' : ℕ → Bool) (ws ws' : List Watch) (i : ℕ) → OnlyAt i ws ws' → StaysLate late late' → IsSettled late' ws' i
+    → ((j : ℕ) → j < i → IsSettled late ws j) → (j : ℕ) → j < i + 1 → IsSettled late' ws' j
+settled_to late late' ws ws' i only stays here before j less =
+    elim (here_or_below i j less) [
+      | inl is ↦ subst (IsSettled late' ws') (sym is) here
+      | inr below ↦ λ some. stays j (before j below (subst (λ bytes. 0 < length bytes) (only.others j (λ is. absurd (omega (arith, below, is)))) some))
+    ]
+
+none_there : (i : ℕ) (ws : List Watch) → length ws ≤ i → waiting_of i ws ≡ []
+none_there zero [] past = refl
+none_there (suc i) [] past = refl
+none_there zero (w ∷ ws) past = absurd (omega (arith, past))
+none_there (suc i) (w ∷ ws) past = none_there i ws (omega (arith, past))
+
+below_or_past : (i n : ℕ) → (i < n) ⊎ (n ≤ i)
+below_or_past i zero = inr (omega arith)
+below_or_past zero (suc n) = inl (omega arith)
+below_or_past (suc i) (suc n) =
+    elim (below_or_past i n) [
+      | inl below ↦ inl (omega (arith, below))
+      | inr past ↦ inr (omega (arith, past))
+    ]
+
+pub all_settled : (late : ℕ → Bool) (ws : List Watch) (at : ℕ) → length ws ≤ at → ((j : ℕ) → j < at → IsSettled late ws j) → (i : ℕ) → IsSettled late ws i
+all_settled late ws at past before i some =
+    elim (below_or_past i at) [
+      | inl below ↦ before i below some
+      | inr beyond ↦ absurd (omega (arith, some, ap length (none_there i ws (omega (arith, past, beyond)))))
+    ]
