@@ -4,6 +4,7 @@ ghost use Rattle.nut_words.specs.Cutter.{IsFirstLine};
 ghost use Rattle.nut_words.specs.Quoting.{texts};
 ghost use Rattle.nut_words.specs.Reader.{spelled};
 ghost use Rattle.nut_proto.specs.Forms.{meaning};
+ghost use Rattle.nut_proto.specs.Keywords.{is_named};
 ghost use Rattle.nut_proto.specs.PlainQueries.{request_of, ups_of};
 
 use crate::keyword::is_named;
@@ -50,25 +51,35 @@ pub fn read_plain<'a>(piece: &'a [u8]) -> Option<(PlainQuery<'a>, &'a [u8])>
     Some((query, after))
 }
 
+/// Whether the word is `name`, which is in upper case, as nearly all clients write it.
+fn says(word: &[u8], name: &[u8]) -> bool
+    ensures { result ≡ is_named word.now name.now }
+{
+    if word == name {
+        return true;
+    }
+    is_named(word, name)
+}
+
 /// Returns the query of these words, if they have one of the forms in this table.
 fn query_of<'a>(verb: &[u8], subject: &[u8], rest: &[&'a [u8]]) -> Option<PlainQuery<'a>>
     ensures { IfSome result (λ query. meaning (verb.now ∷ subject.now ∷ texts rest.now) ≡ Ok (request_of query)) }
 {
     if let [ups, variable] = rest
-        && is_named(verb, b"GET")
-        && is_named(subject, b"VAR")
+        && says(verb, b"GET")
+        && says(subject, b"VAR")
     {
         return Some(PlainQuery::GetVar { ups, variable });
     }
     if let [ups] = rest
-        && is_named(verb, b"GET")
-        && is_named(subject, b"UPSDESC")
+        && says(verb, b"GET")
+        && says(subject, b"UPSDESC")
     {
         return Some(PlainQuery::GetUpsDesc { ups });
     }
     if let [ups] = rest
-        && is_named(verb, b"LIST")
-        && is_named(subject, b"VAR")
+        && says(verb, b"LIST")
+        && says(subject, b"VAR")
     {
         return Some(PlainQuery::ListVar { ups });
     }

@@ -7,14 +7,14 @@ use Rattle.nut_proto.proofs.plain.query_of.Goals as goal
 pub returns : goal.returns
 returns c =
     ap (λ xs. meaning (c.args.verb.now ∷ c.args.subject.now ∷ texts xs)) (two_of c.args.rest.now _ (omega (arith, c.in-len2.len_at_least)) (omega (arith, c.in-len2.len_below)))
-    ∙ get_means c.args.verb.now c.args.subject.now (codes "VAR") _ (sym c.if-is_named.true ∙ c.is_named.ensures) (sym c.if-is_named-2.true ∙ c.is_named-2.ensures)
+    ∙ get_means c.args.verb.now c.args.subject.now (codes "VAR") _ (sym c.if-says.true ∙ c.says.ensures) (sym c.if-says-2.true ∙ c.says-2.ensures)
 
 pub returns-2 : goal.returns-2
 returns-2 c =
     ap (λ xs. meaning (c.args.verb.now ∷ c.args.subject.now ∷ texts xs)) (one_of c.args.rest.now _ (omega (arith, c.in-len1.len_at_least)) (omega (arith, c.in-len1.len_below)))
-    ∙ get_means c.args.verb.now c.args.subject.now (codes "UPSDESC") _ (sym c.if-is_named-3.true ∙ c.is_named-3.ensures) (sym c.if-is_named-4.true ∙ c.is_named-4.ensures)
+    ∙ get_means c.args.verb.now c.args.subject.now (codes "UPSDESC") _ (sym c.if-says-3.true ∙ c.says-3.ensures) (sym c.if-says-4.true ∙ c.says-4.ensures)
 
 pub returns-3 : goal.returns-3
 returns-3 c =
     ap (λ xs. meaning (c.args.verb.now ∷ c.args.subject.now ∷ texts xs)) (one_of c.args.rest.now _ (omega (arith, c.in-len1-rest.len_at_least)) (omega (arith, c.in-len1-rest.len_below)))
-    ∙ list_means c.args.verb.now c.args.subject.now (codes "VAR") _ (sym c.if-is_named-5.true ∙ c.is_named-5.ensures) (sym c.if-is_named-6.true ∙ c.is_named-6.ensures)
+    ∙ list_means c.args.verb.now c.args.subject.now (codes "VAR") _ (sym c.if-says-5.true ∙ c.says-5.ensures) (sym c.if-says-6.true ∙ c.says-6.ensures)
