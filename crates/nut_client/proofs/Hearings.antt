@@ -26,7 +26,7 @@ use Rattle.nut_link.specs.Link.{LinkValue, answer_by, fed, outcome_in, outcome_o
 use Rattle.nut_words.specs.Hearing.{IsRest}
 use Rattle.nut_client.specs.Script.{Script, Asks}
 use Rattle.nut_client.specs.Tool.{Ends, Failed, IsReadInTime, WasWrittenBy, begin, breaks_off, ending, failure_of, is_over, run_of, sent}
-use Rattle.nut_client.specs.inside.Unread.{IsEnded, IsUnbroken, IsWhole}
+use Rattle.nut_client.specs.inside.Unread.{IsEnded, IsUnbroken, IsWhole, steps_left}
 use Rattle.nut_words.specs.Quoting.{Begins}
 use Rattle.nut_words.proofs.LineLemmas.{rest_of_line}
 use Rattle.nut_words.proofs.StreamGrowth.{rest-append}
@@ -136,6 +136,13 @@ part_all filled part unread' is left = ap (λ b. part ++ b) (left ∙ ap (drop (
 pub part_read : (filled part unread' : List ℕ) (known mid : Option (List ℕ)) → known ≡ prepend_known filled mid → Begins part filled → unread' ≡ drop (length part) filled
     → known ≡ prepend_known (part ++ unread') mid
 part_read filled part unread' known mid same is left = same ∙ ap (λ b. prepend_known b mid) (sym (part_all filled part unread' is left))
+
+-- Fewer parts are left to be heard.
+pub fewer_left : (calls calls' : ℕ) (unread filled part unread' : List ℕ) → steps_left calls' filled ≤ steps_left calls unread → Begins part filled → unread' ≡ drop (length part) filled → 0 < length part
+    → steps_left calls' unread' < steps_left calls unread
+fewer_left calls calls' unread filled part unread' before is left some =
+    let all : length part + length unread' ≡ length filled = sym (length-append part unread') ∙ ap length (part_all filled part unread' is left) in
+    omega (arith, before, all, some)
 
 -- what was read for a part
 pub part_reads : (unread filled part unread' : List ℕ) → Begins part filled → unread' ≡ drop (length part) filled → (filled ≡ unread) ⊎ ((unread ≡ []) × (length filled ≤ PIECE_MAX))

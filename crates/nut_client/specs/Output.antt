@@ -1,5 +1,5 @@
 -- What an output took of the bytes that were written to it, if that is known.
-use Rattle.std.specs.Prelude.{◌≡◌, ℕ, ◌≤◌, ◌⊎◌, Bool, true, false, List, length, take, ◌++◌, Option}
+use Rattle.std.specs.Prelude.{◌≡◌, ℕ, ◌<◌, ◌≤◌, ⊤, ◌⊎◌, Bool, true, false, List, length, take, ◌++◌, Option}
 use Rattle.std.specs.Io.KnownBytes.{Appends, Keeps}
 use Rattle.nut_client.specs.declared.stream.Moved.{Moved}
 use Rattle.nut_client.specs.declared.stream.Moved.TheVariants.{Bytes, Again, Lost}
@@ -9,6 +9,17 @@ abbrev pub Wrote : Moved → List ℕ → Option (List ℕ) → Option (List ℕ
 Wrote (Bytes n) bytes before after = (n ≤ length bytes) × Appends before after (take n bytes)
 Wrote Again bytes before after = Keeps before after
 Wrote Lost bytes before after = Keeps before after
+
+-- A write moved bytes, or it lowers a count if it can be tried again.
+abbrev pub Advances : Moved → ℕ → ℕ → Type 0
+Advances (Bytes n) before after = (0 < n) × (after ≤ before)
+Advances Again before after = after < before
+Advances Lost before after = ⊤
+
+abbrev pub MovedNone : Moved → Type 0
+MovedNone (Bytes n) = ⊥
+MovedNone Again = ⊤
+MovedNone Lost = ⊤
 
 -- What happened to an output in a call: the bytes that it had taken before the call, and at the return, if they are
 -- known; and whether it has failed.

@@ -35,3 +35,15 @@ abbrev pub IsWithin : Moved → ℕ → Type 0
 IsWithin (Bytes n) most = (n ≤ most) × (0 < most → 0 < n)
 IsWithin Again most = ⊤
 IsWithin Lost most = ⊤
+
+-- A read lowers a count, unless the connection is lost.
+abbrev pub LowersByRead : Moved → ℕ → ℕ → Type 0
+LowersByRead (Bytes n) before after = after < before
+LowersByRead Again before after = after < before
+LowersByRead Lost before after = ⊤
+
+-- A write lowers a count if it can be tried again, and doesn't raise it if it moved bytes.
+abbrev pub LowersByWrite : Moved → ℕ → ℕ → Type 0
+LowersByWrite (Bytes n) before after = after ≤ before
+LowersByWrite Again before after = after < before
+LowersByWrite Lost before after = ⊤

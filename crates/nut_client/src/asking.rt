@@ -15,7 +15,6 @@ use crate::wanted::Wanted;
 use nut_link::{Fields, Text};
 use nut_proto::{ListQuery, Request, Word};
 use std::alloc::Global;
-use std::sync::Wait;
 use std::time::Clock;
 
 /// Returns the lines that show these rows.
@@ -65,7 +64,7 @@ impl Conversation {
     /// Asks what is wanted of the UPS of this name. Returns the text to print.
     pub(crate) fn answer<S: Stream>(
         &mut self,
-        rt: &(impl Wait + Clock),
+        rt: &impl Clock,
         stream: &mut S,
         ups: Word<'_>,
         wanted: Wanted<'_>,
@@ -75,15 +74,15 @@ impl Conversation {
             (point S.remaining S.taken S.has_ended self.new.unread stream.new) }
     {
         match wanted {
-            Wanted::Variables => self.list(rt, stream, ListQuery::Var { ups }, Form::Pairs),
-            Wanted::Object => self.object(rt, stream, ups),
-            Wanted::Value(variable) => self.value(rt, stream, ups, variable),
-            Wanted::Member(variable) => self.member(rt, stream, ups, variable),
-            Wanted::Names => self.list(rt, stream, ListQuery::Ups, Form::Firsts),
-            Wanted::Descriptions => self.list(rt, stream, ListQuery::Ups, Form::Pairs),
-            Wanted::Clients => self.list(rt, stream, ListQuery::Client { ups }, Form::Firsts),
-            Wanted::Settings => self.settings(rt, stream, ups),
-            Wanted::Commands => self.commands(rt, stream, ups),
+            Wanted::Variables => self.list(stream, ListQuery::Var { ups }, Form::Pairs),
+            Wanted::Object => self.object(stream, ups),
+            Wanted::Value(variable) => self.value(stream, ups, variable),
+            Wanted::Member(variable) => self.member(stream, ups, variable),
+            Wanted::Names => self.list(stream, ListQuery::Ups, Form::Firsts),
+            Wanted::Descriptions => self.list(stream, ListQuery::Ups, Form::Pairs),
+            Wanted::Clients => self.list(stream, ListQuery::Client { ups }, Form::Firsts),
+            Wanted::Settings => self.settings(stream, ups),
+            Wanted::Commands => self.commands(stream, ups),
             Wanted::Does(user, password, deed, until) => {
                 self.carry_out(rt, stream, ups, user, password, deed, until)
             }
@@ -93,7 +92,6 @@ impl Conversation {
     /// Lists: a line for each row.
     fn list<S: Stream>(
         &mut self,
-        rt: &impl Wait,
         stream: &mut S,
         query: ListQuery<'_>,
         form: Form,
@@ -102,29 +100,23 @@ impl Conversation {
             (point S.remaining S.taken S.has_ended self.old.unread stream.old)
             (point S.remaining S.taken S.has_ended self.new.unread stream.new) }
     {
-        let rows = self.rows(rt, stream, query)?;
+        let rows = self.rows(stream, query)?;
         rows_text(self.alloc, form, rows.as_slice())
     }
 
     /// Shows all variables as a JSON object.
-    fn object<S: Stream>(
-        &mut self,
-        rt: &impl Wait,
-        stream: &mut S,
-        ups: Word<'_>,
-    ) -> Result<Text, Failure>
+    fn object<S: Stream>(&mut self, stream: &mut S, ups: Word<'_>) -> Result<Text, Failure>
         ensures { Goes (script ups.entry Object) Prints result
             (point S.remaining S.taken S.has_ended self.old.unread stream.old)
             (point S.remaining S.taken S.has_ended self.new.unread stream.new) }
     {
-        let rows = self.rows(rt, stream, ListQuery::Var { ups })?;
+        let rows = self.rows(stream, ListQuery::Var { ups })?;
         object_text(self.alloc, rows.as_slice())
     }
 
     /// Shows the value of a variable.
     fn value<S: Stream>(
         &mut self,
-        rt: &impl Wait,
         stream: &mut S,
         ups: Word<'_>,
         variable: Word<'_>,
@@ -133,14 +125,13 @@ impl Conversation {
             (point S.remaining S.taken S.has_ended self.old.unread stream.old)
             (point S.remaining S.taken S.has_ended self.new.unread stream.new) }
     {
-        let words = self.words(rt, stream, &Request::GetVar { ups, variable })?;
+        let words = self.words(stream, &Request::GetVar { ups, variable })?;
         line_text(self.alloc, words.get(0))
     }
 
     /// Shows the value of a variable as a JSON object.
     fn member<S: Stream>(
         &mut self,
-        rt: &impl Wait,
         stream: &mut S,
         ups: Word<'_>,
         variable: Word<'_>,
@@ -150,31 +141,25 @@ impl Conversation {
             (point S.remaining S.taken S.has_ended self.new.unread stream.new) }
     {
         let name = variable.copy();
-        let words = self.words(rt, stream, &Request::GetVar { ups, variable })?;
+        let words = self.words(stream, &Request::GetVar { ups, variable })?;
         member_text(self.alloc, name.as_bytes(), words.get(0))
     }
 
     /// Shows all writable variables, each with the values that it may have.
-    fn settings<S: Stream>(
-        &mut self,
-        rt: &impl Wait,
-        stream: &mut S,
-        ups: Word<'_>,
-    ) -> Result<Text, Failure>
+    fn settings<S: Stream>(&mut self, stream: &mut S, ups: Word<'_>) -> Result<Text, Failure>
         ensures { Goes (script ups.entry Settings) Prints result
             (point S.remaining S.taken S.has_ended self.old.unread stream.old)
             (point S.remaining S.taken S.has_ended self.new.unread stream.new) }
     {
-        let rows = self.rows(rt, stream, ListQuery::Rw { ups: ups.copy() })?;
+        let rows = self.rows(stream, ListQuery::Rw { ups: ups.copy() })?;
         let mut text = Vec::new(self.alloc);
-        self.put_settings(rt, stream, &ups, rows.as_slice(), &mut text)?;
+        self.put_settings(stream, &ups, rows.as_slice(), &mut text)?;
         Ok(Text::of(text))
     }
 
     /// Appends each of these writable variables.
     fn put_settings<S: Stream>(
         &mut self,
-        rt: &impl Wait,
         stream: &mut S,
         ups: &Word<'_>,
         rows: &[Fields],
@@ -185,7 +170,7 @@ impl Conversation {
             (point S.remaining S.taken S.has_ended self.new.unread stream.new) }
     {
         for row in rows {
-            self.put_setting(rt, stream, ups, row, text)?;
+            self.put_setting(stream, ups, row, text)?;
         }
         Ok(())
     }
@@ -193,7 +178,6 @@ impl Conversation {
     /// Asks for the type of a writable variable, and appends what is shown of it.
     fn put_setting<S: Stream>(
         &mut self,
-        rt: &impl Wait,
         stream: &mut S,
         ups: &Word<'_>,
         row: &Fields,
@@ -206,7 +190,6 @@ impl Conversation {
     {
         let (ups_name, variable) = (ups.copy(), name_of(row));
         let kind = self.words(
-            rt,
             stream,
             &Request::GetType {
                 ups: ups_name,
@@ -214,7 +197,7 @@ impl Conversation {
             },
         )?;
         put_heading(text, row, &kind)?;
-        self.put_values(rt, stream, ups, row, &kind, text)?;
+        self.put_values(stream, ups, row, &kind, text)?;
         put_line(text, &[])?;
         Ok(())
     }
@@ -222,7 +205,6 @@ impl Conversation {
     /// Asks which values a variable of this type may have, and appends them.
     fn put_values<S: Stream>(
         &mut self,
-        rt: &impl Wait,
         stream: &mut S,
         ups: &Word<'_>,
         row: &Fields,
@@ -238,7 +220,6 @@ impl Conversation {
         match values_of(kind) {
             Values::Enum => {
                 self.put_list(
-                    rt,
                     stream,
                     ListQuery::Enum { ups, variable },
                     Form::Options,
@@ -247,7 +228,6 @@ impl Conversation {
             }
             Values::Range => {
                 self.put_list(
-                    rt,
                     stream,
                     ListQuery::Range { ups, variable },
                     Form::Ranges,
@@ -261,7 +241,6 @@ impl Conversation {
     /// Lists, and appends a line for each row.
     fn put_list<S: Stream>(
         &mut self,
-        rt: &impl Wait,
         stream: &mut S,
         query: ListQuery<'_>,
         form: Form,
@@ -273,32 +252,26 @@ impl Conversation {
             (point S.remaining S.taken S.has_ended self.old.unread stream.old)
             (point S.remaining S.taken S.has_ended self.new.unread stream.new) }
     {
-        let rows = self.rows(rt, stream, query)?;
+        let rows = self.rows(stream, query)?;
         put_rows(text, form, rows.as_slice())?;
         Ok(())
     }
 
     /// Shows all commands, each with its description.
-    fn commands<S: Stream>(
-        &mut self,
-        rt: &impl Wait,
-        stream: &mut S,
-        ups: Word<'_>,
-    ) -> Result<Text, Failure>
+    fn commands<S: Stream>(&mut self, stream: &mut S, ups: Word<'_>) -> Result<Text, Failure>
         ensures { Goes (script ups.entry Commands) Prints result
             (point S.remaining S.taken S.has_ended self.old.unread stream.old)
             (point S.remaining S.taken S.has_ended self.new.unread stream.new) }
     {
-        let rows = self.rows(rt, stream, ListQuery::Cmd { ups: ups.copy() })?;
+        let rows = self.rows(stream, ListQuery::Cmd { ups: ups.copy() })?;
         let mut text = Vec::new(self.alloc);
-        self.put_commands(rt, stream, &ups, rows.as_slice(), &mut text)?;
+        self.put_commands(stream, &ups, rows.as_slice(), &mut text)?;
         Ok(Text::of(text))
     }
 
     /// Appends each of these commands.
     fn put_commands<S: Stream>(
         &mut self,
-        rt: &impl Wait,
         stream: &mut S,
         ups: &Word<'_>,
         rows: &[Fields],
@@ -309,7 +282,7 @@ impl Conversation {
             (point S.remaining S.taken S.has_ended self.new.unread stream.new) }
     {
         for row in rows {
-            self.put_command(rt, stream, ups, row, text)?;
+            self.put_command(stream, ups, row, text)?;
         }
         Ok(())
     }
@@ -317,7 +290,6 @@ impl Conversation {
     /// Asks for the description of a command, and appends both.
     fn put_command<S: Stream>(
         &mut self,
-        rt: &impl Wait,
         stream: &mut S,
         ups: &Word<'_>,
         row: &Fields,
@@ -329,7 +301,7 @@ impl Conversation {
             (point S.remaining S.taken S.has_ended self.new.unread stream.new) }
     {
         let (ups, command) = (ups.copy(), name_of(row));
-        let words = self.words(rt, stream, &Request::GetCmdDesc { ups, command })?;
+        let words = self.words(stream, &Request::GetCmdDesc { ups, command })?;
         put_line(text, &[row.get(0), b" - ", words.get(0)])?;
         Ok(())
     }

@@ -1,9 +1,10 @@
 //! Queries over a connection, one after the other.
-ghost use Rattle.std.specs.Prelude.{◌≡◌, ◌+◌, ◌∷◌, [], List, ℕ, IfErr, OnOk, false, min, true};
+ghost use Rattle.std.specs.Prelude.{◌≡◌, ◌<◌, ◌+◌, ◌∷◌, [], List, ℕ, IfErr, OnOk, false, min, true};
 ghost use Rattle.std.specs.Io.KnownBytes.{append_known};
 ghost use Rattle.nut_client.specs.Script.{Asks, Script, on_done, on_number, on_rows, on_words};
 ghost use Rattle.nut_client.specs.inside.Between.{Goes, point};
 ghost use Rattle.nut_client.specs.inside.Conversation.{Awaits, Hears, Sends};
+ghost use Rattle.nut_client.specs.inside.Unread.{steps_left};
 ghost use Rattle.nut_link.specs.Link.{fresh};
 ghost use Rattle.nut_link.specs.declared.outcome.Outcome.{Outcome as Came};
 ghost use Rattle.nut_proto.specs.Requests.{request_line};
@@ -18,7 +19,6 @@ use nut_link::{Fields, Link, Outcome, Rows};
 use nut_proto::{ListQuery, Request};
 use nut_words::LINE_MAX;
 use std::alloc::Global;
-use std::sync::Wait;
 
 /// Queries over a connection, one after the other, each over a link of its own. Bytes that were read after an answer are
 /// kept, and fed to the link of the next query once that was sent.
@@ -42,7 +42,6 @@ impl Conversation {
     /// Sends a query and waits for its answer.
     pub(crate) fn ask<S: Stream>(
         &mut self,
-        rt: &impl Wait,
         stream: &mut S,
         request: &Request<'_>,
     ) -> Result<Outcome, Failure>
@@ -52,13 +51,12 @@ impl Conversation {
         ensures asked { OnOk result (S.taken stream.new ≡ append_known (S.taken stream.old) (request_line request.now)) }
     {
         let mut link = Link::new(self.alloc);
-        ask_over(rt, stream, &mut link, &mut self.unread, request)
+        ask_over(stream, &mut link, &mut self.unread, request)
     }
 
     /// Asks a LIST, and returns its rows.
     pub(crate) fn rows<S: Stream>(
         &mut self,
-        rt: &impl Wait,
         stream: &mut S,
         query: ListQuery<'_>,
     ) -> Result<Rows, Failure>
@@ -66,14 +64,13 @@ impl Conversation {
             (point S.remaining S.taken S.has_ended self.old.unread stream.old)
             (point S.remaining S.taken S.has_ended self.new.unread stream.new) }
     {
-        let outcome = self.ask(rt, stream, &Request::List(query))?;
+        let outcome = self.ask(stream, &Request::List(query))?;
         rows_of(outcome)
     }
 
     /// Asks a GET, and returns the words of its answer.
     pub(crate) fn words<S: Stream>(
         &mut self,
-        rt: &impl Wait,
         stream: &mut S,
         request: &Request<'_>,
     ) -> Result<Fields, Failure>
@@ -81,14 +78,13 @@ impl Conversation {
             (point S.remaining S.taken S.has_ended self.old.unread stream.old)
             (point S.remaining S.taken S.has_ended self.new.unread stream.new) }
     {
-        let outcome = self.ask(rt, stream, request)?;
+        let outcome = self.ask(stream, request)?;
         words_of(outcome)
     }
 
     /// Asks what is tracked, and returns its number.
     pub(crate) fn number<S: Stream>(
         &mut self,
-        rt: &impl Wait,
         stream: &mut S,
         request: &Request<'_>,
     ) -> Result<u32, Failure>
@@ -96,14 +92,13 @@ impl Conversation {
             (point S.remaining S.taken S.has_ended self.old.unread stream.old)
             (point S.remaining S.taken S.has_ended self.new.unread stream.new) }
     {
-        let outcome = self.ask(rt, stream, request)?;
+        let outcome = self.ask(stream, request)?;
         number_of(outcome)
     }
 
     /// Asks what is answered `OK`.
     pub(crate) fn done<S: Stream>(
         &mut self,
-        rt: &impl Wait,
         stream: &mut S,
         request: &Request<'_>,
     ) -> Result<(), Failure>
@@ -112,7 +107,7 @@ impl Conversation {
             (point S.remaining S.taken S.has_ended self.new.unread stream.new) }
         ensures asked { OnOk result (S.taken stream.new ≡ append_known (S.taken stream.old) (request_line request.now)) }
     {
-        let outcome = self.ask(rt, stream, request)?;
+        let outcome = self.ask(stream, request)?;
         done_of(outcome)
     }
 }
@@ -120,7 +115,6 @@ impl Conversation {
 /// Sends a query over a link on which nothing was said, and waits for its answer. The link is fed no more than a line at a
 /// time.
 fn ask_over<S: Stream>(
-    rt: &impl Wait,
     stream: &mut S,
     link: &mut Link,
     unread: &mut Unread,
@@ -132,33 +126,27 @@ fn ask_over<S: Stream>(
         (point S.remaining S.taken S.has_ended unread.new stream.new) }
     ensures asked { OnOk result (S.taken stream.new ≡ append_known (S.taken stream.old) (request_line request.now)) }
 {
-    if let Err(failure) = send(rt, stream, link, request) {
+    if let Err(failure) = send(stream, link, request) {
         return Err(failure);
     }
     let mut length = 0usize;
-    for _ in rt.forever() {
-        match hear(rt, stream, link, unread, &mut length) {
+    loop {
+        match hear(stream, link, unread, &mut length) {
             Ok(Some(outcome)) => return Ok(outcome),
             Ok(None) => {}
             Err(failure) => return Err(failure),
         }
     }
-    unreachable!()
 }
 
 /// Sends all bytes of a query over a link on which nothing was said.
-fn send<S: Stream>(
-    rt: &impl Wait,
-    stream: &mut S,
-    link: &mut Link,
-    request: &Request<'_>,
-) -> Result<(), Failure>
+fn send<S: Stream>(stream: &mut S, link: &mut Link, request: &Request<'_>) -> Result<(), Failure>
     requires { link.old ≡ fresh }
     ensures sends { Sends request.now result link.new (S.taken stream.old) (S.taken stream.new) (S.has_ended stream.new) }
     ensures remaining { S.remaining stream.new ≡ S.remaining stream.old }
 {
     link.ask(request)?;
-    for _ in rt.forever() {
+    loop {
         if link.waiting().is_empty() {
             break;
         }
@@ -174,17 +162,17 @@ fn send<S: Stream>(
 /// Feeds the link the next part of a line, and takes out the answer if it is complete. `length` is how many bytes of an
 /// unfinished line were fed. A line that is too long is a bad answer at once: it may never end.
 fn hear<S: Stream>(
-    rt: &impl Wait,
     stream: &mut S,
     link: &mut Link,
     unread: &mut Unread,
     length: &mut usize,
 ) -> Result<Option<Outcome>, Failure>
     requires { Awaits link.old length.old }
-    ensures { Hears link.old (point S.remaining S.taken S.has_ended unread.old stream.old) result
+    ensures hears { Hears link.old (point S.remaining S.taken S.has_ended unread.old stream.old) result
         link.new length.new (point S.remaining S.taken S.has_ended unread.new stream.new) }
+    ensures lowers { OnOk result (steps_left (S.calls_left stream.new) unread.new < steps_left (S.calls_left stream.old) unread.old) }
 {
-    if !unread.fill(rt, stream) {
+    if !unread.fill(stream) {
         return Err(Failure::ConnectionLost);
     }
     let (part, is_ended) = unread.line_part();

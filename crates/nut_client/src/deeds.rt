@@ -12,7 +12,6 @@ use crate::stream::Stream;
 use crate::wanted::{Deed, Until};
 use nut_link::Text;
 use nut_proto::{Request, TrackingStatus, Word, tracking_status};
-use std::sync::Wait;
 use std::thread;
 use std::time::{Clock, Duration};
 
@@ -44,7 +43,7 @@ impl Conversation {
     /// Has the UPS of this name do something for the user of this name and password.
     pub(crate) fn carry_out<S: Stream>(
         &mut self,
-        rt: &(impl Wait + Clock),
+        rt: &impl Clock,
         stream: &mut S,
         ups: Word<'_>,
         user: Word<'_>,
@@ -56,10 +55,10 @@ impl Conversation {
             (point S.remaining S.taken S.has_ended self.old.unread stream.old)
             (point S.remaining S.taken S.has_ended self.new.unread stream.new) }
     {
-        self.done(rt, stream, &Request::Username { name: user })?;
-        self.done(rt, stream, &Request::Password { password })?;
+        self.done(stream, &Request::Username { name: user })?;
+        self.done(stream, &Request::Password { password })?;
         match until {
-            Until::Accepted => self.do_once(rt, stream, &ups, &deed),
+            Until::Accepted => self.do_once(stream, &ups, &deed),
             Until::Ended => self.do_tracked(rt, stream, &ups, &deed),
         }
     }
@@ -67,7 +66,6 @@ impl Conversation {
     /// Has the UPS do something, until the server has accepted the request.
     fn do_once<S: Stream>(
         &mut self,
-        rt: &impl Wait,
         stream: &mut S,
         ups: &Word<'_>,
         deed: &Deed<'_>,
@@ -76,14 +74,14 @@ impl Conversation {
             (point S.remaining S.taken S.has_ended self.old.unread stream.old)
             (point S.remaining S.taken S.has_ended self.new.unread stream.new) }
     {
-        self.done(rt, stream, &deed_query(ups, deed))?;
+        self.done(stream, &deed_query(ups, deed))?;
         line_text(self.alloc, b"OK")
     }
 
     /// Has the UPS do something, until the request has succeeded.
     fn do_tracked<S: Stream>(
         &mut self,
-        rt: &(impl Wait + Clock),
+        rt: &impl Clock,
         stream: &mut S,
         ups: &Word<'_>,
         deed: &Deed<'_>,
@@ -92,8 +90,8 @@ impl Conversation {
             (point S.remaining S.taken S.has_ended self.old.unread stream.old)
             (point S.remaining S.taken S.has_ended self.new.unread stream.new) }
     {
-        self.done(rt, stream, &Request::SetTracking { on: true })?;
-        let number = self.number(rt, stream, &deed_query(ups, deed))?;
+        self.done(stream, &Request::SetTracking { on: true })?;
+        let number = self.number(stream, &deed_query(ups, deed))?;
         self.wait_for(rt, stream, number)?;
         line_text(self.alloc, b"SUCCESS")
     }
@@ -101,7 +99,7 @@ impl Conversation {
     /// Waits until the request of this number has succeeded.
     fn wait_for<S: Stream>(
         &mut self,
-        rt: &(impl Wait + Clock),
+        rt: &impl Clock,
         stream: &mut S,
         number: u32,
     ) -> Result<(), Failure>
@@ -110,12 +108,12 @@ impl Conversation {
             (point S.remaining S.taken S.has_ended self.new.unread stream.new) }
     {
         for _ in 0..PAUSES_MAX {
-            if self.has_succeeded(rt, stream, number)? {
+            if self.has_succeeded(stream, number)? {
                 return Ok(());
             }
             thread::sleep(rt, Duration::from_secs(PAUSE));
         }
-        if self.has_succeeded(rt, stream, number)? {
+        if self.has_succeeded(stream, number)? {
             Ok(())
         } else {
             Err(Failure::Unconfirmed(TrackingStatus::Pending))
@@ -123,18 +121,13 @@ impl Conversation {
     }
 
     /// Asks whether the request of this number has succeeded. If not, it is pending.
-    fn has_succeeded<S: Stream>(
-        &mut self,
-        rt: &impl Wait,
-        stream: &mut S,
-        number: u32,
-    ) -> Result<bool, Failure>
+    fn has_succeeded<S: Stream>(&mut self, stream: &mut S, number: u32) -> Result<bool, Failure>
         ensures { (pending : Script) → Goes (asks_status number pending)
             (λ done. if done then Prints (line (codes "SUCCESS" ∷ [])) else pending) result
             (point S.remaining S.taken S.has_ended self.old.unread stream.old)
             (point S.remaining S.taken S.has_ended self.new.unread stream.new) }
     {
-        let words = self.words(rt, stream, &Request::GetTrackingOf { number })?;
+        let words = self.words(stream, &Request::GetTrackingOf { number })?;
         match tracking_status(words.get(0)) {
             Some(TrackingStatus::Success) => Ok(true),
             Some(TrackingStatus::Pending) => Ok(false),

@@ -20,7 +20,6 @@ use nut_link::Text;
 use nut_proto::Word;
 use std::alloc::Global;
 use std::io;
-use std::sync::Wait;
 use std::time::Clock;
 
 /// Asks a server what is wanted of the UPS of this name. Returns the text to print once the last answer has come.
@@ -33,7 +32,7 @@ use std::time::Clock;
 /// writable; `ConnectionLost` if the connection ends or fails before the last answer; `Memory` if memory cannot be
 /// allocated.
 pub fn ask_server<S: Stream>(
-    rt: &(impl Wait + Clock),
+    rt: &impl Clock,
     alloc: Global,
     ups: Word<'_>,
     wanted: Wanted<'_>,
@@ -56,11 +55,11 @@ fn rest_from(bytes: &[u8], at: usize) -> &[u8]
 }
 
 /// Writes these bytes. Returns whether all were written; if not, a beginning of them was, and the output has failed.
-pub(crate) fn put_all<O: Output>(rt: &impl Wait, output: &mut O, bytes: &[u8]) -> bool
+pub(crate) fn put_all<O: Output>(output: &mut O, bytes: &[u8]) -> bool
     ensures { Puts result bytes.now (written O.contents O.has_failed output.old output.new) }
 {
     let mut at = 0usize;
-    for _ in rt.forever() {
+    loop {
         if at == bytes.len() {
             return output.flush();
         }
@@ -70,33 +69,31 @@ pub(crate) fn put_all<O: Output>(rt: &impl Wait, output: &mut O, bytes: &[u8]) -
             Moved::Lost => return false,
         }
     }
-    unreachable!()
 }
 
 /// Writes to the error output why there is no output, or only a part of it.
-fn put_failure<E: Output>(rt: &impl Wait, err: &mut E, failure: &Failure)
+fn put_failure<E: Output>(err: &mut E, failure: &Failure)
     ensures { HasText (error_text failure.now) (written E.contents E.has_failed err.old err.new) }
 {
-    if !put_all(rt, err, b"Error: ") {
+    if !put_all(err, b"Error: ") {
         return;
     }
-    if !put_all(rt, err, failure.reason()) {
+    if !put_all(err, failure.reason()) {
         return;
     }
-    put_all(rt, err, b"\n");
+    put_all(err, b"\n");
 }
 
 /// Writes to the error output why there is no output, or only a part of it. Returns the exit status.
-fn fail<E: Output>(rt: &impl Wait, failure: Failure, err: &mut E) -> u8
+fn fail<E: Output>(failure: Failure, err: &mut E) -> u8
     ensures { Reports failure result (written E.contents E.has_failed err.old err.new) }
 {
-    put_failure(rt, err, &failure);
+    put_failure(err, &failure);
     failure.status()
 }
 
 /// Prints the text of a tool, or writes why there is none. Returns the exit status.
 pub(crate) fn tell<O: Output, E: Output>(
-    rt: &impl Wait,
     printed: Result<Text, Failure>,
     out: &mut O,
     err: &mut E,
@@ -105,18 +102,17 @@ pub(crate) fn tell<O: Output, E: Output>(
 {
     match printed {
         Ok(text) => {
-            if put_all(rt, out, text.as_bytes()) {
+            if put_all(out, text.as_bytes()) {
                 return 0;
             }
-            fail(rt, Failure::OutputFailed, err)
+            fail(Failure::OutputFailed, err)
         }
-        Err(failure) => fail(rt, failure, err),
+        Err(failure) => fail(failure, err),
     }
 }
 
 /// Writes why a command line gives no options to the tool of this name. Returns the exit status.
 pub(crate) fn tell_refusal<O: Output, E: Output>(
-    rt: &impl Wait,
     alloc: Global,
     name: &str,
     refusal: Refusal,
@@ -127,8 +123,8 @@ pub(crate) fn tell_refusal<O: Output, E: Output>(
         (written O.contents O.has_failed out.old out.new) (written E.contents E.has_failed err.old err.new) }
 {
     match refusal {
-        Refusal::Failed(failure) => tell(rt, Err(failure), out, err),
-        Refusal::Usage(error) => tell_usage(rt, alloc, name, &error, out, err),
+        Refusal::Failed(failure) => tell(Err(failure), out, err),
+        Refusal::Usage(error) => tell_usage(alloc, name, &error, out, err),
     }
 }
 
@@ -143,18 +139,17 @@ fn is_asked_for(error: &clap::Error) -> bool
 }
 
 /// Writes to `err` clap's text for a command line that clap refuses. Returns status 2.
-fn tell_fault<E: Output>(rt: &impl Wait, text: &Text, err: &mut E) -> u8
+fn tell_fault<E: Output>(text: &Text, err: &mut E) -> u8
     ensures status { result ≡ 2 }
     ensures text { HasText text.now (written E.contents E.has_failed err.old err.new) }
 {
-    put_all(rt, err, text.as_bytes());
+    put_all(err, text.as_bytes());
     2
 }
 
 /// Writes clap's text for the tool of this name: the help and the version to `out`, as a tool's output is written, and a
 /// fault to `err`, with status 2. If memory for the text cannot be allocated, writes that to `err`, with status 1.
 fn tell_usage<O: Output, E: Output>(
-    rt: &impl Wait,
     alloc: Global,
     name: &str,
     error: &clap::Error,
@@ -167,12 +162,12 @@ fn tell_usage<O: Output, E: Output>(
         (written O.contents O.has_failed out.old out.new) (written E.contents E.has_failed err.old err.new) }
 {
     let Ok(text) = clap_text(alloc, name, error) else {
-        return tell(rt, Err(Failure::Memory), out, err);
+        return tell(Err(Failure::Memory), out, err);
     };
     if is_asked_for(error) {
-        tell(rt, Ok(text), out, err)
+        tell(Ok(text), out, err)
     } else {
-        tell_fault(rt, &text, err)
+        tell_fault(&text, err)
     }
 }
 
@@ -188,8 +183,8 @@ fn words_failure(error: &io::Error) -> Failure
 
 /// Writes why the words of the command line are not available. Returns the exit status: 1 if memory cannot be
 /// allocated, and 2 for any other error, such as a word that isn't UTF-8.
-pub fn refuse_words<E: Output>(rt: &impl Wait, error: &io::Error, err: &mut E) -> u8
+pub fn refuse_words<E: Output>(error: &io::Error, err: &mut E) -> u8
     ensures { Reports (words_failure (error_kind error.now)) result (written E.contents E.has_failed err.old err.new) }
 {
-    fail(rt, words_failure(error), err)
+    fail(words_failure(error), err)
 }

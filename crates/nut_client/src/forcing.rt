@@ -12,7 +12,6 @@ use crate::failure::Failure;
 use crate::stream::Stream;
 use nut_proto::{Request, Word};
 use std::alloc::Global;
-use std::sync::Wait;
 
 /// Forces the shutdown of the UPS of this name, as this user: asks USERNAME, PASSWORD, LOGIN, PRIMARY and FSD, each once
 /// the query before it was answered `OK`. The login lasts until the connection is closed, so close it at once: a primary
@@ -25,7 +24,6 @@ use std::sync::Wait;
 /// if the connection ends or fails before the last answer: if FSD was sent, the server may have accepted it; `Memory` if
 /// memory cannot be allocated.
 pub fn force_shutdown<S: Stream>(
-    rt: &impl Wait,
     alloc: Global,
     ups: Word<'_>,
     user: Word<'_>,
@@ -46,12 +44,11 @@ pub fn force_shutdown<S: Stream>(
         Request::Primary { ups: ups.copy() },
         Request::Fsd { ups },
     ];
-    ask_in_turn(rt, &mut conversation, stream, &queries)
+    ask_in_turn(&mut conversation, stream, &queries)
 }
 
 /// Asks these queries in turn, each once the one before it was answered `OK`.
 fn ask_in_turn<S: Stream>(
-    rt: &impl Wait,
     conversation: &mut Conversation,
     stream: &mut S,
     queries: &[Request<'_>],
@@ -62,7 +59,7 @@ fn ask_in_turn<S: Stream>(
     ensures asked { IfOk result (λ _. S.taken stream.new ≡ append_known (S.taken stream.old) (query_lines queries.now)) }
 {
     for query in queries {
-        conversation.done(rt, stream, query)?;
+        conversation.done(stream, query)?;
     }
     Ok(())
 }

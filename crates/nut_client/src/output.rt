@@ -1,7 +1,7 @@
 //! What a tool prints to.
 ghost use Rattle.std.specs.Prelude.{◌≡◌, ℕ, List, Option, false, true};
 ghost use Rattle.std.specs.Io.KnownBytes.{Keeps};
-ghost use Rattle.nut_client.specs.Output.{Wrote};
+ghost use Rattle.nut_client.specs.Output.{Advances, MovedNone, Wrote};
 ghost use Rattle.nut_client.specs.declared.stream.Moved.TheVariants.{Lost};
 
 use crate::stream::Moved;
@@ -15,10 +15,14 @@ pub trait Output {
     /// It has failed: not all that was written to it so far arrived.
     ghost has_failed: { Self → Type 0 };
 
+    /// How many more writes can be tried again, at most. So whoever tries again for as long as it may returns.
+    ghost tries_left: { Self → ℕ };
+
     /// Writes some of these bytes. Returns how many, or why it wrote none.
     fn write(&mut self, bytes: &[u8]) -> Moved
         ensures wrote { Wrote result bytes.now (contents self.old) (contents self.new) }
-        ensures lost { result ≡ Lost → has_failed self.new };
+        ensures lost { result ≡ Lost → has_failed self.new }
+        ensures lowers { Advances result (tries_left self.old) (tries_left self.new) };
 
     /// Passes on what was written. Returns whether all of it arrived.
     fn flush(&mut self) -> bool
@@ -28,11 +32,13 @@ pub trait Output {
 }
 
 /// An output over a writer, such as a standard stream, or a `Vec` in a test. It has failed once a write or a flush of
-/// the writer failed.
+/// the writer failed, or once it was to be
+/// tried again more than `u64::MAX` times, which no run does.
 #[derive(Drop)]
 pub struct WriterOutput<W> {
     writer: W,
     has_failed: bool,
+    tries_left: u64,
 }
 
 impl<W> WriterOutput<W> {
@@ -44,6 +50,7 @@ impl<W> WriterOutput<W> {
         WriterOutput {
             writer,
             has_failed: false,
+            tries_left: u64::MAX,
         }
     }
 
@@ -55,6 +62,22 @@ impl<W> WriterOutput<W> {
         self.has_failed = true;
         Moved::Lost
     }
+
+    /// Notes that a write wrote nothing, and may be tried again.
+    fn retry(&mut self) -> Moved
+        ensures lowers { Advances result self.old.tries_left self.new.tries_left }
+        ensures kept { self.new.writer ≡ self.old.writer }
+        ensures lost { result ≡ Lost → self.new.has_failed ≡ true }
+        ensures none { MovedNone result }
+    {
+        match self.tries_left.checked_sub(1) {
+            Some(left) => {
+                self.tries_left = left;
+                Moved::Again
+            }
+            None => self.fail(),
+        }
+    }
 }
 
 impl<W: Write> Output for WriterOutput<W> {
@@ -62,12 +85,14 @@ impl<W: Write> Output for WriterOutput<W> {
 
     ghost has_failed = { λ o. o.has_failed ≡ true };
 
+    ghost tries_left = { λ o. o.tries_left };
+
     #[tactic(auto, using(crate::proofs::Writing::keeps_none))]
     fn write(&mut self, bytes: &[u8]) -> Moved {
         match self.writer.write(bytes) {
             Ok(0) => self.fail(),
             Ok(n) => Moved::Bytes(n),
-            Err(error) if error.kind() == ErrorKind::Interrupted => Moved::Again,
+            Err(error) if error.kind() == ErrorKind::Interrupted => self.retry(),
             Err(_) => self.fail(),
         }
     }

@@ -13,7 +13,6 @@ use std::io::{Input, Print};
 use std::net::Net;
 use std::process::ExitCode;
 use std::rt::Files;
-use std::sync::Wait;
 use std::time::Clock;
 use std::{env, io, str};
 
@@ -23,7 +22,7 @@ use std::{env, io, str};
 /// Standard streams that are closed are held first, so that the connection never takes the place of one. A password `-`
 /// is read from standard input before the server is dialled. Below the line of a failure, a line of its own says why no
 /// connection was made, and the tool's usage if the words are no combination that it knows.
-pub fn run_tool<R: Clock + Env + Files + Input + Net + Print + Wait + AllocGlobal, E: Print>(
+pub fn run_tool<R: Clock + Env + Files + Input + Net + Print + AllocGlobal, E: Print>(
     rt: &R,
     stderr: &E,
     tool: Tool,
@@ -31,7 +30,7 @@ pub fn run_tool<R: Clock + Env + Files + Input + Net + Print + Wait + AllocGloba
     let mut err = WriterOutput::new(io::writer(stderr));
     let status = match run_held(rt, tool, &mut err) {
         Ok(status) => status,
-        Err(error) => refuse_words(rt, &error, &mut err),
+        Err(error) => refuse_words(&error, &mut err),
     };
     ExitCode::from(status)
 }
@@ -43,7 +42,7 @@ pub fn run_tool<R: Clock + Env + Files + Input + Net + Print + Wait + AllocGloba
 /// Why the words are not available, or that memory cannot be allocated.
 fn run_held<R, E: Output>(rt: &R, tool: Tool, err: &mut E) -> io::Result<u8>
 where
-    R: Clock + Env + Files + Input + Net + Print + Wait + AllocGlobal,
+    R: Clock + Env + Files + Input + Net + Print + AllocGlobal,
 {
     let held = hold_closed_streams(rt, rt.alloc())?;
     let status = run_command_line(rt, tool, err);
@@ -55,7 +54,7 @@ where
 /// Runs a tool with the words of the command line.
 fn run_command_line<R, E: Output>(rt: &R, tool: Tool, err: &mut E) -> io::Result<u8>
 where
-    R: Clock + Env + Input + Net + Print + Wait + AllocGlobal,
+    R: Clock + Env + Input + Net + Print + AllocGlobal,
 {
     let mut words = command_words(rt)?;
     Ok(run_words(rt, tool, &mut words, err))
@@ -70,7 +69,7 @@ fn command_words<R: Env + AllocGlobal>(rt: &R) -> io::Result<Vec<String>> {
 /// Runs a tool with these words, the program's name first. Returns the exit status.
 fn run_words<R, E: Output>(rt: &R, tool: Tool, words: &mut Vec<String>, err: &mut E) -> u8
 where
-    R: Clock + Input + Net + Print + Wait + AllocGlobal,
+    R: Clock + Input + Net + Print + AllocGlobal,
 {
     match tool.target(rt.alloc(), words.as_slice()) {
         Ok(Some(destination)) => ask_for_words(rt, tool, words, destination, err),
@@ -88,13 +87,13 @@ fn ask_for_words<R, E: Output>(
     err: &mut E,
 ) -> u8
 where
-    R: Clock + Input + Net + Print + Wait + AllocGlobal,
+    R: Clock + Input + Net + Print + AllocGlobal,
 {
     match take_password(rt.alloc(), words, rt) {
         Ok(()) => ask_destination(rt, tool, words.as_slice(), &destination, err),
         Err(PasswordFault::Memory) => fail(rt, Failure::Memory, err),
         Err(PasswordFault::Missing) => {
-            put_all(rt, err, b"Error: no password on standard input\n");
+            put_all(err, b"Error: no password on standard input\n");
             1
         }
     }
@@ -109,13 +108,13 @@ fn ask_destination<R, E: Output>(
     err: &mut E,
 ) -> u8
 where
-    R: Clock + Net + Print + Wait + AllocGlobal,
+    R: Clock + Net + Print + AllocGlobal,
 {
     let mut out = WriterOutput::new(io::writer(rt));
     match dial_host(rt, &destination.host, destination.port) {
         Ok(mut stream) => tool.run(rt, rt.alloc(), words, &mut stream, &mut out, err),
         Err(error) => {
-            let status = tool.run_alone(rt, rt.alloc(), words, &mut out, err);
+            let status = tool.run_alone(rt.alloc(), words, &mut out, err);
             tell_undialled(rt, tool, destination, &error, err);
             status
         }
@@ -131,13 +130,13 @@ fn tell_undialled<R, E: Output>(
     err: &mut E,
 )
 where
-    R: Wait + AllocGlobal,
+    R: AllocGlobal,
 {
     let name = tool.name();
     let host = str::from_utf8(destination.host.as_bytes()).unwrap_or("");
     let port = destination.port.number;
     if let Ok(line) = format!(in rt.alloc(); "{name}: {host}:{port}: {error}\n") {
-        put_all(rt, err, line.as_bytes());
+        put_all(err, line.as_bytes());
     }
 }
 
@@ -145,24 +144,19 @@ where
 /// the text that they ask for. Returns the exit status.
 fn refuse_combination<R, E: Output>(rt: &R, tool: Tool, words: &[String], err: &mut E) -> u8
 where
-    R: Print + Wait + AllocGlobal,
+    R: Print + AllocGlobal,
 {
     let mut out = WriterOutput::new(io::writer(rt));
-    let status = tool.run_alone(rt, rt.alloc(), words, &mut out, err);
+    let status = tool.run_alone(rt.alloc(), words, &mut out, err);
     if tool.is_bad_combination(rt.alloc(), words) {
-        put_all(rt, err, b"Usage: ");
-        put_all(rt, err, tool.usage().as_bytes());
-        put_all(rt, err, b"\n");
+        put_all(err, b"Usage: ");
+        put_all(err, tool.usage().as_bytes());
+        put_all(err, b"\n");
     }
     status
 }
 
 /// Writes why nothing was asked. Returns the exit status.
-fn fail<R: Print + Wait, E: Output>(rt: &R, failure: Failure, err: &mut E) -> u8 {
-    tell(
-        rt,
-        Err(failure),
-        &mut WriterOutput::new(io::writer(rt)),
-        err,
-    )
+fn fail<R: Print, E: Output>(rt: &R, failure: Failure, err: &mut E) -> u8 {
+    tell(Err(failure), &mut WriterOutput::new(io::writer(rt)), err)
 }

@@ -1,6 +1,6 @@
 //! The connection to a server, as a tool sees it.
 ghost use Rattle.std.specs.Prelude.{◌≡◌, ◌⊎◌, ◌<◌, length, ⊤, ℕ, List, [], Option, Some, None, false, true};
-ghost use Rattle.nut_client.specs.Stream.{Gave, IsWithin, Took, moved_of};
+ghost use Rattle.nut_client.specs.Stream.{Gave, IsWithin, LowersByRead, LowersByWrite, Took, moved_of};
 ghost use Rattle.nut_client.specs.declared.stream.Moved.TheVariants.{Again, Lost};
 
 use std::alloc::Global;
@@ -30,24 +30,32 @@ pub trait Stream {
     /// It has ended or failed.
     ghost has_ended: { Self → Type 0 };
 
+    /// How many more reads can move bytes, and how many more calls can be tried again, at most. So whoever reads until it
+    /// ends, or tries again for as long as it may, returns.
+    ghost calls_left: { Self → ℕ };
+
     /// Reads some of the bytes that the server sent. The place for them has room for at least one. It may wait.
     fn read(&mut self, place: &mut [u8]) -> Moved
         requires room { 0 < length place.old }
         ensures gave { Gave result place.new (remaining self.old) (remaining self.new) }
         ensures kept { taken self.new ≡ taken self.old }
-        ensures lost { result ≡ Lost → has_ended self.new };
+        ensures lost { result ≡ Lost → has_ended self.new }
+        ensures lowers { LowersByRead result (calls_left self.old) (calls_left self.new) };
 
     /// Sends some of these bytes. It may wait.
     fn write(&mut self, bytes: &[u8]) -> Moved
         ensures took { Took result bytes.now (taken self.old) (taken self.new) }
         ensures kept { remaining self.new ≡ remaining self.old }
-        ensures lost { result ≡ Lost → has_ended self.new };
+        ensures lost { result ≡ Lost → has_ended self.new }
+        ensures lowers { LowersByWrite result (calls_left self.old) (calls_left self.new) };
 }
 
-/// A connection over a socket, a pipe or the like. Which bytes it carries isn't known to the definitions.
+/// A connection over a socket, a pipe or the like. Which bytes it carries isn't known to the definitions. It takes
+/// `u64::MAX` calls, which no run makes, and then counts as lost.
 #[derive(Drop)]
 pub struct ByteStream<T> {
     inner: T,
+    calls_left: u64,
 }
 
 impl<T> ByteStream<T> {
@@ -55,7 +63,23 @@ impl<T> ByteStream<T> {
     pub fn new(inner: T) -> Self
         ensures { result.inner ≡ inner }
     {
-        ByteStream { inner }
+        ByteStream {
+            inner,
+            calls_left: u64::MAX,
+        }
+    }
+
+    /// Counts a call. Returns whether it may be made.
+    fn count_call(&mut self) -> bool
+        ensures { result ≡ true → self.new.calls_left < self.old.calls_left }
+    {
+        match self.calls_left.checked_sub(1) {
+            Some(left) => {
+                self.calls_left = left;
+                true
+            }
+            None => false,
+        }
     }
 }
 
@@ -82,12 +106,20 @@ impl<T: Read + Write> Stream for ByteStream<T> {
 
     ghost has_ended = { λ s. ⊤ };
 
+    ghost calls_left = { λ s. s.calls_left };
+
     fn read(&mut self, place: &mut [u8]) -> Moved {
+        if !self.count_call() {
+            return Moved::Lost;
+        }
         let count = self.inner.read(place);
         what_moved(count, place.len())
     }
 
     fn write(&mut self, bytes: &[u8]) -> Moved {
+        if !self.count_call() {
+            return Moved::Lost;
+        }
         let moved = what_moved(self.inner.write(bytes), bytes.len());
         match self.inner.flush() {
             Ok(()) => moved,
@@ -138,11 +170,14 @@ impl<'a> Stream for MemoryStream<'a> {
     // It ends after the last byte, or when memory cannot be allocated.
     ghost has_ended = { λ s. (s.rest.now ≡ []) ⊎ (s.is_lost ≡ true) };
 
+    ghost calls_left = { λ s. length s.rest.now };
+
     fn read(&mut self, place: &mut [u8]) -> Moved
         requires room { 0 < length place.old }
         ensures gave { Gave result place.new (Some self.old.rest.now) (Some self.new.rest.now) }
         ensures kept { Some self.new.asked.items ≡ Some self.old.asked.items }
         ensures lost { result ≡ Lost → (self.new.rest.now ≡ []) ⊎ (self.new.is_lost ≡ true) }
+        ensures lowers { LowersByRead result (length self.old.rest.now) (length self.new.rest.now) }
         ensures surely { result ≡ Again → ⊥ }
     {
         let [_, ..] = self.rest else {
@@ -159,6 +194,7 @@ impl<'a> Stream for MemoryStream<'a> {
         ensures took { Took result bytes.now (Some self.old.asked.items) (Some self.new.asked.items) }
         ensures kept { Some self.new.rest.now ≡ Some self.old.rest.now }
         ensures lost { result ≡ Lost → (self.new.rest.now ≡ []) ⊎ (self.new.is_lost ≡ true) }
+        ensures lowers { LowersByWrite result (length self.old.rest.now) (length self.new.rest.now) }
         ensures surely { result ≡ Again → ⊥ }
     {
         let n = bytes.len().min(self.most.max(1));

@@ -19,7 +19,6 @@ use clap::{ArgMatches, Command};
 use nut_proto::Word;
 use std::alloc::{AllocError, Global};
 use std::convert::AsStr;
-use std::sync::Wait;
 use std::time::Clock;
 
 /// A tool.
@@ -118,7 +117,7 @@ impl Tool {
     /// Runs the tool with the words of a command line over a connection. Returns the exit status.
     pub(crate) fn run<W: AsStr, S: Stream, O: Output, E: Output>(
         self,
-        rt: &(impl Wait + Clock),
+        rt: &impl Clock,
         alloc: Global,
         words: &[W],
         stream: &mut S,
@@ -133,16 +132,15 @@ impl Tool {
             Ok(Options { target, wanted }) => {
                 let ups = Word::new(target.ups.as_bytes());
                 let printed = ask_server(rt, alloc, ups, wanted, stream);
-                tell(rt, printed, out, err)
+                tell(printed, out, err)
             }
-            Err(refusal) => tell_refusal(rt, alloc, self.name(), refusal, out, err),
+            Err(refusal) => tell_refusal(alloc, self.name(), refusal, out, err),
         }
     }
 
     /// Runs the tool with the words of a command line if no connection was made. Returns the exit status.
     pub(crate) fn run_alone<W: AsStr, O: Output, E: Output>(
         self,
-        rt: &impl Wait,
         alloc: Global,
         words: &[W],
         out: &mut O,
@@ -152,8 +150,8 @@ impl Tool {
             result (written O.contents O.has_failed out.old out.new) (written E.contents E.has_failed err.old err.new) }
     {
         match self.read_options(alloc, words) {
-            Ok(_) => tell(rt, Err(Failure::NoConnection), out, err),
-            Err(refusal) => tell_refusal(rt, alloc, self.name(), refusal, out, err),
+            Ok(_) => tell(Err(Failure::NoConnection), out, err),
+            Err(refusal) => tell_refusal(alloc, self.name(), refusal, out, err),
         }
     }
 }

@@ -1,7 +1,7 @@
 //! Bytes that were read from a connection and haven't been used yet.
 ghost use Rattle.std.specs.Prelude.{◌≡◌, ◌⊎◌, ◌<◌, ◌≤◌, [], IfSome, None, drop, false, length, true};
 ghost use Rattle.std.specs.Io.KnownBytes.{prepend_known};
-ghost use Rattle.nut_client.specs.inside.Unread.{IsEnded};
+ghost use Rattle.nut_client.specs.inside.Unread.{IsEnded, steps_left};
 ghost use Rattle.nut_words.specs.Quoting.{Begins};
 
 use crate::stream::{Moved, Stream};
@@ -9,7 +9,6 @@ use arrayvec::ArrayVec;
 use memchr::memchr;
 use nut_words::PIECE_MAX;
 use std::marker::Model;
-use std::sync::Wait;
 
 /// Bytes that were read from a connection and haven't been used yet.
 #[derive(Drop)]
@@ -67,18 +66,19 @@ impl Unread {
 
     /// Reads from the connection if nothing is unread. It waits for at least one byte. Returns whether there is one; if
     /// not, the connection is lost.
-    pub(crate) fn fill<S: Stream>(&mut self, rt: &impl Wait, stream: &mut S) -> bool
+    pub(crate) fn fill<S: Stream>(&mut self, stream: &mut S) -> bool
         ensures same { prepend_known self.old (S.remaining stream.old) ≡ prepend_known self.new (S.remaining stream.new) }
         ensures some { result ≡ true → 0 < length self.new }
         ensures none { result ≡ false → self.new ≡ [] }
         ensures reads { (self.new ≡ self.old) ⊎ ((self.old ≡ []) × (length self.new ≤ PIECE_MAX)) }
         ensures taken { S.taken stream.new ≡ S.taken stream.old }
         ensures lost { result ≡ false → S.has_ended stream.new }
+        ensures lowers { result ≡ true → steps_left (S.calls_left stream.new) self.new ≤ steps_left (S.calls_left stream.old) self.old }
     {
         if self.used < self.bytes.len() {
             return true;
         }
-        match read_some(rt, stream) {
+        match read_some(stream) {
             Some(bytes) => {
                 *self = Unread { bytes, used: 0 };
                 true
@@ -89,14 +89,15 @@ impl Unread {
 }
 
 /// Reads from the connection. It waits for at least one byte. `None` if the connection is lost.
-fn read_some<S: Stream>(rt: &impl Wait, stream: &mut S) -> Option<ArrayVec<u8, PIECE_MAX>>
+fn read_some<S: Stream>(stream: &mut S) -> Option<ArrayVec<u8, PIECE_MAX>>
     ensures some { IfSome result (λ bytes. S.remaining stream.old ≡ prepend_known bytes.items (S.remaining stream.new)) }
     ensures full { IfSome result (λ bytes. 0 < length bytes.items) }
     ensures none { result ≡ None → S.remaining stream.new ≡ S.remaining stream.old }
     ensures taken { S.taken stream.new ≡ S.taken stream.old }
     ensures lost { result ≡ None → S.has_ended stream.new }
+    ensures lowers { IfSome result (λ _. S.calls_left stream.new < S.calls_left stream.old) }
 {
-    for _ in rt.forever() {
+    loop {
         let mut bytes = ArrayVec::from([0; PIECE_MAX]);
         match stream.read(bytes.as_mut_slice()) {
             Moved::Bytes(n) => {
@@ -107,5 +108,4 @@ fn read_some<S: Stream>(rt: &impl Wait, stream: &mut S) -> Option<ArrayVec<u8, P
             Moved::Lost => return None,
         }
     }
-    unreachable!()
 }

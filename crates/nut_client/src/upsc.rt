@@ -17,7 +17,6 @@ use clap::{ArgMatches, Command};
 use nut_proto::Word;
 use std::alloc::{AllocError, Global};
 use std::convert::AsStr;
-use std::sync::Wait;
 use std::time::Clock;
 
 /// Runs `upsc` with these words of a command line, the program's name first, over a connection to the server, which is
@@ -28,7 +27,7 @@ use std::time::Clock;
 /// is one line on `err`, `Error: ` and the reason, with status 2 if the words are no combination that the tool knows,
 /// else 1.
 pub fn run_upsc<W: AsStr, S: Stream, O: Output, E: Output>(
-    rt: &(impl Wait + Clock),
+    rt: &impl Clock,
     alloc: Global,
     words: &[W],
     stream: Option<&mut S>,
@@ -41,7 +40,7 @@ pub fn run_upsc<W: AsStr, S: Stream, O: Output, E: Output>(
 {
     match stream {
         Some(stream) => Tool::Upsc.run(rt, alloc, words, stream, out, err),
-        None => Tool::Upsc.run_alone(rt, alloc, words, out, err),
+        None => Tool::Upsc.run_alone(alloc, words, out, err),
     }
 }
 

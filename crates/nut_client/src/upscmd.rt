@@ -17,13 +17,12 @@ use clap::{ArgMatches, Command};
 use nut_proto::Word;
 use std::alloc::{AllocError, Global};
 use std::convert::AsStr;
-use std::sync::Wait;
 use std::time::Clock;
 
 /// Runs `upscmd` with these words of a command line, the program's name first, over a connection to the server, which
 /// is `None` if none was made. Returns the exit status, as [`run_upsc`](crate::run_upsc) does.
 pub fn run_upscmd<W: AsStr, S: Stream, O: Output, E: Output>(
-    rt: &(impl Wait + Clock),
+    rt: &impl Clock,
     alloc: Global,
     words: &[W],
     stream: Option<&mut S>,
@@ -36,7 +35,7 @@ pub fn run_upscmd<W: AsStr, S: Stream, O: Output, E: Output>(
 {
     match stream {
         Some(stream) => Tool::Upscmd.run(rt, alloc, words, stream, out, err),
-        None => Tool::Upscmd.run_alone(rt, alloc, words, out, err),
+        None => Tool::Upscmd.run_alone(alloc, words, out, err),
     }
 }
 

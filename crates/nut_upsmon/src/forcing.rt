@@ -71,7 +71,6 @@ where
     let target = &line.target;
     match dial_host(rt, &target.host, target.port) {
         Ok(mut stream) => force_shutdown(
-            rt,
             alloc,
             Word::new(target.ups.as_bytes()),
             Word::new(line.user.as_bytes()),

@@ -13,3 +13,6 @@ returns-then-self-len-clause-some g c = grind (arith, common_steps)
 
 pub returns-in-None-clause-none : goal.returns-in-None-clause-none
 returns-in-None-clause-none g c = grind (arith, common_steps)
+
+pub returns-in-Some-clause-lowers : goal.returns-in-Some-clause-lowers
+returns-in-Some-clause-lowers g c = grind (arith, common_steps)
