@@ -32,8 +32,7 @@ pub trait Output {
 }
 
 /// An output over a writer, such as a standard stream, or a `Vec` in a test. It has failed once a write or a flush of
-/// the writer failed, or once it was to be
-/// tried again more than `u64::MAX` times, which no run does.
+/// the writer failed, or once it was to be tried again more than `u64::MAX` times, which no run does.
 #[derive(Drop)]
 pub struct WriterOutput<W> {
     writer: W,
