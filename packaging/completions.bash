@@ -46,7 +46,7 @@ _mulgefa_choices() {
         upsc::-*) printf '%s\n' -j -l -L -c -h --help -V --version ;;
         upsrw::-*) printf '%s\n' -s -w -u -p -h --help -V --version ;;
         upscmd::-*) printf '%s\n' -l -w -u -p -h --help -V --version ;;
-        upsmon::-*) printf '%s\n' --conf -q --check --fsd -K -h --help -V --version ;;
+        upsmon::-*) printf '%s\n' --conf -q --check --delay --fsd -K -h --help -V --version ;;
         nutroom::-*) printf '%s\n' -n -s --svg --steps --run --nutsim -h --help -V --version ;;
         nutroom:* | upsmon:*) ;;
         upsrw:-s:*=*) _mulgefa_rows "${named[1]-}" | _mulgefa_settings "${current%%=*}" ;;
