@@ -55,6 +55,8 @@ def impl_name(words):
         parameters += [words[0]] if depth == 1 and before in ("<", ",", "const") else []
         before, words = words[0], words[1:]
     words = words[: words.index("where")] if "where" in words else words
+    # an impl for a parameter is one for any type
+    words = ["Any" if before == "for" and word in parameters else word for before, word in zip(["", *words], words)]
     # a module's name counts only in an argument: `From<io::Error>` is FromIoError, and `fmt::Display` is Display
     opened = [words[:at].count("<") - words[:at].count(">") for at in range(len(words))]
     named = [word for word, after, inside in zip(words, words[1:] + [""], opened) if word not in parameters and (after != ":" or inside)]
