@@ -5,7 +5,7 @@ ghost use Rattle.nut_monitor_spec.specs.Configuration.{configuration_of};
 ghost use Rattle.nut_in_time.specs.Room.{accepted_in, forced_in, host_sync_for, other_halted_in};
 ghost use Rattle.nut_upsmon.specs.Stopping.{prompt};
 
-use crate::stopping::{DELAY, Stopping, halts_within, seen_within};
+use crate::stopping::{DELAY, Stopping, halts_within, seen_within, stops_within};
 use crate::upsmon_fault::UpsmonFault;
 use crate::warning::Warning;
 use nut_conf::{Monitored, Role, UpsmonConf};
@@ -13,7 +13,7 @@ use nut_log::{Level, Lines, LogStream};
 use nut_monitor::has_primary;
 use nut_monitor_sockets::ANSWER_ON_BATTERY;
 use nut_poll::ErrorLines;
-use nut_program::{Failure, FileFault, read_conf};
+use nut_program::{Failure, FileFault, read_conf, warn};
 use std::alloc::Global;
 use std::io::{Stdout, Write};
 use std::rt::Files;
@@ -60,7 +60,7 @@ pub fn check_room(
     for word in delays {
         set_delay(alloc, machines.as_mut_slice(), word)?;
     }
-    tell_room(machines.as_slice(), &mut Told { out, err })?;
+    tell_room(machines.as_slice(), &mut Findings { out, err })?;
     Ok(())
 }
 
@@ -139,22 +139,22 @@ impl<'a> fmt::Display for Finding<'a> {
     fn fmt<W: fmt::Write>(&self, f: &mut fmt::Formatter<W>) -> fmt::Result {
         match self {
             Finding::Stops(machine, stopping) => write!(f, "{machine}: {stopping}"),
-            Finding::Warns(machine, warning) => write!(f, "warning: {machine}: {warning}"),
+            Finding::Warns(machine, warning) => write!(f, "{machine}: {warning}"),
             Finding::TooSlow(machine, delay) => write!(
                 f,
-                "warning: {machine}: {delay} s for an answer are too long: upsmon gives a server up after {ANSWER_ON_BATTERY} s while a UPS is on battery, so nothing is known of this room"
+                "{machine}: {delay} s for an answer are too long: upsmon gives a server up after {ANSWER_ON_BATTERY} s while a UPS is on battery, so nothing is known of this room"
             ),
             Finding::SeveralServers(machine) => write!(
                 f,
-                "warning: {machine}: its UPSes are at several servers: HOSTSYNC and the battery are reckoned for one"
+                "{machine}: its UPSes are at several servers: HOSTSYNC and the battery are reckoned for one"
             ),
             Finding::Alone(machine) => write!(
                 f,
-                "warning: {machine}: no machine here is the primary of its UPSes: none waits for it"
+                "{machine}: no machine here is the primary of its UPSes: none waits for it"
             ),
             Finding::Unneeded(primary) => write!(
                 f,
-                "warning: {primary}: it goes on without the UPSes of which it is the primary: it forces no shutdown while their battery is low"
+                "{primary}: it goes on without the UPSes of which it is the primary: it forces no shutdown while their battery is low"
             ),
             Finding::Unfollowed(primary) => write!(
                 f,
@@ -167,7 +167,7 @@ impl<'a> fmt::Display for Finding<'a> {
             ),
             Finding::HostSync(primary, host_sync, need) => write!(
                 f,
-                "warning: {primary}: HOSTSYNC {host_sync} is too short: {} needs the most, {}",
+                "{primary}: HOSTSYNC {host_sync} is too short: {} needs the most, {}",
                 need.machine, need.host_sync
             ),
             Finding::Battery(primary, seconds) => write!(
@@ -192,20 +192,20 @@ impl<'a> Finding<'a> {
     }
 }
 
-/// Where findings are told: what is to be changed on one stream, all else on the other.
+/// Where findings go: what is to be changed on one stream, all else on the other.
 #[derive(Drop)]
-struct Told<'s> {
+struct Findings<'s> {
     out: LogStream<Stdout>,
     err: &'s mut ErrorLines,
 }
 
-impl<'s> Told<'s> {
+impl<'s> Findings<'s> {
     fn tell(&mut self, finding: Finding<'_>) -> io::Result<()> {
         if finding.is_warning() {
-            writeln!(self.err.begin(Level::Warning), "{finding}")
-        } else {
-            writeln!(self.out.begin(Level::Info), "{finding}")
+            warn(Some(finding), self.err);
+            return Ok(());
         }
+        writeln!(self.out.begin(Level::Info), "{finding}")
     }
 
     fn tell_each(&mut self, machine: &str, warnings: [Option<Warning>; 3]) -> io::Result<()> {
@@ -219,7 +219,7 @@ impl<'s> Told<'s> {
 }
 
 /// Tells what each machine of a room does and should set otherwise, and what each primary needs for the others.
-fn tell_room(machines: &[Machine<'_>], told: &mut Told<'_>) -> io::Result<()> {
+fn tell_room(machines: &[Machine<'_>], told: &mut Findings<'_>) -> io::Result<()> {
     for machine in machines {
         tell_machine(machine, machines, told)?;
     }
@@ -238,7 +238,7 @@ fn tell_room(machines: &[Machine<'_>], told: &mut Told<'_>) -> io::Result<()> {
 fn tell_machine(
     machine: &Machine<'_>,
     machines: &[Machine<'_>],
-    told: &mut Told<'_>,
+    told: &mut Findings<'_>,
 ) -> io::Result<()> {
     let folder = machine.folder;
     told.tell(match Stopping::with_delay(&machine.config, machine.delay) {
@@ -260,7 +260,7 @@ fn tell_machine(
 fn tell_primary(
     primary: &Machine<'_>,
     machines: &[Machine<'_>],
-    told: &mut Told<'_>,
+    told: &mut Findings<'_>,
 ) -> io::Result<()> {
     let folder = primary.folder;
     if !needs(&primary.config, &primary.config) {
@@ -308,7 +308,7 @@ impl<'a> Machine<'a> {
     }
 
     fn is_too_slow(&self) -> bool {
-        self.delay > u32::from(ANSWER_ON_BATTERY)
+        stops_within(&self.config, self.delay).is_none()
     }
 
     /// Whether this machine needs UPSes, and no machine of the room is the primary of one of its own.
