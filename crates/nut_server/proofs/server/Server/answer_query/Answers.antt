@@ -1,15 +1,19 @@
-use Rattle.std.proofs.Common.{◌≡◌, ℕ, Some, slice_get, [], List, ap, map, refl, subst, ◌∙◌}
+use Rattle.std.proofs.Common.{◌≡◌, ℕ, ◌++◌, Some, slice_get, [], List, ap, map, refl, subst, sym, ◌∙◌}
+use Rattle.std.proofs.lemmas.List.{append-nil}
 use Rattle.nut_proto.specs.PlainQueries.{request_of}
-use Rattle.nut_server_spec.specs.Answer.{Answer, answer, text_of}
+use Rattle.nut_server_spec.specs.Answer.{Answer, answer, device_at, text_of}
 use Rattle.nut_server_spec.specs.Command.{Asks}
+use Rattle.nut_server_spec.specs.Configuration.{number_of_ups}
 use Rattle.nut_server_spec.specs.Content.{Content, Session, Supply}
 use Rattle.nut_server_spec.specs.machine.Machine.{caller_of, scene_of}
 use Rattle.nut_server.specs.declared.effect.Effect.TheVariants as effects
 use Rattle.nut_server.specs.inside.Effects.{Does, answered_by}
 use Rattle.nut_server.specs.contracts.server.Server.{the_view}
 use Rattle.nut_server.specs.inside.Place.{Stands}
+use Rattle.nut_server.proofs.PlainAnswers.{kept_answer, stands_at}
+use Rattle.nut_server.proofs.QuietQueries.{quiet_query}
 use Rattle.nut_server.proofs.Saying.{answered_all}
-use Rattle.nut_server.proofs.server.Server.hear_query.Goals as goal
+use Rattle.nut_server.proofs.server.Server.answer_query.Goals as goal
 
 pub returns-clause-ok : goal.returns-clause-ok
 returns-clause-ok c =
@@ -24,5 +28,5 @@ returns-clause-ok c =
     let done = subst (λ reply. Does (record (scene_of v) { numbers = c.as_slice.result.now }) command reply effects.Nothing []) is (c.in_ok-write_answer.ensures.quiet (caller_of k) []) in
     let does = subst (λ ns. Does (record (scene_of v) { numbers = ns }) command (R v.numbers v.supplies) effects.Nothing []) c.as_slice.ensures.value done in
     let it : record v { sessions = c.answer.new.self; supplies = v.supplies; given = v.given } ≡ answered_by c' command (answer (scene_of v) (caller_of k) command) v =
-    answered_all v c.answer.new.self v.supplies v.given c' command (R v.numbers v.supplies) effects.Nothing [] c.as_slice-3.result.now text does (c.in_ok-answer.ensures.ok c' stands) refl refl in
+    answered_all v c.answer.new.self v.supplies v.given c' command (R v.numbers v.supplies) effects.Nothing [] (c.as_slice-3.result.now ++ []) (append-nil c.as_slice-3.result.now ∙ text) does (c.in_ok-answer.ensures.ok c' stands) refl refl in
     it)
