@@ -39,6 +39,9 @@ PROMISES = (
     ("The server's loop", "what a world gives and takes is what a server is told and sends", (
         ("nut_server_loop", "serving.rt", ("serve",)), ("nut_server_loop", "world.rt", ("World.*",)),
         ("nut_server_loop", None, ("serve_memory",)))),
+    ("A server's sockets", "who is looked at next, and when a second is told", (
+        ("nut_server_sockets", "sockets.rt", ("Sockets.next",)),
+        ("nut_poll", None, ("Ready.*", "Rounds.turn", "nobody_is_passed_over")))),
     ("A monitor", "what a monitor asks, tells and decides, and what callers see of that", (
         ("nut_monitor", None, ("Monitor.*",)),)),
     ("A monitor's laws", "what holds over whole histories of a monitor", (
@@ -74,7 +77,7 @@ PROMISES = (
         ("nut_in_time", None, (
             "links_open_in_time", "statuses_come_in_time", "shutdowns_begin_in_time", "machines_halt_in_time", "shutdowns_go_on",
             "hostsync_suffices", "nobody_halts_in_vain", "the_last_ups_counts", "forced_is_shown", "room_stops_in_time",
-            "cut_off_machines_stop", "links_come_back?")),
+            "cut_off_machines_stop", "links_come_back?", "machines_stop_as_told?")),
         ("nut_upsmon", None, ("stops_within",)))),
     ("Links that keep a pace", "how a link is seen to keep pace", (
         ("nut_in_time", None, ("quiet_links_keep_pace", "rounds_keep_pace")),)),

@@ -74,9 +74,10 @@ def items_in(file, tokens):
     """Returns the functions with bodies among a file's tokens of code, and the modules of the types that it declares."""
     module = [it for it in file[len("src/") : -len(".rt")].split("/") if it not in ("lib", "main", "mod")]
     functions, types, opened, item = [], {}, [], None
-    # the end of what stands before an item
-    before = 0
+    # the end of what stands before an item, and the brackets that are open, in which a semicolon ends no item
+    before, brackets = 0, 0
     for number, (start, end, word) in enumerate(tokens):
+        brackets += {"[": 1, "]": -1}.get(word, 0)
         after = tokens[number + 1][2] if number + 1 < len(tokens) else ""
         if word in ("fn", "mod", "trait") and re.match(r"\w", after):
             item = (word, after, before, tokens[number + 1][:2])
@@ -86,7 +87,7 @@ def items_in(file, tokens):
             header = [it[2] for it in tokens[number + 1 : number + 200]]
             header = header[: header.index("{")]
             item = ("trait" if "for" in header else word, impl_name(header))
-        elif word == ";":
+        elif word == ";" and not brackets:
             item = None
         elif word == "{":
             opened.append((item, start))
@@ -99,7 +100,7 @@ def items_in(file, tokens):
                 path = module + [it[1] for it in around] + [called]
                 is_of_trait = any(it[0] == "trait" for it in around)
                 functions.append(Function(file, path, begun, name, start, end, is_of_trait))
-        if word in ("{", "}", ";"):
+        if word in ("{", "}", ";") and not brackets:
             before = end
     return functions, types
 

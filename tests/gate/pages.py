@@ -12,6 +12,7 @@ import functools
 import glob
 import os
 import re
+import subprocess
 import sys
 
 from tests.gate.believe import LEFT_OUT
@@ -191,6 +192,14 @@ def pages():
 
 
 class Tests:
+    @staticmethod
+    def test_each_folder_has_its_place():
+        """Each folder at the top that git keeps, but docs/, stands in the table of docs/architecture.md: none is there by mistake."""
+        table = read(os.path.join(DOCS, "architecture.md")).partition("## Where things are")[2]
+        kept = subprocess.run(["sh", "-c", "git ls-files '*/*'"], cwd=ROOT, capture_output=True, text=True)
+        for it in sorted({path.partition("/")[0] for path in kept.stdout.split()} - {"docs"}):
+            ensure(it.startswith(".") or f"`{it}/" in table, f"{it}/ is at the top, and not in docs/architecture.md")
+
     @staticmethod
     def test_laws_are_up_to_date():
         """The list of laws in docs/proved.md is what their comments say."""

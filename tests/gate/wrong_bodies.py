@@ -6,9 +6,9 @@ usage: python3 -m tests.gate.wrong_bodies [--look | --one-by-one] [--after-gate]
 The edits are crates/NAME/wrong-bodies/*.edit, and crates/NAME/must-fail/*.edit, which the toolchain's own gate tries too.
 docs/tests.md says how to write one. Most are tried in one check of their crate: one edit of each function in its place, and
 others in copies of the function beside it. All other functions have empty bodies and open proofs there. What is left is tried
-in rounds: edits of different functions together, and an edit of a definition alone. The functions have been proved as they
+in rounds: edits of different functions together, and most edits of a definition alone. The functions have been proved as they
 are. Copies without edits, and a method of a trait without one, have to pass in the same check: so a function doesn't fail
-because others have empty bodies.
+because others have empty bodies. Edits of definitions share a round if each names another goal that has to stay open.
 
 --look only lists the edits that cannot be applied. --one-by-one also tries each edit as the toolchain's gate does, in a
 check of the whole crate, and fails if the two disagree. Both need the crates built, which proves them, and those that they
@@ -51,7 +51,9 @@ class Edit:
         self.texts, self.fault = toolchain().read_edit(path, crate.folder)
         with open(path, encoding="utf-8", errors="replace") as file:
             lines = [line.rstrip("\n").partition(": ") for line in file]
-        self.refused_by = next((words.strip() for key, _, words in lines if key == "refused by"), None)
+        refused_by = next((words.strip() for key, _, words in lines if key == "refused by"), None)
+        # the function that has to refuse it, and the goal of it that has to stay open, if the edit names them
+        self.refused_by, _, self.goal = (refused_by or "").partition(" at ")
         # what was replaced in each file, in turn: where, and the lengths of the text and of the other
         self.changes = {}
         self.edited = set() if self.fault else self.functions_at(lines, functions)
@@ -85,6 +87,13 @@ class Edit:
         """Whether it edits only bodies, which no other function's proof looks into, and one of these functions has to refuse
         it."""
         return None not in self.edited and self.wanted <= self.edited
+
+    def meets(self, other):
+        """Whether it can't share a round with another edit: both edit the body of a function; or one is of a definition, unless
+        both are and name two goals."""
+        if self.is_of_bodies() and other.is_of_bodies():
+            return bool(self.edited & other.edited)
+        return not (self.goal and other.goal) or (self.wanted, self.goal) == (other.wanted, other.goal)
 
 
 def open_text(path):
@@ -149,15 +158,18 @@ class Report:
         own = f"proofs/{symbol.replace('::', '/')}/" if is_of_body else "proofs/"
         return [it for it in self.lines if re.match(rf"(\./)?{re.escape(own)}\S+: error", it)]
 
-    def refusal(self, path, is_of_body):
-        """Returns why a function is refused in its own goals, or None; and which missing name a proof file uses. If an edit
-        isn't of a body, the lemmas that the function uses count, too."""
+    def refusal(self, path, is_of_body, goal):
+        """Returns why a function is refused in its own goals, or at this goal if one is named, or None; and which missing name a
+        proof file uses. If an edit isn't of a body, the lemmas that the function uses count, too."""
         gone = None
         for symbol in self.of(path):
             if not self.status[symbol].startswith(("no proof", "not proved")):
                 continue
-            if self.goals[symbol]:
-                return self.goals[symbol][0], None
+            left = [it for it in self.goals[symbol] if not goal or f"(`{goal}`)" in it]
+            if left:
+                return left[0], None
+            if goal:
+                continue
             told = self.errors(symbol, is_of_body)
             first = next((it for it in told if not NAMES.search(it)), None)
             if first or "`search` did not prove" in self.status[symbol]:
@@ -192,7 +204,7 @@ class Trial:
 
     def __init__(self, crate, functions, shown, folder, edits=(), copies=()):
         self.crate, self.folder, self.seconds = crate, folder, 0.0
-        self.changed = {file for edit in edits for file in edit.texts}
+        self.changed, self.spoiled = {file for edit in edits for file in edit.texts}, set()
         for part in toolchain().rtlib.PARTS:
             if os.path.isdir(f"{crate.folder}/{part}"):
                 shutil.copytree(f"{crate.folder}/{part}", f"{folder}/{part}")
@@ -227,7 +239,8 @@ class Trial:
     def spoil_answers(self, function):
         """Adds a refused answer to those of a function that has to be refused, if it has any: a check then prints less."""
         file = f"{proof_of(self.folder, function) or ''}/Answers.antt"
-        if os.path.isfile(file):
+        if os.path.isfile(file) and file not in self.spoiled:
+            self.spoiled.add(file)
             with open(file, "a", encoding="utf-8") as it:
                 it.write(REFUSED_ANSWER)
 
@@ -410,15 +423,16 @@ class Rounds:
                 self.say(edit, False, f"NOT TRIED: without any edit the prover says of {fallen[0]}: {said[:300]}")
 
     def shared(self, edits):
-        """Returns edits in rounds. Those of a round edit different functions, and an edit of a definition is alone."""
+        """Returns edits in rounds. Those of a round edit the bodies of different functions, or definitions, of which each lets
+        another goal stay open."""
         rounds = []
-        for edit in [it for it in edits if it.is_of_bodies()]:
-            fits = [it for it in rounds if not any(other.edited & edit.edited for other in it)]
+        for edit in edits:
+            fits = [it for it in rounds if not any(map(edit.meets, it))]
             if fits:
                 fits[0].append(edit)
             else:
                 rounds.append([edit])
-        return rounds + [[it] for it in edits if not it.is_of_bodies()]
+        return rounds
 
     def round(self, edits):
         """Tries edits together, and returns those that have to be tried alone, since another edit may be why they weren't
@@ -430,6 +444,8 @@ class Rounds:
         trial = self.trial(shown, bodies)
         for edit in [it for it in edits if it not in bodies]:
             fault = trial.apply(edit, self.functions)
+            if fault and len(edits) > 1:
+                return edits
             if fault:
                 self.say(edit, False, f"BAD EDIT: {fault}")
                 return []
@@ -443,7 +459,7 @@ class Rounds:
 
     def judged(self, edit, report):
         """Returns the result of a round of only this edit."""
-        gone = [it for it in (report.refusal(path, edit.is_of_bodies())[1] for path in sorted(edit.wanted)) if it]
+        gone = [it for it in (report.refusal(path, edit.is_of_bodies(), edit.goal)[1] for path in sorted(edit.wanted)) if it]
         if report.killed_by:
             return False, f"NOT TRIED: its check was killed twice, the second time by signal {report.killed_by}"
         if report.unread or not report.ended:
@@ -459,8 +475,9 @@ class Rounds:
 
 def refusal(edit, report, paths=None):
     """Returns why these functions refuse an edit, which are those that have to if none are given; None if they don't."""
-    found = [report.refusal(path, edit.is_of_bodies())[0] for path in paths or sorted(edit.wanted)]
-    by = "" if edit.is_of_bodies() else f" by {edit.refused_by}, in a round of its own, since it edits more than a body"
+    found = [report.refusal(path, edit.is_of_bodies(), edit.goal)[0] for path in paths or sorted(edit.wanted)]
+    round_of = f"at {edit.goal}" if edit.goal else "in a round of its own, since it edits more than a body"
+    by = "" if edit.is_of_bodies() else f" by {edit.refused_by}, {round_of}"
     return f"refused, as it must be{by}: {next(filter(None, found))[:160]}" if any(found) else None
 
 

@@ -170,8 +170,9 @@ class Tests:
                     self.begin_server(room)
                     told = f"upsmon: warning: UPS {target}: {waits}"
                     until(lambda: told in watch.lines("err"), "the warning", 20)
-                    # NUT's server refuses the status from the fifteenth second on
-                    watch.until_printed(LOST % target, 30)
+                    # NUT's server refuses the status from the fifteenth second on; if it was slow to start, there was a loss before
+                    before = watch.lines().count(LOST % target)
+                    until(lambda: watch.lines().count(LOST % target) > before, "the loss of what the server refuses", 30)
                     time.sleep(8)
                     expect((watch.process.poll(), watch.lines("err").count(told)), (None, 1), "it goes on, and tells it once")
                 self.set_status(room, "OB LB")

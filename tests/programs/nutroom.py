@@ -286,6 +286,10 @@ class Tests:
         cut = self.printed("-n", "4", self.room(f"{PAIR}{LOW}at 15 m2 cut\n")).splitlines()
         ensure("  m2  halted by 20 + delay 2 + HOSTSYNC 15 + 1 + FINALDELAY 5 = 43; doesn't hold, since its link was cut" in cut, cut)
         ensure("      cut off on battery: halted within DEADTIME 15 + 1 + FINALDELAY 5 = 21 s of its last status" in cut, cut)
+        back = self.printed("-n", "4", self.room(f"{PAIR}{LOW}at 15 m1 cut\nat 25 m1 back\n")).splitlines()
+        ensure("  m1  halted by 20 + POLLFREQ 5 + delay 2 + HOSTSYNC 15 + 1 + FINALDELAY 5 = 48; doesn't hold, since its link was cut" in back, back)
+        sums = "4 * delay 2 + delay 2 + HOSTSYNC 15 + 1 + FINALDELAY 5 = 31"
+        ensure(f"      once its links are back, and these UPSes are shown so: halted within {sums} s" in back, back)
         online = self.printed("-n", "2", self.room(f"{PAIR}at 5 su700 OB\nat 15 m2 cut\nat 8 su700 OL\n")).splitlines()
         ensure("  m1  goes on: its UPSes are neither low nor forced, and DEADTIME is long enough" in online and "  m2  nothing is said of it" in online, online)
         ensure("  nobody: 2 of 2" in online, online)
@@ -468,16 +472,21 @@ class Tests:
         """No machine that keeps pace passes its bound, and some reach it; a HOSTSYNC that is called enough is enough."""
         begun = time.monotonic()
         calls = [range(at, min(at + ROOMS_A_CALL, self.rooms)) for at in range(0, self.rooms, ROOMS_A_CALL)]
-        counts = collections.Counter()
+        counts, margins = collections.Counter(), collections.Counter()
         with concurrent.futures.ProcessPoolExecutor() as pool:
-            for found in pool.map(functools.partial(play_rooms, self.nutsim, self.folder), calls):
+            for found, left in pool.map(functools.partial(play_rooms, self.nutsim, self.folder), calls):
                 counts.update(found)
+                margins.update(left)
         print(f"   {self.rooms} rooms in {time.monotonic() - begun:.1f} s: " + ", ".join(f"{counts[it]} {it}" for it in sorted(counts)))
+        for law in LAWS:
+            left = {seconds: count for (of, seconds), count in margins.items() if of == law}
+            if left:
+                print(f"   {sum(left.values())} halts {law}: the nearest came {min(left)} s before its bound, {left[min(left)]} times")
         needs_proved_build("enough rooms for each bound to be reached")
-        for law in ("primary", "secondary", "forced"):
-            ensure(counts[f"halts within the {law} bound"] > 0, f"no {law} bound was there")
-            ensure(counts[f"halts at the {law} bound"] > 0, f"no run reaches the {law} bound")
-        ensure(counts["halts within the bound of a machine that is cut off"] > 0, "no machine was cut off on battery for good")
+        for law in LAWS:
+            ensure(any(of == law for of, _ in margins), f"no halt {law} was there")
+        for law in (PRIMARY_LAW, SECONDARY_LAW, FORCED_LAW):
+            ensure(margins[law, 0] > 0, f"no halt {law} reaches its bound")
         ensure(counts["machines that went on as promised"] > 0 and counts["HOSTSYNC that was just enough"] > 0, f"not all was played: {counts}")
 
 
@@ -569,8 +578,8 @@ class Trusted(Nutsim):
 
 
 def play_rooms(program, folder, seeds):
-    """Plays random rooms, and counts which bounds were reached."""
-    counts, nutsim = collections.Counter(), Trusted(program)
+    """Plays random rooms. Counts what happened in them, and the seconds that machines had left to their bounds, by law."""
+    counts, margins, nutsim = collections.Counter(), collections.Counter(), Trusted(program)
     for seed in seeds:
         made = RandomRoom(seed, folder)
         room = read_room(made.path, nutsim)
@@ -578,31 +587,35 @@ def play_rooms(program, folder, seeds):
         counts["machines"] += len(stories)
         for machine, host, story, bound in zip(room.machines, plan.hosts, stories, room.bounds):
             ensure(not story.is_wrong, f"room {seed}: {machine.name} passes its bound: {bound}, {story}")
-            counts.update(seen_of(plan, machine, host, story, bound))
+            counts["machines that went on as promised"] += bound is None and story.keeps_pace
+            margins.update(margins_of(plan, machine, host, story, bound))
         counts.update(syncs_of(seed, room, plan, stories))
         if seed % MODEL_EACH == 0:
             compare(made, room, plan, nutsim, seed)
             counts["rooms played by the plain model"] += 1
-    return counts
+    return counts, margins
 
 
-def seen_of(plan, machine, host, story, bound):
-    """Returns how a machine did by its bound."""
+# Under which bound a machine is halted.
+PRIMARY_LAW, SECONDARY_LAW, FORCED_LAW = "of a primary on a low battery", "of a secondary on a low battery", "after FSD"
+CUT_OFF_LAW, RETURNED_LAW = "cut off on battery", "over links that came back"
+LAWS = (PRIMARY_LAW, SECONDARY_LAW, FORCED_LAW, CUT_OFF_LAW, RETURNED_LAW)
+
+
+def margins_of(plan, machine, host, story, bound):
+    """Yields the laws under which a machine was halted, each with the seconds of its clock that were left to the bound."""
     if story.last_read is not None:
-        latest = story.last_read + halts_when_cut_off(machine)
-        return ["halts within the bound of a machine that is cut off"] + ["halts at that bound"] * (story.halted_clock == latest)
-    if not story.keeps_pace:
-        return []
-    if bound is None:
-        return ["machines that went on as promised"]
-    if bound.start not in plan.scenes:
-        return []
-    clock = plan.scenes[bound.start][host.number][0]
-    # by the room's clock it isn't later either
-    ensure(story.halted <= bound.end, f"{machine.name} is halted at {story.halted}, past {bound}")
-    were_forced = all(is_forced(plan.room.last_status(machine.rules.lines[i].ups, bound.start)) for i in bound.lines)
-    law = "forced" if were_forced else "primary" if all(machine.rules.lines[i].is_primary for i in bound.lines) else "secondary"
-    return [f"halts within the {law} bound"] + [f"halts at the {law} bound"] * (story.halted_clock == clock + bound.halts)
+        yield CUT_OFF_LAW, story.last_read + halts_when_cut_off(machine) - story.halted_clock
+    elif story.returned_end is not None:
+        ensure(story.halted <= story.returned_end, f"{machine.name} is halted at {story.halted}, past {story.returned_end}")
+        yield RETURNED_LAW, story.returned_clock - story.halted_clock
+    elif bound is not None and story.keeps_pace and bound.start in plan.scenes:
+        clock = plan.scenes[bound.start][host.number][0]
+        # by the room's clock it isn't later either
+        ensure(story.halted <= bound.end, f"{machine.name} is halted at {story.halted}, past {bound}")
+        were_forced = all(is_forced(plan.room.last_status(machine.rules.lines[i].ups, bound.start)) for i in bound.lines)
+        law = FORCED_LAW if were_forced else PRIMARY_LAW if bound.counts_returns else SECONDARY_LAW
+        yield law, clock + bound.halts - story.halted_clock
 
 
 def syncs_of(seed, room, plan, stories):

@@ -8,13 +8,17 @@ The last line is 'N passed, M failed'."""
 import errno
 import itertools
 import os
+import random
+import re
 import signal
 import subprocess
 import sys
 import tempfile
 import time
+import unittest.mock
 
-from tests.support.harness import NUTS_OPTIONS, VERSION_SHOWN, Failed, Shimmed, build_library, cannot_read, ensure, expect, refusals
+from tests.support import room_model
+from tests.support.harness import NUTS_OPTIONS, ROOT, VERSION_SHOWN, Failed, Shimmed, build_library, cannot_read, ensure, expect, refusals
 from tests.support.monitored import (
     BATTERY_LOW,
     ESTABLISHED,
@@ -39,6 +43,27 @@ from tests.support.monitored import (
     put_program,
 )
 from tests.support.room import SOON, Room, accepted, until
+from tests.support.room_model import Watched
+
+sys.path.append(os.path.join(ROOT, "tools"))
+
+from nutroom_modules import bounds
+from nutroom_modules.rooms import Line, Machine, Rules
+from nutroom_modules.rooms import Room as PlayedRoom
+from nutroom_modules.times import SECOND
+
+
+def random_machines(chance):
+    """Returns the machines of a room with two UPSes, each with the text of its upsmon.conf."""
+    machines = []
+    for m in range(chance.randint(1, 4)):
+        upses = chance.choice(([0], [0], [0, 1]))
+        lines = tuple(Line(u, chance.choice((0, 1, 1, 1, 2)), chance.random() < 0.5, "mon", "m1") for u in upses)
+        settings = min(chance.randint(0, 3), sum(it.power for it in lines)), *(chance.choice(it) for it in ((1, 5, 9), (5, 15, 30), (0, 3, 15, 40), (0, 1, 5)))
+        watched = [Watched((b"a", b"b")[it.ups], "primary" if it.is_primary else "secondary", it.power) for it in lines]
+        text = room_model.Rules(watched, *settings).text().decode() + "SHUTDOWNCMD true\n"
+        machines.append(Machine(f"m{m}", text, 0, chance.randint(0, 5) * SECOND, Rules(lines, *settings)))
+    return machines
 
 
 class Driver:
@@ -615,6 +640,27 @@ class Tests(Shimmed):
             ({"m1": "MONITOR su700@m1 1 mon m1 primary\n"}, (), (stops % ("m1", 28, 2), "upsmon: m1: no other machine here needs its UPSes\n", battery % 28), ("upsmon: warning: m1: no SHUTDOWNCMD is set: nothing will stop this machine\n",)),
         ):
             expect(self.checked_room(files, *words, *files), (0, "".join(out), "".join(err)), f"{files} {words}")
+
+    def test_check_of_a_room_agrees_with_nutroom(self):
+        """The HOSTSYNC that 'upsmon --check DIR ..' reckons for random rooms is the one that nutroom reckons for a primary that may
+        have no young status."""
+        seen = 0
+        for seed in range(80):
+            machines = random_machines(random.Random(f"check {seed}"))
+            room = PlayedRoom("")
+            room.machines = machines
+            words = [it.name for it in machines] + [word for it in machines for word in ("--delay", f"{it.name}={it.delay}")]
+            _, out, err = self.checked_room({it.name: it.conf for it in machines}, *words)
+            said = {name: int(need) for name, need in re.findall(r"(m\d): HOSTSYNC \d+ is (?:enough|too short): m\d needs the most, (\d+)", out + err)}
+            with unittest.mock.patch.object(bounds, "is_patient", lambda room, primary: False):
+                for primary in machines:
+                    needs = [bounds.needed_host_sync(room, primary, it) for it in machines if it is not primary]
+                    most = max((it for it in needs if it is not None), default=None)
+                    # one that goes on without its own UPSes forces no shutdown
+                    leads = primary.rules.has_primary and bounds.needed_host_sync(room, primary, primary) is not None
+                    expect(said.get(primary.name), most if leads else None, f"{primary.name} of room {seed}: {out}{err}")
+            seen += len(said)
+        ensure(seen > 30, f"only {seen} primaries have others to wait for")
 
     def test_check_of_a_room_that_is_wrong(self):
         primary = "MONITOR su700@localhost 1 mon m1 primary\nSHUTDOWNCMD true\n"

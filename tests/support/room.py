@@ -4,6 +4,7 @@ import contextlib
 import ctypes
 import fcntl
 import os
+import random
 import shutil
 import signal
 import socket
@@ -38,10 +39,13 @@ def until(test, what, within=SOON, pause=0.02):
 
 
 def free_port():
-    """Returns a port of this machine that nobody listens on."""
-    with socket.socket() as free:
-        free.bind(("127.0.0.1", 0))
-        return free.getsockname()[1]
+    """Returns a port of this machine that nobody listens on, below those that the system gives to clients: a client of another test
+    could have one of these before it is used."""
+    while True:
+        port = random.SystemRandom().randrange(15_000, 32_000)
+        with contextlib.suppress(OSError), socket.socket() as free:
+            free.bind(("", port))
+            return port
 
 
 def has_ipv6():

@@ -38,6 +38,16 @@ def halts_within(machine):
     return (machine.rules.host_sync + 1 if machine.rules.has_primary else 0) + machine.rules.final_delay
 
 
+def knows_again_within(machine):
+    """Returns the most seconds until a machine whose links come back knows what a UPS shows: four answers open a link."""
+    return max(turn(machine), 4 * machine.delay) + machine.delay
+
+
+def halts_when_returned(machine):
+    """Returns the most seconds from the return of a machine's links, with its UPSes a reason to stop, to its halt."""
+    return knows_again_within(machine) + halts_within(machine)
+
+
 def halts_when_cut_off(machine):
     """Returns the most seconds from the last status that a machine read to its halt, if it is cut off on battery."""
     return machine.rules.dead_time + 1 + halts_within(machine)
@@ -45,18 +55,25 @@ def halts_when_cut_off(machine):
 
 @dataclasses.dataclass(frozen=True)
 class Bound:
-    """From `start` on, the UPSes of these lines of a machine are shown as a reason to stop. So its shutdown begins within
-    `begins` seconds, and it is halted within `halts`, if its links keep pace until it begins."""
+    """From `start` to `until` the UPSes of these lines of a machine are shown as a reason to stop. So its shutdown begins within
+    `begins` seconds, and it is halted within `halts`, if its links keep pace until it begins. `counts_returns`: if they come back
+    only later, it counts from then, and the machine knows only once they are opened."""
 
     start: int
+    until: float
     lines: tuple
     begins: int
     halts: int
     terms: str
+    counts_returns: bool
 
     @property
     def end(self):
         return self.start + self.halts * SECOND
+
+    def lasts(self, start, begins):
+        """Whether the UPSes are shown so until a shutdown begins that comes within so many seconds of this time."""
+        return self.until > start + (begins + 1) * SECOND
 
 
 def known_terms(machine):
@@ -65,22 +82,27 @@ def known_terms(machine):
     return f"{first} + delay {machine.delay}"
 
 
+def known_again_terms(machine):
+    """Returns how long a machine whose links come back takes to know, as a sum."""
+    return known_terms(machine) if turn(machine) >= 4 * machine.delay else f"4 * delay {machine.delay} + delay {machine.delay}"
+
+
 def halt_terms(machine):
     """Returns how long a machine takes from the beginning of its shutdown to its halt, as a sum."""
     sync = f"HOSTSYNC {machine.rules.host_sync} + 1 + " if machine.rules.has_primary else ""
     return f"{sync}FINALDELAY {machine.rules.final_delay}"
 
 
-def primary_bound(machine, start, lines):
+def primary_bound(machine, start, until, lines):
     begins = knows_within(machine)
-    return Bound(start, lines, begins, begins + halts_within(machine), f"{known_terms(machine)} + {halt_terms(machine)}")
+    return Bound(start, until, lines, begins, begins + halts_within(machine), f"{known_terms(machine)} + {halt_terms(machine)}", True)
 
 
 # A machine that reads FSD needs no longer than a primary that reads OB LB.
 forced_bound = primary_bound
 
 
-def secondary_bound(machine, start, lines):
+def secondary_bound(machine, start, until, lines):
     """Returns the bound for a low battery without FSD, at which a secondary waits until HOSTSYNC after its last calm status."""
     calm = machine.delay + machine.rules.host_sync
     if calm > knows_within(machine):
@@ -88,7 +110,7 @@ def secondary_bound(machine, start, lines):
     else:
         terms = known_terms(machine)
     begins = max(knows_within(machine), calm) + 1
-    return Bound(start, lines, begins, begins + halts_within(machine), f"{terms} + 1 + {halt_terms(machine)}")
+    return Bound(start, until, lines, begins, begins + halts_within(machine), f"{terms} + 1 + {halt_terms(machine)}", False)
 
 
 def failing_since(room, machine, test):
@@ -107,16 +129,15 @@ def failing_since(room, machine, test):
 def bound_of(room, machine):
     """Returns the least bound that the theorem gives for a machine by what is going to happen, or None."""
     found = []
-    for start, lines, end in failing_since(room, machine, is_low):
+    for start, lines, until in failing_since(room, machine, is_low):
         primaries = tuple(i for i in lines if machine.rules.lines[i].is_primary)
         if room.supply_without(machine, primaries) < machine.rules.min_supplies:
-            found.append((primary_bound(machine, start, primaries), end))
+            found.append(primary_bound(machine, start, until, primaries))
         else:
-            found.append((secondary_bound(machine, start, lines), end))
-    for start, lines, end in failing_since(room, machine, is_forced):
-        found.append((forced_bound(machine, start, lines), end))
-    lasting = [bound for bound, end in found if end > bound.start + (bound.begins + 1) * SECOND]
-    return min(lasting, key=lambda it: it.end, default=None)
+            found.append(secondary_bound(machine, start, until, lines))
+    for start, lines, until in failing_since(room, machine, is_forced):
+        found.append(forced_bound(machine, start, until, lines))
+    return min((it for it in found if it.lasts(it.start, it.begins)), key=lambda it: it.end, default=None)
 
 
 def goes_on(room, machine):

@@ -22,7 +22,7 @@ class Drawing:
         times = {change.time for change in room.changes} | set(self.empty.values()) | set(plan.forced.values())
         for story, bound in zip(stories, room.bounds):
             times |= {it[0] for it in (*story.notices, *story.phases, *story.marks)}
-            times |= {bound.end} if bound is not None and story.keeps_pace else set()
+            times |= {story.end(bound)} - {None}
         names = [*room.upses, *(it.name for it in room.machines)]
         self.left = GAP + 8 + min(max(LEAST_NAME, *(1.1 * width_of(it) for it in names)), MOST_NAME)
         self.axis = Axis(times, self.left)
@@ -127,8 +127,9 @@ class Drawing:
             if text not in groups[-1][1] or named is not None:
                 groups[-1][1].append(text)
         found = [self.label(x, " ".join(texts)) for x, texts in groups]
-        if bound is not None and story.keeps_pace:
-            found.append(self.label(self.axis.x(bound.end), f"by {short_seconds(bound.end)}", is_bound=True))
+        end = story.end(bound)
+        if end is not None:
+            found.append(self.label(self.axis.x(end), f"by {short_seconds(end)}", is_bound=True))
         return found
 
     def label(self, x, text, is_bound=False):

@@ -35,6 +35,9 @@ class Link:
         # whether no status was asked for since the machine was last cut off: the theorem counts from that query on
         self.is_broken = True
         self.call_at = 0
+        # since when it keeps pace, with the machine's clock then, if it does; and the earlier stretches of time in which it did
+        self.pace = None
+        self.stretches = []
 
     def opening(self):
         return ["username", "password", "login"] + ["primary"] * self.line.is_primary
@@ -44,6 +47,21 @@ class Link:
         self.made += 1
         self.is_linked = self.is_open = True
         self.asked, self.query, self.is_outstanding = 0, None, False
+
+    def keep_pace(self, time, clock):
+        if self.pace is None:
+            self.pace = time, clock
+
+    def lose_pace(self, time):
+        if self.pace is not None:
+            self.stretches.append((*self.pace, time))
+            self.pace = None
+
+    def keeps_pace_at(self, time):
+        """Returns since when it kept pace at a time, with the machine's clock then, or None."""
+        if self.pace is not None and self.pace[0] <= time:
+            return self.pace
+        return next(((start, clock) for start, clock, end in self.stretches if start <= time <= end), None)
 
     def due(self, phase, clock, rules):
         """Returns the query that has to be put now, or None. docs/definitions.md has the table."""

@@ -45,6 +45,11 @@ class Plan:
         self.scenes = {}
         self.make()
 
+    @property
+    def time(self):
+        """Returns the time now as the description counts it."""
+        return self.now - self.zero
+
     def make(self):
         for u in range(len(self.statuses)):
             self.step(f"up {u}")
@@ -70,11 +75,11 @@ class Plan:
 
     def step(self, text, event=None):
         self.steps.append(text + "\n")
-        self.times.append(self.now - self.zero)
+        self.times.append(self.time)
         self.events.append(event)
 
     def mark(self, host, what, link=None):
-        host.marks.append((self.now - self.zero, what, link and link.line.ups))
+        host.marks.append((self.time, what, link and link.line.ups))
 
     # The server and the drivers.
 
@@ -133,6 +138,7 @@ class Plan:
         if link.made:
             self.mark(host, "link back", link)
         link.begin()
+        link.keep_pace(self.time, host.clock)
         self.tell(host, f"link {host.number} {link.number}", "link", host.number, link.number, link.made)
 
     def lose(self, host, link):
@@ -151,6 +157,7 @@ class Plan:
         """Lets the server hear later that the other end is closed."""
         link.is_linked = link.is_outstanding = False
         link.is_broken = True
+        link.lose_pace(self.time)
         link.call_at = self.now + 1
         self.at(self.now + self.delay(host, link), link.random.random(), self.hear_close, host, link, link.made)
 
@@ -194,7 +201,7 @@ class Plan:
         self.step(f"back {host.number} {link.number} 512")
         link.coming = self.statuses[link.line.ups]
         if link.query == "fsd":
-            self.forced.setdefault(link.line.ups, self.now - self.zero)
+            self.forced.setdefault(link.line.ups, self.time)
         lands = self.now + self.delay(host, link) if lands is None else lands
         self.at(lands, link.random.random(), self.land, host, link, made)
 
@@ -202,6 +209,7 @@ class Plan:
         if link.made != made or not link.is_linked or self.holds(host, link, self.land, made):
             return
         link.is_outstanding = False
+        link.keep_pace(self.time, host.clock)
         link.landed += 1
         if link.query == "status":
             link.status, link.read_at = link.coming, host.clock
@@ -218,10 +226,11 @@ class Plan:
 
     def cut(self, host):
         host.is_cut = True
-        host.cuts.append(self.now - self.zero)
+        host.cuts.append(self.time)
         self.mark(host, "cut")
         for link in host.links:
             link.is_broken = True
+            link.lose_pace(self.time)
         self.at(self.now + PROBE_TIME, CHANGES_FIRST, self.probe, host, len(host.cuts))
 
     def probe(self, host, cuts):
@@ -240,6 +249,8 @@ class Plan:
         for link in host.links:
             if link.is_linked and not link.is_open:
                 self.lose(host, link)
+            elif link.is_linked and not link.is_outstanding:
+                link.keep_pace(self.time, host.clock)
             link.call_at = self.now + link.random.randrange(CALL_TIME)
 
 

@@ -3,10 +3,11 @@
 import dataclasses
 import math
 
-from nutroom_modules.bounds import goes_on, halts_when_cut_off
+from nutroom_modules.bounds import goes_on, halts_when_cut_off, halts_when_returned, knows_again_within
 from nutroom_modules.faults import Fault
 from nutroom_modules.network import FINAL, HALTED
 from nutroom_modules.plans import Plan
+from nutroom_modules.times import SECOND
 
 
 @dataclasses.dataclass
@@ -27,6 +28,9 @@ class Story:
     # whether the premises of what the theorem says about the machine held, and whether what it says was violated
     keeps_pace: bool = False
     is_wrong: bool = False
+    # by when it has to be halted over links that came back, and the machine's clock then
+    returned_end: int = None
+    returned_clock: int = None
 
     def take_phase(self, time, clock, phase):
         self.phases.append((time, phase))
@@ -36,6 +40,10 @@ class Story:
             self.final = time
         if phase == HALTED:
             self.halted, self.halted_clock = time, clock
+
+    def end(self, bound):
+        """Returns by when the machine has to be halted by its bound or, if its links came back, by that of the story; or None."""
+        return bound.end if bound is not None and self.keeps_pace else self.returned_end
 
     def judge(self, plan, host, bound):
         """Tests the story against the theorem."""
@@ -58,8 +66,25 @@ class Story:
         clock, broken = plan.scenes[bound.start][host.number]
         end = math.inf if self.begun is None else self.begun
         self.keeps_pace = not any(broken[i] for i in bound.lines) and not any(bound.start <= cut <= end for cut in host.cuts)
-        is_late = self.halted is None or self.halted_clock > clock + bound.halts or self.begun_clock > clock + bound.begins
-        self.is_wrong = self.keeps_pace and is_late
+        if self.keeps_pace:
+            self.is_wrong = self.is_late(clock, bound.begins, bound.halts)
+        elif bound.counts_returns:
+            self.judge_return(host, bound, clock)
+
+    def is_late(self, clock, begins, halts):
+        return self.halted is None or self.halted_clock > clock + halts or self.begun_clock > clock + begins
+
+    def judge_return(self, host, bound, clock):
+        """Tests the story against a bound over links that came back, and kept pace until the shutdown began. `clock` is the
+        machine's at the start of the bound."""
+        paces = [host.links[i].keeps_pace_at(math.inf if self.begun is None else self.begun) for i in bound.lines]
+        if None in paces:
+            return
+        start, clock = max((bound.start, clock), *paces)
+        begins, halts = knows_again_within(host.machine), halts_when_returned(host.machine)
+        if bound.lasts(start, begins):
+            self.returned_end, self.returned_clock = start + halts * SECOND, clock + halts
+            self.is_wrong = self.is_late(clock, begins, halts)
 
 
 def settled(room, nutsim, seed):

@@ -4,7 +4,7 @@ import collections
 import math
 import statistics
 
-from nutroom_modules.bounds import halt_terms, halts_when_cut_off, is_low, needed_host_sync
+from nutroom_modules.bounds import halt_terms, halts_when_cut_off, halts_when_returned, is_low, known_again_terms, needed_host_sync
 from nutroom_modules.times import seconds, short_seconds
 
 
@@ -100,6 +100,9 @@ class Summary:
             if any(story.last_read is not None for story in stories):
                 sum_of = f"DEADTIME {machine.rules.dead_time} + 1 + {halt_terms(machine)} = {halts_when_cut_off(machine)}"
                 yield f"  {'':<{width}}  cut off on battery: halted within {sum_of} s of its last status"
+            if any(story.returned_end is not None for story in stories):
+                sum_of = f"{known_again_terms(machine)} + {halt_terms(machine)} = {halts_when_returned(machine)}"
+                yield f"  {'':<{width}}  once its links are back, and these UPSes are shown so: halted within {sum_of} s"
 
     def sync_lines(self):
         """Yields whether each primary waits long enough for the others."""

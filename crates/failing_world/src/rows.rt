@@ -7,7 +7,7 @@ ghost use Rattle.failing_world.specs.Failing.{event_of, first_coming};
 
 use nut_io::{Fault, Piece};
 use nut_server::Server;
-use nut_server_loop::{Address, Next};
+use nut_server_loop::Next;
 
 /// One thing that comes from outside.
 #[derive(Clone, Copy)]
@@ -54,13 +54,16 @@ fn comes(server: &Server, row: Row) -> bool
 ///
 /// # Errors
 ///
-/// A fault if its text is longer than a piece or an address may be.
+/// A fault if its text is longer than a piece may be.
 pub fn show(row: Row, piece: &mut Piece) -> Result<Next, Fault>
     ensures { IfOk result (λ n. arrival_of n piece.new.items ≡ Some (event_of row)) }
 {
     match row {
         Row::Moment(t) => Ok(Next::Moment(t)),
-        Row::Open(text) => Ok(Next::Open(address(text)?)),
+        Row::Open(text) => {
+            fill(piece, text)?;
+            Ok(Next::Open)
+        }
         Row::Bytes(c, text) => {
             fill(piece, text)?;
             Ok(Next::Bytes(c))
@@ -81,16 +84,6 @@ fn fill(piece: &mut Piece, text: &[u8]) -> Result<(), Fault>
     piece.clear();
     match piece.try_extend_from_slice(text) {
         Ok(()) => Ok(()),
-        Err(_) => Err(Fault),
-    }
-}
-
-fn address(text: &[u8]) -> Result<Address, Fault>
-    ensures { IfOk result (λ a. a.items ≡ text.now) }
-{
-    let mut address = Address::new();
-    match address.try_extend_from_slice(text) {
-        Ok(()) => Ok(address),
         Err(_) => Err(Fault),
     }
 }

@@ -106,7 +106,7 @@ fn show(row: Row, piece: &mut Piece) -> Next {
 }
 
 impl MonWorld for Odd {
-    ghost log = { λ w. None };
+    ghost did = { λ config a b entries. Unit {0} };
 
     ghost late = { λ w i. w.is_late && nat_eq i 0 };
 
@@ -114,11 +114,9 @@ impl MonWorld for Odd {
 
     ghost has_ended = { λ w. Unit {0} };
 
-    ghost reached = { λ a b. Unit {0} };
+    ghost did_self = { λ config w. tt };
 
-    ghost reached_self = { λ w. tt };
-
-    ghost reached_on = { λ a b c first second. tt };
+    ghost did_on = { λ config a b c xs ys first second. tt };
 
     fn faults(&self) -> u64 {
         self.faults

@@ -1,14 +1,12 @@
 -- How queries are asked in turn.
-use Rattle.std.proofs.Common.{◌≡◌, ℕ, ◌+◌, ◌<◌, ◌++◌, ◌∷◌, [], List, length, take, drop, get_or, Option, Result, Ok, sym, ap, ap₂, subst, ◌∙◌}
+use Rattle.std.proofs.Common.{◌≡◌, ℕ, ◌+◌, ◌<◌, ◌++◌, ◌∷◌, [], List, length, take, drop, get_or, Option, Result, Ok, sym, ap, subst, ◌∙◌}
 use Rattle.std.proofs.lemmas.Grind.{flat_map-append}
 use Rattle.std.proofs.lemmas.List.{append-nil, take_more}
 use Rattle.std.specs.Io.KnownBytes.{append_known}
 use Rattle.nut_proto.specs.declared.request.Request.{Request}
-use Rattle.nut_proto.specs.declared.request.Request.TheVariants as requests
 use Rattle.nut_proto.specs.Requests.{request_line}
-use Rattle.nut_client.specs.Forcing.{forcing_queries, in_turn, query_lines}
+use Rattle.nut_client.specs.Forcing.{in_turn, query_lines}
 use Rattle.nut_client.specs.Script.{Asks, on_done}
-use Rattle.nut_client.specs.Tool.{Ends}
 use Rattle.nut_client.specs.declared.failure.Failure.{Failure}
 use Rattle.nut_client.specs.inside.Between.{Goes, Point}
 use Rattle.nut_client.proofs.Parts.{drop_at, follows}
@@ -31,11 +29,3 @@ lines_on queries i query before taken taken' within is first more =
     ∙ flat_map-append request_line (take i queries) (query ∷ [])
     ∙ ap (λ l. query_lines (take i queries) ++ l) (append-nil (request_line query)) in
     more ∙ ap (λ k. append_known k (request_line query)) first ∙ append_twice (query_lines (take i queries)) (request_line query) before ∙ ap (append_known before) (sym lines)
-
--- The queries about a UPS may have copies of its name.
-pub forces : (ups user password login primary : List ℕ) (result : Result (List ℕ) Failure) (input last before taken : Option (List ℕ)) → login ≡ ups → primary ≡ ups
-    → Ends (in_turn (requests.Username user ∷ requests.Password password ∷ requests.Login login ∷ requests.Primary primary ∷ requests.Fsd ups ∷ [])) result input last before taken
-    → Ends (in_turn (forcing_queries ups user password)) result input last before taken
-forces ups user password login primary result input last before taken same also ends =
-    let queries : List ℕ → List ℕ → List Request = λ l p. requests.Username user ∷ requests.Password password ∷ requests.Login l ∷ requests.Primary p ∷ requests.Fsd ups ∷ [] in
-    subst (λ q. Ends (in_turn q) result input last before taken) (ap₂ queries same also) ends

@@ -8,7 +8,7 @@ use nut_proto::TrackingStatus;
 use std::alloc::AllocError;
 
 /// Why a tool ends without its output, or with only a part of it.
-#[derive(Debug, Drop)]
+#[derive(Drop)]
 pub enum Failure {
     /// The command line can be read, but is no combination that the tool knows.
     BadArguments,

@@ -37,14 +37,21 @@ pub fn force_shutdown<S: Stream>(
     ensures lost { IfErr result (λ failure. failure ≡ ConnectionLost → S.has_ended stream.new) }
 {
     let mut conversation = Conversation::new(alloc);
-    let queries = [
+    let queries = forcing_queries(&ups, user, password);
+    ask_in_turn(&mut conversation, stream, &queries)
+}
+
+/// Returns what is asked to force the shutdown of the UPS of this name.
+fn forcing_queries<'t>(ups: &Word<'t>, user: Word<'t>, password: Word<'t>) -> [Request<'t>; 5]
+    ensures { result ≡ forcing_queries ups.now user.entry password.entry }
+{
+    [
         Request::Username { name: user },
         Request::Password { password },
         Request::Login { ups: ups.copy() },
         Request::Primary { ups: ups.copy() },
-        Request::Fsd { ups },
-    ];
-    ask_in_turn(&mut conversation, stream, &queries)
+        Request::Fsd { ups: ups.copy() },
+    ]
 }
 
 /// Asks these queries in turn, each once the one before it was answered `OK`.

@@ -7,6 +7,7 @@ use Rattle.std.specs.Str.{bytes_eq}
 use Rattle.nut_conf.specs.Values.{Words, nth}
 use Rattle.nut_conf.specs.Settings.{Setting, Number, Text, Rule, Directive, settings, once, name_value, text_value, number_value}
 use Rattle.nut_conf.specs.declared.fault.FaultKind.{FaultKind}
+use Rattle.nut_conf.specs.declared.lines.Lines.{Lines}
 use Rattle.nut_conf.specs.declared.text.Name.{Name}
 use Rattle.nut_conf.specs.declared.text.NumberOr.{NumberOr}
 use Rattle.nut_conf.specs.declared.text.Text.{Text as TextField}
@@ -80,3 +81,7 @@ numbers_of {least} {most} {default} field = (least, most, default)
 -- the least and the greatest length of the text that a field takes
 abbrev pub lengths_of : {C : Type 0} {least most : ℕ} → (C → Option (TextField least most)) → ℕ × ℕ
 lengths_of {least} {most} field = (least, most)
+
+-- the greatest number of values of a field that holds several
+abbrev pub most_of : {C T : Type 0} {most : ℕ} → (C → Lines T most) → ℕ
+most_of {most = most} field = most

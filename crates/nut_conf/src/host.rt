@@ -8,14 +8,14 @@ use arrayvec::ArrayVec;
 
 /// The host to which a client connects, by name or IPv4 address: 1 to [`HOST_MAX`] letters, digits, `.` and `-`. An
 /// IPv6 address isn't a host.
-#[derive(Debug, PartialEq, Eq, Drop)]
+#[derive(PartialEq, Eq, Drop)]
 pub struct Host {
     pub bytes: ArrayVec<u8, HOST_MAX>,
     pub ghost valid: { IsTrue (is_host bytes.items) },
 }
 
 /// An address on which a server listens: 1 to [`HOST_MAX`] letters, digits, `.`, `-` and `:`.
-#[derive(Debug, PartialEq, Eq, Drop)]
+#[derive(PartialEq, Eq, Drop)]
 pub struct Address {
     pub bytes: ArrayVec<u8, HOST_MAX>,
     pub ghost valid: { IsTrue (is_address bytes.items) },

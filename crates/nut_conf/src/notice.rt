@@ -98,7 +98,7 @@ impl Notice {
 }
 
 /// The text of a type of notice.
-#[derive(Debug, PartialEq, Eq, Drop)]
+#[derive(PartialEq, Eq, Drop)]
 pub struct NoticeText {
     pub notice: Notice,
     /// The text, in which `%s` stands for the UPS.
@@ -157,7 +157,7 @@ fn is_flag(word: &[u8]) -> bool
 }
 
 /// What is done with a notice (NOTIFYFLAG of upsmon.conf(5)). A flag is true if the line names it.
-#[derive(Clone, Copy, Debug, PartialEq, Eq)]
+#[derive(Clone, Copy, PartialEq, Eq)]
 pub struct NoticeFlags {
     /// `SYSLOG`: the notice is printed. It is printed once even if `WALL` is set too.
     pub syslog: bool,
@@ -229,7 +229,7 @@ impl NoticeFlags {
 }
 
 /// The flags of a type of notice.
-#[derive(Clone, Copy, Debug, PartialEq, Eq)]
+#[derive(Clone, Copy, PartialEq, Eq)]
 pub struct NoticeHandling {
     pub notice: Notice,
     /// What is done with such a notice.

@@ -26,7 +26,7 @@ pub enum NameFault {
 }
 
 /// A UPS at a host.
-#[derive(Debug, PartialEq, Eq, Drop)]
+#[derive(PartialEq, Eq, Drop)]
 pub struct Target {
     /// The name of the UPS.
     pub ups: Name<UPS_NAME_MAX>,

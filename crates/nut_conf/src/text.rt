@@ -15,21 +15,21 @@ use arrayvec::ArrayVec;
 use nut_words::{are_name_bytes, natural};
 
 /// A name of 1 to `MOST` bytes: letters, digits, `.`, `_` and `-`.
-#[derive(Debug, PartialEq, Eq, Hash, Drop)]
+#[derive(PartialEq, Eq, Hash, Drop)]
 pub struct Name<const MOST: usize> {
     pub bytes: ArrayVec<u8, MOST>,
     pub ghost named: { IsTrue (is_name MOST bytes.items) },
 }
 
 /// A text of `LEAST` to `MOST` printing bytes.
-#[derive(Debug, PartialEq, Eq, Drop)]
+#[derive(PartialEq, Eq, Drop)]
 pub struct Text<const LEAST: usize, const MOST: usize> {
     pub bytes: ArrayVec<u8, MOST>,
     pub ghost bounded: { IsTrue (is_text LEAST MOST bytes.items) },
 }
 
 /// A number from `LEAST` to `MOST`.
-#[derive(Clone, Copy, Debug, PartialEq, Eq)]
+#[derive(Clone, Copy, PartialEq, Eq)]
 pub struct Number<const LEAST: u32, const MOST: u32> {
     pub value: u32,
     pub ghost least: { LEAST ≤ value },
@@ -37,7 +37,7 @@ pub struct Number<const LEAST: u32, const MOST: u32> {
 }
 
 /// A number from `LEAST` to `MOST`: the one that a line sets, or else `DEFAULT`.
-#[derive(Clone, Copy, Debug, PartialEq, Eq)]
+#[derive(Clone, Copy)]
 pub struct NumberOr<const LEAST: u32, const MOST: u32, const DEFAULT: u32> {
     pub value: u32,
     /// Whether a line has set it.
@@ -48,7 +48,7 @@ pub struct NumberOr<const LEAST: u32, const MOST: u32, const DEFAULT: u32> {
 }
 
 /// A TCP port, 1 to 65,535.
-#[derive(Clone, Copy, Debug, PartialEq, Eq)]
+#[derive(Clone, Copy, PartialEq, Eq)]
 pub struct Port {
     pub number: u16,
     pub ghost least: { 1 ≤ number },

@@ -28,7 +28,7 @@ use nut_words::{UPS_NAME_MAX, are_printing};
 use std::alloc::Global;
 
 /// A UPS: a section of ups.conf. A directive that isn't set has its default.
-#[derive(Debug, Drop)]
+#[derive(Drop)]
 pub struct Ups {
     /// The name of the driver's program.
     pub driver: Option<Name<DRIVER_NAME_MAX>>,

@@ -5,7 +5,7 @@ ghost use Rattle.nut_conf.specs.Faults.{Reads, Spares};
 ghost use Rattle.nut_conf.specs.Files.{Means, read_file};
 ghost use Rattle.nut_conf.specs.Memory.{MayRunOut};
 ghost use Rattle.nut_conf.specs.Upsd.{UpsdHolds, upsd_fault, upsd_grows, address as address_of, endpoints_of};
-ghost use Rattle.nut_conf.specs.Rows.{numbers_of};
+ghost use Rattle.nut_conf.specs.Rows.{most_of, numbers_of};
 ghost use Rattle.nut_conf.specs.declared.upsd.UpsdConf.{UpsdConf};
 
 use crate::directives::Directives;
@@ -22,7 +22,7 @@ use crate::values::Values;
 use std::alloc::Global;
 
 /// An address and a port on which a server listens.
-#[derive(Debug, PartialEq, Eq, Drop)]
+#[derive(PartialEq, Eq, Drop)]
 pub struct Endpoint {
     /// The address, without a port.
     pub address: Address,
@@ -81,9 +81,10 @@ impl UpsdConf {
     }
 }
 
-/// States a law and does nothing when called: the least and the greatest number that each directive takes, and its
-/// default.
+/// States a law and does nothing when called: how many endpoints there are at most; and the least and the greatest number
+/// that each other directive takes, and its default.
 pub fn upsd_limits()
+    ensures listen { most_of (λ (c : UpsdConf). c.listen) ≡ 16 }
     ensures max_age { numbers_of (λ (c : UpsdConf). c.max_age) ≡ (1, 86400, 15) }
     ensures max_conn { numbers_of (λ (c : UpsdConf). c.max_conn) ≡ (1, 256, 256) }
 {}

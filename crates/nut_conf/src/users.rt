@@ -49,7 +49,7 @@ impl Drop for UsersConf {
 }
 
 /// An action that a user may take.
-#[derive(Clone, Copy, Debug, PartialEq, Eq)]
+#[derive(Clone, Copy, PartialEq, Eq)]
 pub enum Action {
     /// Setting variables.
     Set,
@@ -58,14 +58,14 @@ pub enum Action {
 }
 
 /// The commands that a user may give.
-#[derive(Debug, PartialEq, Eq, Drop)]
+#[derive(PartialEq, Eq, Drop)]
 pub enum Commands {
     All,
     Named(Name<NAME_MAX>),
 }
 
 /// The role of a monitor for a UPS.
-#[derive(Clone, Copy, Debug, PartialEq, Eq)]
+#[derive(Clone, Copy, PartialEq, Eq)]
 pub enum Role {
     /// It shuts the UPS down, after all others.
     Primary,

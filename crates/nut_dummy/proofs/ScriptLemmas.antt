@@ -98,12 +98,6 @@ declared_found name [] i f = absurd (omega (arith, f.within))
 declared_found name (v ∷ vs) i f =
     ap (λ b. if b then (v ∷ vs) else put name_of name (Some (record { name = name; steps = [] })) (v ∷ vs)) (sym (ap is_some (f.is v)))
 
-pub declared_free : (name : List ℕ) (variables : List Timeline) (i : ℕ) → IsFree name_of name variables i
-    → insert variables i (record { name = name; steps = [] }) ≡ declared name variables
-declared_free name variables i f =
-    sym (f.inserted (record { name = name; steps = [] }))
-    ∙ ap (λ b. if b then variables else put name_of name (Some (record { name = name; steps = [] })) variables) (sym (ap is_some f.is))
-
 pub ascending_free : (name : List ℕ) (variables : List Timeline) (i : ℕ) → IsFree name_of name variables i → IsAscending (map name_of variables)
     → IsAscending (map name_of (insert variables i (record { name = name; steps = [] })))
 ascending_free name variables i f h =

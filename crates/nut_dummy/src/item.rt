@@ -20,7 +20,7 @@ use nut_words::{
 use std::alloc::Global;
 
 /// How a script is told (NUT manual page dummy-ups(8)).
-#[derive(Clone, Copy, Debug, PartialEq, Eq)]
+#[derive(Clone, Copy, PartialEq, Eq)]
 pub enum ScriptKind {
     /// `.dev`: once, at the start. It has no timers.
     Dev,

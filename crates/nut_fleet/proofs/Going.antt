@@ -23,8 +23,8 @@ use Rattle.nut_monitor_spec.specs.Trace.{linked, trace, notices_waiting}
 use Rattle.nut_monitor_spec.specs.Trace as monitor
 use Rattle.nut_monitor_spec.proofs.Kept as monitor_kept
 use Rattle.nut_monitor_spec.proofs.Lists.{get_at}
-use Rattle.nut_fleet.specs.Schedule.{Step, ServerClock, MonitorClock, Up, Driver, Down, Link, Out, Reach, Back, Land, CutServer, CutMonitor}
-use Rattle.nut_fleet.specs.World.{Setup, World, Deed, Skip, Tell, Inform, Join, monitor_of, seen, served, known, is_open, is_linked, to_server, to_monitor, server_waits, monitor_waits, tell, inform, carried, counted, moved, address_of, has_link, is_fit, deed, deed_of, all_taken, informed, for_monitor, after, world}
+use Rattle.nut_fleet.specs.Schedule.{Step, ServerClock, MonitorClock, Up, Driver, Down, Link, Out, Reach, Back, Land, CutServer, CutMonitor, Other}
+use Rattle.nut_fleet.specs.World.{Setup, World, Deed, Skip, Tell, Inform, Join, monitor_of, seen, served, known, is_open, is_linked, to_server, to_monitor, server_waits, monitor_waits, tell, inform, carried, counted, moved, address_of, has_link, is_fit, deed_of, all_taken, informed, for_monitor, after, world}
 use Rattle.nut_fleet.specs.Fleet.{IsSetup}
 use Rattle.nut_fleet.specs.Log.{Noticed, turned, news, news_of}
 use Rattle.nut_fleet.specs.Moves.{reached, sent_off, landed, put_in, makes, ContentsTell}
@@ -35,7 +35,7 @@ use Rattle.nut_fleet.proofs.Steps.{for-own, for-other, line-within, zero-closed,
 use Rattle.nut_fleet.proofs.Worlds.{sound}
 use Rattle.nut_fleet.proofs.Moves.{input-grows, taken-same, drop-more, drop-begins, was-open, still-open, landed-grows, sent-more, informed-same, linked-before, moves-made, no-link, contents-tell}
 use Rattle.nut_fleet.proofs.Entries.{entry-input}
-use Rattle.nut_fleet.proofs.Seen.{both-ways, same-carried, same-counted}
+use Rattle.nut_fleet.proofs.Seen.{both-ways, played-is, same-carried, same-counted}
 
 -- ---- a monitor's content, after its notices were taken
 
@@ -469,6 +469,7 @@ module _ (setup : Setup) (earlier : List Step) (s : Sound setup earlier (world s
       (λ piece. inform setup w m (events.LinkBytes i piece)) (λ piece. heard m (events.LinkBytes i piece)))
   same-deed (CutServer m i) ok = told-at m i ok (λ c. arrivals.Close c)
   same-deed (CutMonitor m i) ok = heard m (events.LinkLost i)
+  same-deed (Other event) ok = cc
 
   -- ---- what is told
 
@@ -544,17 +545,15 @@ module _ (setup : Setup) (earlier : List Step) (s : Sound setup earlier (world s
       (heard-goes (Land m i n) m (events.LinkBytes i (take (min n PIECE_MAX) (to_monitor setup w m i))) tt (land-keeps m i (take (min n PIECE_MAX) (to_monitor setup w m i)) ok)))
   goes (CutServer m i) ok = told-goes (CutServer m i) (arrivals.Close (w.connection m i)) (λ e. tell-quiet (arrivals.Close (w.connection m i)) e (λ c. (refl, refl)))
   goes (CutMonitor m i) ok = heard-goes (CutMonitor m i) m (events.LinkLost i) tt (λ e. inform-quiet m (events.LinkLost i) e (λ j. (refl, refl, refl)))
-
-  played-is : (step : Step) → is_fit setup step ≡ true → deed setup w step ≡ deed_of setup w step
-  played-is step ok = ap (λ b. if b then deed_of setup w step else Skip) ok
+  goes (Other event) ok = cc
 
   pub goes-on : (step : Step) → is_fit setup step ≡ true → Keeps setup (world setup (step ∷ earlier)) (moved_on f step)
   goes-on step ok =
-      subst (λ d. Keeps setup (after setup w d) (moved_on f step)) (sym (played-is step ok))
+      subst (λ d. Keeps setup (after setup w d) (moved_on f step)) (sym (played-is setup w step ok))
       (subst (λ d. Keeps setup (after setup w (deed_of setup w step)) (moved_by f d step)) (sym (same-deed step ok)) (goes step ok).0)
 
   pub tells-so : (step : Step) → is_fit setup step ≡ true → news_seen f step ≡ news setup w step
-  tells-so step ok = ap (news_by f) (same-deed step ok) ∙ (goes step ok).1 ∙ sym (ap (news_of setup w) (played-is step ok))
+  tells-so step ok = ap (news_by f) (same-deed step ok) ∙ (goes step ok).1 ∙ sym (ap (news_of setup w) (played-is setup w step ok))
 
   if-same : (a b : Bool) (x y : List ℕ) → a ≡ b → (b ≡ true → x ≡ y) → (if a then x else []) ≡ (if b then y else [])
   if-same true true x y e same = same refl

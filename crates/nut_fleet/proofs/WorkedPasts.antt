@@ -1,5 +1,5 @@
 -- The made-up pasts: what isn't true of them.
-use Rattle.std.proofs.Common.{◌≡◌, ℕ, zero, suc, ◌+◌, ◌<◌, ◌≤◌, ◌&&◌, nat_le, inl, inr, List, [], ◌∷◌, ◌++◌, length, Bool, true, false, not, Option, Some, None, refl, sym, ◌∙◌, ap, subst, arith, codes}
+use Rattle.std.proofs.Common.{◌≡◌, ℕ, ◌+◌, ◌<◌, ◌≤◌, ◌&&◌, nat_le, inl, inr, List, [], ◌∷◌, length, Bool, true, false, not, Option, Some, None, refl, sym, ◌∙◌, ap, subst, arith, codes}
 use Rattle.std.specs.Prelude.{◌==◌, nat_lt, reverse}
 use Rattle.std.specs.Fmt.{digits}
 use Rattle.std.proofs.lemmas.Bool.{and_from, and_parts, cases_Bool, eqb-true, le-leb, lt-ltb}
@@ -22,7 +22,7 @@ use Rattle.nut_server_spec.specs.Event as arrivals
 use Rattle.nut_monitor_spec.specs.declared.Query.TheVariants.{NumLogins, Status}
 use Rattle.nut_monitor_spec.specs.Configuration.{line_in}
 use Rattle.nut_monitor_spec.specs.Query.{has}
-use Rattle.nut_monitor_spec.specs.Trace.{Entry, at_status, begun, entry_of, logins, newest_answer, status}
+use Rattle.nut_monitor_spec.specs.Trace.{Entry, at_status, begun, entry_of, logins, newest_answer}
 use Rattle.nut_fleet.specs.Schedule.{Step, IsFront}
 use Rattle.nut_fleet.specs.World.{monitor_of, seen, world}
 use Rattle.nut_fleet.specs.Shown.{shown_status}

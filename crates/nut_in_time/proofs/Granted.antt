@@ -25,7 +25,7 @@ use Rattle.nut_fleet.specs.Fleet.{IsSpoken, IsAnswered, Exists}
 use Rattle.nut_fleet.proofs.Sound.{IsOwn, AreOwn}
 use Rattle.nut_fleet.proofs.Reading.{answer-said, reply-same}
 use Rattle.nut_fleet.proofs.Replying.{query-command, query-answer, never-out, number-there}
-use Rattle.nut_fleet.proofs.Unreloaded.{HasNoReload, IsAsMade, as-made, number-stays, no-reload}
+use Rattle.nut_fleet.proofs.Rereads.{KeepsRoom, IsAsMade, as-made, number-stays, room-stays}
 use Rattle.nut_in_time.specs.Room.{IsGrant}
 
 -- ---- a connection that gave the user and the password of a primary of the line's UPS
@@ -61,7 +61,7 @@ granted-entitled first t c line made s is =
       name_is = given;
       secret_is = given';
       number = number-there first t line.ups u made found;
-      right = sym (ap (λ (x : Configuration). has_right may_be_primary secret (user_named name x.users)) made.configured) ∙ holds;
+      right = sym (ap (λ users. has_right may_be_primary secret (user_named name users)) made.users) ∙ holds;
     })
     (answer-said first t c line Primary replies.Accepted s is)
   where
@@ -117,7 +117,7 @@ module _ (first : Configuration) (line : Line) (c : ℕ) (t : List Entry) (spoke
       })
 
 -- a connection on which PRIMARY was granted, and that sends nothing but queries
-pub entitled : (first : Configuration) (line : Line) (c : ℕ) (s : List Step) → HasNoReload s → IsSpoken line → AreOwn line (exchanges c (trace first s)) →
+pub entitled : (first : Configuration) (line : Line) (c : ℕ) (s : List Step) → KeepsRoom first s → IsSpoken line → AreOwn line (exchanges c (trace first s)) →
     Exists (IsGrant line Primary) (exchanges c (trace first s)) → IsEntitled first line (user c (trace first s)) (password c (trace first s))
 entitled first line c [] none spoken own h = absurd h
 entitled first line c (Said d text ∷ s) none spoken own h =
@@ -147,7 +147,7 @@ entitled first line c (Up u ∷ s) none spoken own h = entitled first line c s n
 entitled first line c (Reported u text ∷ s) none spoken own h = entitled first line c s none spoken own h
 entitled first line c (Drained u n ∷ s) none spoken own h = entitled first line c s none spoken own h
 entitled first line c (Down u ∷ s) none spoken own h = entitled first line c s none spoken own h
-entitled first line c (Reloaded k ∷ s) none spoken own h = absurd none
+entitled first line c (Reloaded k ∷ s) none spoken own h = entitled first line c s none.3 spoken own h
 
 -- ---- its FSD is accepted
 
@@ -170,7 +170,7 @@ entitled-forces first line c t made spoken own e =
     ∙ right-goes (user c t) (password c t) (ups_number sc line.ups)
     (λ n s. has_right may_force s (user_named n sc.configuration.users)) (λ u. OneLine replies.FsdSet) e.name e.secret e.u e.name_is e.secret_is
     (number-stays first t line.ups made ∙ e.number)
-    (ap (λ (x : Configuration). has_right may_force e.secret (user_named e.name x.users)) made.configured
+    (ap (λ users. has_right may_force e.secret (user_named e.name users)) made.users
     ∙ force-right e.secret (user_named e.name first.users) e.right)
 
 -- ---- an FSD that was accepted has forced the shutdown
@@ -191,7 +191,7 @@ answered-forced setup m i u step early spoken number a =
     ∙ own-target u (target (numbering first t) (command_of (query_line line Fsd)))
     (forced_then (command_of (query_line line Fsd)) (answer_to first t c (query_line line Fsd))) (forced first u t)
     (ap (target (numbering first t)) command
-    ∙ number-stays first t line.ups (as-made first (steps (world setup early).server) (no-reload setup early)) ∙ number)
+    ∙ number-stays first t line.ups (as-made first (steps (world setup early).server) (room-stays setup early)) ∙ number)
     (ap (λ k. forced_then k (answer_to first t c (query_line line Fsd)) (forced first u t)) command
     ∙ ap (λ x. forced_then (Asks (request line Fsd)) x (forced first u t)) a.answered)
 

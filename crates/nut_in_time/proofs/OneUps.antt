@@ -1,17 +1,16 @@
 -- A room with one UPS, which each machine needs and names in its only MONITOR line: what is asked of a room.
-use Rattle.std.proofs.Common.{◌≡◌, ℕ, zero, suc, ◌<◌, ◌≤◌, ◌&&◌, ◌||◌, inl, inr, List, [], ◌∷◌, ◌++◌, length, Bool, true, false, not, Some, refl, sym, ◌∙◌, ap, subst, arith}
+use Rattle.std.proofs.Common.{◌≡◌, ℕ, zero, suc, ◌<◌, ◌≤◌, ◌&&◌, ◌||◌, inl, inr, List, ◌++◌, length, true, false, not, Some, refl, sym, ◌∙◌, ap, subst, arith}
 use Rattle.std.proofs.lemmas.Bool.{and_parts, or_cases}
 use Rattle.std.specs.List.{list_any}
 use Rattle.std.specs.Str.{bytes_eq}
 use Rattle.nut_server_spec.specs.Configuration.{number_of_ups}
 use Rattle.nut_monitor_spec.specs.declared.Query.TheVariants.{Login, Primary}
-use Rattle.nut_monitor_spec.specs.Configuration.{Line, line_in}
-use Rattle.nut_monitor_spec.specs.Decision.{each_primary, power_where}
+use Rattle.nut_monitor_spec.specs.Decision.{power_where}
 use Rattle.nut_fleet.specs.Schedule.{Step, IsFront}
 use Rattle.nut_fleet.specs.World.{Setup, is_open, line_of, monitor_of, world}
 use Rattle.nut_in_time.specs.Pace.{Pace, FromOn, IsPolled, KeepsPace, Says, seen_at, shown_at}
 use Rattle.nut_in_time.specs.InTime.{has_begun_at, is_low}
-use Rattle.nut_in_time.specs.Room.{Follows, IsReady, IsRoom, IsStopping, KeepsStep, WasGranted, are_forced, is_forced, leads}
+use Rattle.nut_in_time.specs.Room.{Follows, IsReady, IsRoom, IsStopping, KeepsStep, WasGranted, is_forced, leads}
 use Rattle.nut_in_time.specs.RoomTests.{is_shown_low}
 use Rattle.nut_in_time.specs.Tests.{each_since, says}
 use Rattle.nut_in_time.proofs.Beginning.{power-less}
@@ -35,15 +34,6 @@ pub record OneUpsReady (setup : Setup) (u p : ℕ) (start : List Step) : Type 0 
   pub primary : WasGranted setup p 0 Primary start
   pub not_begun : has_begun_at setup p start ≡ false
   pub not_forced : is_forced setup u start ≡ false
-
-one-primary : (test : ℕ → Bool) (lines : List Line) → length lines ≡ 1 → (line_in lines 0).primary ≡ true → each_primary test lines ≡ test 0
-one-primary test [] one primary = cc
-one-primary test (line ∷ []) one primary = rw primary (by (test 0))
-  where
-    by : (b : Bool) → (b && true) ≡ b
-    by true = refl
-    by false = refl
-one-primary test (line ∷ other ∷ lines) one primary = absurd (omega (arith, one))
 
 module _ (setup : Setup) (ups : List ℕ) (u p : ℕ) (room : OneUps setup ups u p) where
   -- what holds of the only line
@@ -91,9 +81,6 @@ module _ (setup : Setup) (ups : List ℕ) (u p : ℕ) (room : OneUps setup ups u
 
   monitor-there : (m : ℕ) → Follows setup p m → m < length setup.monitors
   monitor-there m follows = has-monitor setup.monitors m follows.one follows.there
-
-  forced-one : (e : List Step) → are_forced setup (λ i. u) p e ≡ is_forced setup u e
-  forced-one e = one-primary (λ i. is_forced setup u e) (monitor_of setup p).lines (room.one p room.there) room.primary
 
   pub ready-one : (start : List Step) → OneUpsReady setup u p start → IsReady setup (λ i. u) p start
   ready-one start ready = record {

@@ -1,122 +1,163 @@
--- Machines whose links come back: from the time at which these are opened they are as if they had been up.
-use Rattle.std.proofs.Common.{◌≡◌, ℕ, zero, suc, ◌+◌, ◌*◌, ◌<◌, ◌≤◌, inl, inr, List, [], ◌∷◌, length, Bool, true, false, refl, sym, ◌∙◌, ap, subst, arith}
-use Rattle.std.specs.Prelude.{if◌then◌else◌, nat_lt}
-use Rattle.std.proofs.lemmas.Bool.{cases_Bool, ltb-false, ltb-true}
-use Rattle.nut_monitor_spec.specs.Configuration.{Line}
-use Rattle.nut_monitor_spec.specs.Trace.{Entry, begun, clock, has_begun, is_any, is_short, status}
-use Rattle.nut_monitor_spec.specs.Trace.{critical}
-use Rattle.nut_fleet.specs.Schedule.{Step, IsFront}
-use Rattle.nut_fleet.specs.World.{Setup, line_of, monitor_of}
+-- Machines whose links come back: each link is opened first, and then its UPS's status is asked for.
+use Rattle.std.proofs.Common.{◌≡◌, ◌⊎◌, ℕ, suc, ◌+◌, ◌*◌, ◌<◌, ◌≤◌, inl, inr, List, ◌∷◌, length, Bool, true, false, refl, subst, arith}
+use Rattle.std.proofs.lemmas.Bool.{cases_Bool}
+use Rattle.nut_monitor_spec.specs.Configuration.{Configuration, line_in}
+use Rattle.nut_monitor_spec.specs.declared.Query.TheVariants.{Status}
+use Rattle.nut_monitor_spec.specs.Event.{Event}
+use Rattle.nut_monitor_spec.specs.Trace.{Entry, answer_of, clock, clock_after, critical, entry_of, has_begun, linked, status, trace}
+use Rattle.nut_fleet.specs.Schedule.{Step}
+use Rattle.nut_fleet.specs.World.{Setup, monitor_of, world}
 use Rattle.nut_fleet.specs.Fleet.{IsSetup}
-use Rattle.nut_fleet.proofs.Fronts.{front-older, front-self}
+use Rattle.nut_fleet.proofs.Entries.{entry-answer, is_made, length-trace}
+use Rattle.nut_fleet.proofs.Fronts.{front-self}
 use Rattle.nut_fleet.proofs.Sound.{IsLawful}
-use Rattle.nut_in_time.specs.Pace.{Pace, IsSteady, KeepsPace, Says, seen_at}
-use Rattle.nut_in_time.specs.InTime.{BeginsBy, IsFailing, IsHaltedBy, has_fsd, is_low, known_by, seen_by, turn}
-use Rattle.nut_in_time.specs.Opening.{to_open}
-use Rattle.nut_in_time.specs.Returning.{IsReturning, ReturningForcedStop, ReturningPrimariesStop, StopsLater, opened_in}
-use Rattle.nut_in_time.proofs.Beginning.{begin-by, fsd-critical, low-critical}
+use Rattle.nut_fleet.proofs.Worlds.{sound}
+use Rattle.nut_in_time.specs.Pace.{Pace, IsPrompt, Says, seen_at}
+use Rattle.nut_in_time.specs.InTime.{BeginsBy, has_fsd, is_low, turn}
+use Rattle.nut_in_time.specs.Returning.{ReturningForcedStop, ReturningPrimariesStop, StopsLater, turn_again}
+use Rattle.nut_in_time.proofs.Asking.{answer-is, not-made, wait-comes, waits-on, waits-outstanding}
+use Rattle.nut_in_time.proofs.Beginning.{Knows, begin-as, fsd-critical, low-critical}
 use Rattle.nut_in_time.proofs.Climbing.{front-of}
-use Rattle.nut_in_time.proofs.Emptied.{pace-kept}
-use Rattle.nut_in_time.proofs.Ending.{begun-stays, earliest-sooner, halted-by_then}
-use Rattle.nut_in_time.proofs.Lasting.{Chosen}
-use Rattle.nut_in_time.proofs.Opening.{links-open_in_time}
+use Rattle.nut_in_time.proofs.Ending.{clock-entry, halted-by_then}
+use Rattle.nut_in_time.proofs.Lasting.{Chosen, begun-before}
+use Rattle.nut_in_time.proofs.Opening.{Opens, full, opened-polled, opens-early, opens-next, state-first, times, times-four, times-three}
+use Rattle.nut_in_time.proofs.Polling.{Current, IsGiven, Polls, late-next, late-now, polls-next}
+use Rattle.nut_in_time.proofs.Starting.{old-first}
 
 -- at most four answers open a link
-opens : (line : Line) (delay : ℕ) → to_open line * delay ≤ 4 * delay
-opens line delay = by line.primary
-  where
-    by : (primary : Bool) → (if primary then 4 else 3) * delay ≤ 4 * delay
-    by true = omega arith
-    by false = omega arith
+four-open : (primary : Bool) (delay : ℕ) → times (full primary) delay ≤ 4 * delay
+four-open true delay = let e = times-four delay in omega (arith, e)
+four-open false delay = let e = times-three delay in omega (arith, e)
 
-module _ (setup : Setup) (law : IsLawful setup.server) (fine : IsSetup setup) (pace : Pace) (m : ℕ) (Words : List (List ℕ) → Bool) (low : ℕ → Bool) (start schedule : List Step)
-    (returns : IsReturning setup pace m Words low start schedule) (steady : IsSteady setup pace m start schedule)
-    (urgent : (past : List Entry) → Chosen (monitor_of setup m) low (λ i. Says Words (status i past) → critical (monitor_of setup m) i past ≡ true)) where
-  -- the latest time at which a link may still have to be opened
-  abbrev last : ℕ
-  last = clock (seen_at setup m start) + 4 * pace.delay
+-- the link is opened, or the status is asked for
+abbrev Comes : Configuration → ℕ → ℕ → ℕ → ℕ → Pace → (List (List ℕ) → Bool) → List Entry → Type 0
+Comes configuration i n0 t0 turn pace Words past = Opens configuration i t0 pace past ⊎ Polls configuration i n0 t0 turn pace Words past
 
-  -- the first time after that
-  record Opened : Type 0 where
-    at : List Step
-    since : IsFront start at
-    inside : IsFront at schedule
-    late : last < clock (seen_at setup m at)
-    soon : clock (seen_at setup m at) ≤ last + suc pace.skip
+module _ (configuration : Configuration) (i n0 t0 turn : ℕ) (pace : Pace) (Words : List (List ℕ) → Bool) (turned : configuration.poll_freq + pace.skip ≤ turn)
+    (soon : pace.delay ≤ turn) (opening : 4 * pace.delay ≤ turn) where
+  abbrev Here : List Entry → Type 0
+  Here past = Comes configuration i n0 t0 turn pace Words past
 
-  opened : (e : List Step) → IsFront start e → IsFront e schedule → last < clock (seen_at setup m e) → Opened
-  opened [] front inside late = let same = ap (λ x. clock (seen_at setup m x)) front in absurd (omega (arith, same, late))
-  opened (step ∷ earlier) (inl front) inside late = let same = ap (λ x. clock (seen_at setup m x)) front in absurd (omega (arith, same, late))
-  opened (step ∷ earlier) (inr front) inside late = elim (cases_Bool (nat_lt last (clock (seen_at setup m earlier)))) [
-    | inl before ↦ opened earlier front (front-older step earlier schedule inside) (ltb-true last (clock (seen_at setup m earlier)) before)
-    | inr not_before ↦
-        let le = ltb-false last (clock (seen_at setup m earlier)) not_before in
-        let moves = steady step earlier inside front in
-        record { at = step ∷ earlier; since = inr front; inside = inside; late = late; soon = omega (arith, le, moves) }
-  ]
+  -- while it is opened, the time for that isn't over
+  early : (past : List Entry) → IsPrompt pace i past → Opens configuration i t0 pace past → clock past ≤ t0 + turn
+  early past prompt opens =
+      let le = opens-early configuration i t0 pace past prompt opens in
+      let most = four-open (line_in configuration.lines i).primary pace.delay in
+      omega (arith, le, most, opening)
 
-  -- from then on it fails as if its links had been up
-  fails : (o : Opened) → has_begun (monitor_of setup m) (seen_at setup m o.at) ≡ false → IsFailing setup pace m Words low o.at schedule
-  fails o not_begun = record {
-    front = o.inside;
-    steady = λ step early inside since. steady step early inside (front-of start o.at early o.since since);
-    needs = returns.needs;
-    lines = λ i within is. record {
-      keeps = pace-kept setup schedule pace m i start o.at o.since (returns.keeps i within is);
-      polled =
-          let k = returns.keeps i within is in
-          let late = o.late in
-          let le = opens (line_of setup m i) pace.delay in
-          links-open_in_time setup law fine o.at pace m i start o.since within
-          (record {
-            linked = λ e inside from. k.linked e (front-of e o.at schedule inside o.inside) from;
-            prompt = λ e inside from. k.prompt e (front-of e o.at schedule inside o.inside) from;
-          })
-          not_begun (omega (arith, late, le));
-      shows = λ e inside from. returns.shows i within is e inside (front-of start o.at e o.since from);
-    };
-  }
+  module _ (past : List Entry) (event : Event) where
+    abbrev next : List Entry
+    next = entry_of configuration past event ∷ past
 
-  abbrev latest : ℕ
-  latest = known_by setup pace m start + opened_in pace
-
-  pub begins-later : BeginsBy (monitor_of setup m) latest latest (seen_at setup m schedule)
-  begins-later = elim (cases_Bool (nat_lt last (clock (seen_at setup m schedule)))) [
-    | inr early ↦
-        let le = ltb-false last (clock (seen_at setup m schedule)) early in
-        let sooner = earliest-sooner (is_short (monitor_of setup m)) (seen_at setup m schedule) in
-        record { begins = λ late. absurd (omega (arith, le, late)); began = λ any. omega (arith, le, sooner) }
-    | inl late ↦
-        let o = opened schedule returns.front (front-self schedule) (ltb-true last (clock (seen_at setup m schedule)) late) in
-        let soon = o.soon in
-        elim (cases_Bool (has_begun (monitor_of setup m) (seen_at setup m o.at))) [
-          | inl was ↦
-              let same = begun-stays setup m o.at schedule o.inside was in
-              let at : clock (begun (monitor_of setup m) (seen_at setup m schedule)) ≡ clock (begun (monitor_of setup m) (seen_at setup m o.at)) = ap clock same in
-              let sooner = earliest-sooner (is_short (monitor_of setup m)) (seen_at setup m o.at) in
-              record { begins = λ over. ap is_any same ∙ was; began = λ any. omega (arith, at, sooner, soon) }
-          | inr was_not ↦
-              let b = begin-by setup law fine schedule pace m Words low o.at (fails o was_not) urgent in
-              record {
-                begins = λ over. b.begins (omega (arith, soon, over));
-                began = λ any. let le = b.began any in omega (arith, soon, le);
-              }
+    comes-next : is_made i event ≡ false → linked i next ≡ true → has_begun configuration next ≡ false → clock next ≤ clock past + suc pace.skip →
+        IsPrompt pace i past → IsGiven i n0 Words (answer_of configuration past event) → n0 ≤ length past → Here past → Here next
+    comes-next made there not_begun steady prompt given since (inr polls) =
+        inr (polls-next configuration i n0 t0 turn pace Words past event turned soon made there not_begun steady prompt given since polls)
+    comes-next made there not_begun steady prompt given since (inl opens) =
+        elim (opens-next configuration i t0 pace past event made there not_begun prompt opens) [
+          | inl on ↦ inl on
+          | inr put ↦
+              let le = put.1 in
+              let most = four-open (line_in configuration.lines i).primary pace.delay in
+              let now = clock-entry configuration past event in
+              inr (inr (inl (record {
+                last = record { query = Status; moment = clock_after event (clock past); event = suc (length past) };
+                is_status = refl;
+                after = omega (arith, since);
+                known = omega (arith, now);
+                soon = omega (arith, le, most, opening);
+                waits = put.0;
+              })))
         ]
-  ]
+
+    comes-late : is_made i event ≡ false → clock next ≤ clock past + suc pace.skip → IsPrompt pace i past → Here past → IsPrompt pace i next →
+        t0 + turn + pace.delay < clock next → Current configuration i n0 t0 turn pace Words past
+    comes-late made steady prompt (inr polls) prompt_next late = late-next configuration i n0 t0 turn pace Words past event turned made steady prompt polls prompt_next late
+    comes-late made steady prompt (inl opens) prompt_next late =
+        let le = early past prompt opens in
+        let now = clock-entry configuration past event in
+        elim (wait-comes configuration i past event opens.last made opens.waits) [
+          | inl on ↦
+              let waits = waits-on configuration i past event opens.last on.0 in
+              let bound = opens.soon in
+              let most = four-open (line_in configuration.lines i).primary pace.delay in
+              let in_time = prompt_next opens.last (waits-outstanding i next opens.last waits) in
+              absurd (omega (arith, bound, most, opening, in_time, late))
+          | inr came ↦
+              let read = came.1 in
+              let still : clock_after event (clock past) ≡ clock past = (answer-is configuration past event read.0 read.1).1 (clock past) in
+              absurd (omega (arith, le, now, still, late))
+        ]
+
+  comes-now : (past : List Entry) → IsPrompt pace i past → Here past → t0 + turn + pace.delay < clock past → Current configuration i n0 t0 turn pace Words past
+  comes-now past prompt (inr polls) late = late-now configuration i n0 t0 turn pace Words past turned polls prompt late
+  comes-now past prompt (inl opens) late = let le = early past prompt opens in absurd (omega (arith, le, late))
+
+module _ (configuration : Configuration) (n0 t0 turn : ℕ) (pace : Pace) (Words : List (List ℕ) → Bool) (low : ℕ → Bool) where
+  record Return (told : List Event) : Type 0 where
+    pub long : n0 ≤ length told
+    pub comes : has_begun configuration (trace configuration told) ≡ false → Chosen configuration low (λ i. Comes configuration i n0 t0 turn pace Words (trace configuration told))
+
+  returns-know : configuration.poll_freq + pace.skip ≤ turn → pace.delay ≤ turn → 4 * pace.delay ≤ turn → Knows configuration n0 t0 turn pace Words low Return
+  returns-know turned soon opening = record {
+    next = λ told event before now steady r.
+        let past = trace configuration told in
+        let long = r.long in
+        let count = length-trace configuration told in
+        record {
+          long = omega (arith, long);
+          comes = λ not_begun i within is.
+              let g = now i within is in
+              let b = before i within is in
+              comes-next configuration i n0 t0 turn pace Words turned soon opening past event
+              (not-made configuration told event i within g.accepted.1 b.there) g.there not_begun steady b.prompt
+              (subst (λ o. IsGiven i n0 Words o) (entry-answer configuration past event) g.given.0) (omega (arith, long, count))
+              (r.comes (begun-before configuration past (entry_of configuration past event) not_begun) i within is);
+        };
+    before = λ told event before now steady not_begun r late i within is.
+        let g = now i within is in
+        let b = before i within is in
+        comes-late configuration i n0 t0 turn pace Words turned soon opening (trace configuration told) event
+        (not-made configuration told event i within g.accepted.1 b.there) steady b.prompt (r.comes not_begun i within is) g.prompt late;
+    now = λ told good not_begun r late i within is.
+        comes-now configuration i n0 t0 turn pace Words turned soon opening (trace configuration told) (good i within is).prompt (r.comes not_begun i within is) late;
+  }
 
 stops-later : (setup : Setup) → IsLawful setup.server → IsSetup setup → (pace : Pace) (m : ℕ) (Words : List (List ℕ) → Bool) (low : ℕ → Bool) (start middle schedule : List Step) →
     ((past : List Entry) → Chosen (monitor_of setup m) low (λ i. Says Words (status i past) → critical (monitor_of setup m) i past ≡ true)) →
     StopsLater setup pace m Words low start middle schedule
 stops-later setup law fine pace m Words low start middle schedule urgent within returns steady =
-    let late = known_by setup pace m start + opened_in pace in
-    let begins : BeginsBy (monitor_of setup m) late late (seen_at setup m middle) =
-    begins-later setup law fine pace m Words low start middle returns (λ step early inside since. steady step early (front-of (step ∷ early) middle schedule inside within) since) urgent in (
+    let config = monitor_of setup m in
+    let n0 = length ((world setup start).monitor m) in
+    let t0 = clock (seen_at setup m start) in
+    let most = turn_again config pace in
+    let late = clock (seen_at setup m start) + most + pace.delay in
+    let begins : BeginsBy config late late (seen_at setup m middle) =
+    begin-as setup law fine middle pace m Words low start most returns.front (λ step early inside since. steady step early (front-of (step ∷ early) middle schedule inside within) since)
+    returns.needs returns.keeps returns.shows urgent
+    (Return config n0 t0 most pace Words low) (returns-know config n0 t0 most pace Words low (omega arith) (omega arith) (omega arith)) first in (
       begins,
       λ over.
-          let began : has_begun (monitor_of setup m) (seen_at setup m middle) ≡ true =
-          elim (cases_Bool (has_begun (monitor_of setup m) (seen_at setup m middle))) [ inl t ↦ t | inr f ↦ begins.begins (over f) ] in
+          let began : has_begun config (seen_at setup m middle) ≡ true =
+          elim (cases_Bool (has_begun config (seen_at setup m middle))) [ inl t ↦ t | inr f ↦ begins.begins (over f) ] in
           halted-by_then setup schedule pace m start middle late returns.front within (omega arith) began (begins.began began),
     )
+  where
+    first : Return (monitor_of setup m) (length ((world setup start).monitor m)) (clock (seen_at setup m start)) (turn_again (monitor_of setup m) pace) pace Words low ((world setup start).monitor m)
+    first = record {
+      long = omega arith;
+      comes = λ not_begun i less is.
+          let config = monitor_of setup m in
+          let told = (world setup start).monitor m in
+          let k = returns.keeps i less is in
+          let there = k.linked start returns.front (front-self start) in
+          let accepted = ((sound setup law fine start).monitors m).accepted in
+          elim (state-first config i (clock (seen_at setup m start)) pace told accepted there not_begun (omega arith)) [
+            | inl opened ↦ inr (inl (old-first config i told (length told) (turn_again config pace) pace Words accepted there not_begun
+                (opened-polled config i (clock (seen_at setup m start)) pace (trace config told) opened)))
+            | inr opens ↦ inl opens
+          ];
+    }
 
 pub returning-primaries : (setup : Setup) → IsLawful setup.server → IsSetup setup → (schedule : List Step) → ReturningPrimariesStop setup schedule
 returning-primaries setup law fine schedule pace m low start middle primaries =

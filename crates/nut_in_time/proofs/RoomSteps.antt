@@ -8,7 +8,7 @@ use Rattle.nut_monitor_spec.specs.declared.LastQuery.{LastQuery}
 use Rattle.nut_monitor_spec.specs.declared.Phase.{Phase}
 use Rattle.nut_monitor_spec.specs.declared.Phase.TheVariants.{Watching, Forcing, Halted}
 use Rattle.nut_monitor_spec.specs.declared.Query.TheVariants.{Status}
-use Rattle.nut_monitor_spec.specs.Configuration.{Configuration, Line, has_primary, line_in}
+use Rattle.nut_monitor_spec.specs.Configuration.{Configuration}
 use Rattle.nut_monitor_spec.specs.Decision.{is_halted, phase_at}
 use Rattle.nut_monitor_spec.specs.Event.{Event, NoticeTaken}
 use Rattle.nut_monitor_spec.specs.Trace.{Asked, Entry, clock, moment_of, latest, earliest, is_any, last_in, queries, phase, begun, has_begun, is_short, ended, has_ended, is_over_at, notices_waiting, entry_of, trace}
@@ -49,11 +49,6 @@ not-ended configuration past none =
     by : (o : Option ℕ) → is_halted (if is_some o then Forcing else Watching) ≡ false
     by None = refl
     by (Some moment) = refl
-
-pub none-primary : (lines : List Line) → length lines ≡ 1 → (line_in lines 0).primary ≡ false → has_primary lines ≡ false
-none-primary [] one is = cc
-none-primary (line ∷ []) one is = rw is refl
-none-primary (line ∷ other ∷ lines) one is = absurd (omega (arith, one))
 
 -- the shutdown began at the same time by the past of Final
 pub begun-ending : (configuration : Configuration) (past : List Entry) → has_ended configuration past ≡ true →

@@ -25,7 +25,7 @@ use Rattle.nut_fleet.proofs.Fronts.{front-older, front-self, fronts-compare}
 use Rattle.nut_fleet.proofs.Primaries.{primaries-go_last}
 use Rattle.nut_fleet.proofs.Sound.{IsLawful}
 use Rattle.nut_fleet.proofs.Steps.{some-there, spoken, zero-closed}
-use Rattle.nut_fleet.proofs.Unreloaded.{no-reload}
+use Rattle.nut_fleet.proofs.Rereads.{number-within, room-stays}
 use Rattle.nut_fleet.proofs.Worlds.{sound}
 use Rattle.nut_in_time.specs.Pace.{Pace, FromOn, IsSteady, IsWatched, Says, seen_at, shown_at}
 use Rattle.nut_in_time.specs.InTime.{BeginsBy, IsFailing, IsHaltedBy, halted_in, has_fsd, is_low, is_stopped, reads_in, seen_by, to_halted, turn}
@@ -448,7 +448,7 @@ module _ (tables : EveryTableHolds) (setup : Setup) (law : IsLawful setup.server
       server-climb setup start e (λ x. Exists (IsGrant line Login) (exchanges c0 (happened setup.server x))) since (ready.logged_in k follows i within led)
       (λ x event from before. said-keeps setup.server c0 (IsGrant line Login) event (world setup x).server before) in
       let said' : Exists (IsGrant line Login) (exchanges c (happened setup.server h)) = subst (λ d. Exists (IsGrant line Login) (exchanges d (happened setup.server h))) (sym same) said in
-      law.stays h c line s.accepted (no-reload setup e) (spoken setup k i fine there) ((s.monitors k).links i there).link.own said'
+      law.stays h c line s.accepted (room-stays setup e) (spoken setup k i fine there) ((s.monitors k).links i there).link.own said'
       (some-there (server_tests.session_of c (server.content setup.server h).sessions) (step.both_ends i within led e (front-self e) since))
 
   module _ (m : ℕ) (follows : Follows setup p m) (other : m ≡ p → ⊥) where
@@ -462,7 +462,7 @@ module _ (tables : EveryTableHolds) (setup : Setup) (law : IsLawful setup.server
           | inr is ↦
               let now = answered-forced setup p i (u i) w.force_step w.force_early (spoken setup p i fine (there-at p i within)) (room.number i within primary) w.forced in
               let bad : false ≡ true = sym (ready.not_forced i within primary)
-              ∙ schedule-stays setup (u i) (w.force_step ∷ w.force_early) start (front-of (w.force_step ∷ w.force_early) early start w.forced_before is) now in cc
+              ∙ schedule-stays setup (u i) (number-within (line_of setup p i).ups setup.server.upses (u i) (room.number i within primary)) (w.force_step ∷ w.force_early) start (front-of (w.force_step ∷ w.force_early) early start w.forced_before is) now in cc
         ] in
         let config_p = monitor_of setup p in
         let running : has_ended config_p (seen_at setup p early) ≡ false = elim (cases_Bool (has_ended config_p (seen_at setup p early))) [

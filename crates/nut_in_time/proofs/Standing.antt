@@ -1,5 +1,5 @@
 -- What a link that is up keeps: its connection, what the server heard on it, and what each end put into its pipe.
-use Rattle.std.proofs.Common.{◌≡◌, ◌⊎◌, ℕ, ◌≤◌, ◌==◌, ◌&&◌, ◌++◌, min, not, true, false, inl, inr, List, [], ◌∷◌, take, is_none, refl, sym, ◌∙◌, ap, subst, arith}
+use Rattle.std.proofs.Common.{◌≡◌, ◌⊎◌, ℕ, ◌≤◌, ◌==◌, ◌&&◌, ◌||◌, ◌++◌, min, not, true, false, inl, inr, List, [], ◌∷◌, take, is_none, refl, sym, ◌∙◌, ap, subst, arith}
 use Rattle.std.proofs.lemmas.Bool.{cases_Bool, cases_eq, and_parts, not-true, eq-eqb, ne_eqb}
 use Rattle.nut_words.specs.Quoting.{Begins}
 use Rattle.nut_words.specs.declared.limits.TheConstants.{PIECE_MAX}
@@ -9,8 +9,8 @@ use Rattle.nut_server_spec.specs.Content as server
 use Rattle.nut_monitor_spec.specs.Acceptance as monitor_tests
 use Rattle.nut_monitor_spec.specs.Event.{Event, Moment, Linked, LinkBytes, LinkLost, LinkTook, OutOfMemory, NoticeTaken}
 use Rattle.nut_monitor_spec.specs.Trace.{taken_after}
-use Rattle.nut_fleet.specs.Schedule.{Step, IsFront, ServerClock, MonitorClock, Up, Driver, Down, Link, Out, Reach, Back, Land, CutServer, CutMonitor}
-use Rattle.nut_fleet.specs.World.{Setup, World, Deed, Skip, Rest, Tell, Inform, Join, served, known, is_open, is_linked, to_server, to_monitor, server_waits, monitor_waits, tell, inform, carried, counted, moved, address_of, is_fit, deed, deed_of, after, world}
+use Rattle.nut_fleet.specs.Schedule.{Step, IsFront, ServerClock, MonitorClock, Up, Driver, Down, Link, Out, Reach, Back, Land, CutServer, CutMonitor, Other}
+use Rattle.nut_fleet.specs.World.{Setup, World, Deed, Skip, Rest, Tell, Inform, Join, served, known, is_open, is_linked, to_server, to_monitor, server_waits, monitor_waits, tell, inform, carried, counted, moved, address_of, is_fit, is_other, heeded, may_tell, deed, deed_of, after, world}
 use Rattle.nut_fleet.specs.Fleet.{IsSetup}
 use Rattle.nut_fleet.proofs.Entries.{is_made}
 use Rattle.nut_fleet.proofs.Fronts.{begins-self, begins-more, begins-then, front-self}
@@ -45,7 +45,7 @@ module _ (setup : Setup) (w : World) (m i : ℕ) (up : is_linked setup w m i ≡
   ]
 
   pub connection-same : (step : Step) → Same (after setup w (deed setup w step))
-  connection-same step = if-played Same setup w (is_fit setup step) (deed_of setup w step) refl (λ ok. by step)
+  connection-same step = if-played Same setup w (is_other step || is_fit setup step) (deed_of setup w step) refl (λ ok. by step)
     where
       by : (x : Step) → Same (after setup w (deed_of setup w x))
       by (ServerClock t) = told (arrivals.Moment t)
@@ -77,6 +77,7 @@ module _ (setup : Setup) (w : World) (m i : ℕ) (up : is_linked setup w m i ≡
           (heard k (LinkBytes j (take (min n PIECE_MAX) (to_monitor setup w k j)))))
       by (CutServer k j) = told (arrivals.Close (w.connection k j))
       by (CutMonitor k j) = heard k (LinkLost j)
+      by (Other e) = if-played Same setup w (may_tell setup w (heeded setup.server e)) (tell setup w (heeded setup.server e)) refl (λ ok. told (heeded setup.server e))
 
 -- from one time to a later one, while the link is up
 pub connection-kept : (setup : Setup) (m i : ℕ) (early late : List Step) → IsFront early late →

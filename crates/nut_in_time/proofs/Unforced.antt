@@ -25,7 +25,7 @@ use Rattle.nut_fleet.proofs.Sound.{EachGenuine, ForcedBy, Genuine, IsLawful}
 use Rattle.nut_fleet.proofs.Statuses.{found}
 use Rattle.nut_fleet.proofs.Steps.{spoken}
 use Rattle.nut_fleet.proofs.Worlds.{sound}
-use Rattle.nut_fleet.proofs.Unreloaded.{as-made, no-reload}
+use Rattle.nut_fleet.proofs.Rereads.{as-made, number-within, room-stays}
 use Rattle.nut_in_time.specs.Pace.{FromOn}
 use Rattle.nut_in_time.specs.Room.{IsGrant, WasGranted, is_forced}
 use Rattle.nut_in_time.proofs.Climbing.{front-of}
@@ -54,7 +54,7 @@ module _ (setup : Setup) (law : IsLawful setup.server) (fine : IsSetup setup) (p
   pub none-accepted : (e : List Step) → IsFront e schedule → (step : Step) (early : List Step) → IsFront (step ∷ early) e → IsAnswered setup p i Fsd replies.FsdSet step early → ⊥
   none-accepted e inside step early played answered =
       let now = answered-forced setup p i u step early (spoken setup p i fine there) number answered in
-      let bad : false ≡ true = sym not_forced ∙ schedule-stays setup u (step ∷ early) schedule (front-of (step ∷ early) e schedule played inside) now in cc
+      let bad : false ≡ true = sym not_forced ∙ schedule-stays setup u (number-within (line_of setup p i).ups setup.server.upses u number) (step ∷ early) schedule (front-of (step ∷ early) e schedule played inside) now in cc
 
   -- the server accepts each FSD on the link since `start`
   pub accepts : (early : List Step) (reply : Reply) → IsFront start early → IsFront early schedule →
@@ -71,7 +71,7 @@ module _ (setup : Setup) (law : IsLawful setup.server) (fine : IsSetup setup) (p
       (λ e event from before. said-keeps setup.server c0 (IsGrant line Primary) event (world setup e).server before) in
       let said' : Exists (IsGrant line Primary) (exchanges c t) = subst (λ d. Exists (IsGrant line Primary) (exchanges d t)) (sym same) said in
       let own = (((sound setup law fine early).monitors p).links i there).link.own in
-      let none = no-reload setup early in
+      let none = room-stays setup early in
       let right = entitled setup.server line c (arrivals.steps (world setup early).server) none line_fine own said' in
       let made = as-made setup.server (arrivals.steps (world setup early).server) none in
       reply-same reply replies.FsdSet (sym answered ∙ entitled-forces setup.server line c t made line_fine own right)

@@ -4,3 +4,5 @@ pub mod RoomExamples
 pub mod RoomPaceExamples
 pub mod CutOffExamples
 pub mod SeveralExamples
+pub mod ReturningExamples
+pub mod AnyServersExamples

@@ -8,7 +8,7 @@ use thiserror::Error;
 pub type Piece = ArrayVec<u8, PIECE_MAX>;
 
 /// The outcome of a write.
-#[derive(Clone, Copy, Debug, PartialEq, Eq)]
+#[derive(Clone, Copy, PartialEq, Eq)]
 pub enum Written {
     /// This many bytes from the front were taken, at least one.
     Took(usize),

@@ -6,7 +6,7 @@ use std::alloc::{AllocError, Global};
 use std::marker::Model;
 
 /// The bytes of a word.
-#[derive(Debug, Drop)]
+#[derive(Drop)]
 pub struct Text {
     bytes: Vec<u8>,
 }
@@ -45,7 +45,7 @@ impl Text {
 }
 
 /// The words of a line behind those of the query.
-#[derive(Debug, Drop)]
+#[derive(Drop)]
 pub struct Fields {
     words: Vec<Text>,
 }
@@ -103,7 +103,7 @@ impl Fields {
 }
 
 /// The rows of a list, each without the words of the query.
-#[derive(Debug, Drop)]
+#[derive(Drop)]
 pub struct Rows {
     rows: Vec<Fields>,
 }

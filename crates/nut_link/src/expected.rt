@@ -17,7 +17,7 @@ use nut_words::is_natural;
 use std::alloc::Global;
 
 /// How many words follow those of the query in the answer to a GET.
-#[derive(Clone, Copy, Debug, PartialEq, Eq)]
+#[derive(Clone, Copy)]
 pub enum More {
     /// Exactly one.
     One,

@@ -2,7 +2,7 @@
 use crate::copied::{Fields, Rows, Text};
 
 /// The outcome of a query.
-#[derive(Debug, Drop)]
+#[derive(Drop)]
 pub enum Outcome {
     /// The server answered `OK`.
     Done,

@@ -1,5 +1,5 @@
 -- How an event that the world gave, and the monitor's answer to it, continue what is watched.
-use Rattle.std.proofs.Common.{◌≡◌, ℕ, List, [], Option, Some, None, Result, Ok, Err, OnOk, refl, sym, ◌∙◌, ap, subst}
+use Rattle.std.proofs.Common.{◌≡◌, ℕ, List, [], ◌++◌, Option, Some, None, Result, Ok, Err, OnOk, refl, sym, ◌∙◌, ap, subst}
 use Rattle.std.specs.Prelude.{option_map}
 use Rattle.nut_monitor_spec.specs.declared.MonitorFault.{MonitorFault}
 use Rattle.nut_monitor_spec.specs.declared.MonitorFault.TheVariants.{NoSuchLink, WrongLinkState, PieceTooLong, TooMuchTaken, Busy, Memory}
@@ -13,11 +13,11 @@ use Rattle.nut_monitor_spec.specs.machine.MachineOutcome.{content_after}
 use Rattle.nut_monitor_spec.proofs.Answering.{answers-keep}
 use Rattle.nut_monitor.specs.declared.event.Event.{Event as Told}
 use Rattle.nut_monitor.specs.Events.{event_of}
-use Rattle.nut_monitor_loop.specs.Record.{Entry, Gave, WasClosed, tells, tells_event, event_given}
+use Rattle.nut_monitor_loop.specs.Record.{Entry, Gave, WasClosed, event_given, given_by, giving}
 use Rattle.nut_monitor_loop.specs.declared.types.Next.{Next}
 use Rattle.nut_monitor_loop.specs.declared.types.Next.TheVariants as next
 use Rattle.nut_monitor_loop.specs.Watched.{history_of, entries_of, with_event, handed, sender, lost_of, lost_by, Watched, WatchedBefore}
-use Rattle.nut_monitor_loop.proofs.Steps.{goes_on, IsQuiet, IsQuietIf, sent_on, notices_on}
+use Rattle.nut_monitor_loop.proofs.Steps.{Grows, goes_on, IsQuiet, IsQuietIf, sent_on, notices_on}
 
 -- `next` never gives that bytes or a notice were taken
 given_next : (n : Next) (items : List ℕ) (e : Event) → event_given n items ≡ Some e → IsQuiet e
@@ -82,14 +82,14 @@ standing_quiet (Err Busy) e quiet = tt
 
 -- ---- an event came, and was answered
 
-gave_event : (first : Configuration) (o o' : Option (List Entry)) (s s' : Content) (e : Event) (r : Result (Unit {0}) MonitorFault)
-    → Watched first o s None → o' ≡ tells (Gave e) o → IsQuiet e → s.notices ≡ [] → IsAnswer s e r → s' ≡ content_after r s e → Watched first o' s' (lost_by e s s')
-gave_event first o o' s s' e r watched more quiet silent answer moved =
+gave_event : (first : Configuration) (D D' : List Entry → Type 0) (s s' : Content) (e : Event) (r : Result (Unit {0}) MonitorFault)
+    → Watched first D s None → Grows D D' (Gave e) → IsQuiet e → s.notices ≡ [] → IsAnswer s e r → s' ≡ content_after r s e → Watched first D' s' (lost_by e s s')
+gave_event first D D' s s' e r watched more quiet silent answer moved =
     let h = history_of watched.steps in
     let same : with_event (standing r e) h ≡ after r e h = stands_as r e h in
     let holds : Tells first (after r e h) s' = subst (λ t. Tells first (after r e h) t) (sym moved) (answers-keep first h s e r watched.holds answer) in
     let here : Tells first (with_event (standing r e) h) s' = subst (λ g. Tells first g s') (sym same) holds in
-    goes_on first o o' s s' None (lost_by e s s') (Gave e) (standing r e) watched more (
+    goes_on first D D' s s' None (lost_by e s s') (Gave e) (standing r e) watched more (
       r,
       refl,
       subst (λ (t : Content). t.notices ≡ []) watched.holds.1 silent,
@@ -103,23 +103,24 @@ gave_event first o o' s s' e r watched more quiet silent answer moved =
 
 -- What `next` gave was told to the monitor as the event that it is. `sent` is the link on which it came, if it is a
 -- piece, and `lost` is that link if it is no longer up.
-pub gave_ending : (first : Configuration) (o' : Option (List Entry)) (s s' : Content) (n : Next) (items : List ℕ) (found : Option Told) (told : Told) (r : Result (Unit {0}) MonitorFault) (sent lost known : Option ℕ)
-    → WatchedBefore first o' s n items → option_map event_of found ≡ event_given n items → found ≡ Some told → s.notices ≡ []
-    → IsAnswer s (event_of told) r → s' ≡ content_after r s (event_of told) → sent ≡ sender (event_of told) s → lost ≡ lost_of sent s' → lost ≡ known → Watched first o' s' known
-gave_ending first o' s s' n items found told r sent lost known before stands is silent answer moved came gone same =
+pub gave_ending : (first : Configuration) (D' : List Entry → Type 0) (s s' : Content) (n : Next) (items : List ℕ) (found : Option Told) (told : Told) (r : Result (Unit {0}) MonitorFault) (sent lost known : Option ℕ)
+    → WatchedBefore first D' s n items → option_map event_of found ≡ event_given n items → found ≡ Some told → s.notices ≡ []
+    → IsAnswer s (event_of told) r → s' ≡ content_after r s (event_of told) → sent ≡ sender (event_of told) s → lost ≡ lost_of sent s' → lost ≡ known → Watched first D' s' known
+gave_ending first D' s s' n items found told r sent lost known before stands is silent answer moved came gone same =
     let e : Event = event_of told in
     let given : event_given n items ≡ Some e = sym stands ∙ ap (λ a. option_map event_of a) is in
-    let more : o' ≡ tells (Gave e) before.0 = before.2 ∙ ap (λ a. tells_event a before.0) given in
+    let D : List Entry → Type 0 = λ entries. D' (given_by n items ++ entries) in
+    let more : Grows D D' (Gave e) = λ entries did. subst (λ a. D' (giving a ++ entries)) given did in
     let ends : lost_by e s s' ≡ known = ap (λ l. lost_of l s') (sym came) ∙ sym gone ∙ same in
-    subst (λ w. Watched first o' s' w) ends (gave_event first before.0 o' s s' e r before.1 more (given_next n items e given) silent answer moved)
+    subst (λ w. Watched first D' s' w) ends (gave_event first D D' s s' e r before more (given_next n items e given) silent answer moved)
 
 -- ---- closes
 
 -- the link that has to be closed is closed
-pub closed : (first : Configuration) (o o' : Option (List Entry)) (s : Content) (i : ℕ) → Watched first o s (Some i) → o' ≡ tells (WasClosed i) o → Watched first o' s None
-closed first o o' s i watched more =
-    goes_on first o o' s s (Some i) None (WasClosed i) None watched more (refl, refl, refl) watched.holds watched.sent_is watched.notices_are
+pub closed : (first : Configuration) (D D' : List Entry → Type 0) (s : Content) (i : ℕ) → Watched first D s (Some i) → Grows D D' (WasClosed i) → Watched first D' s None
+closed first D D' s i watched more =
+    goes_on first D D' s s (Some i) None (WasClosed i) None watched more (refl, refl, refl) watched.holds watched.sent_is watched.notices_are
 
-pub closes : {T E : Type 0} (r : Result T E) (first : Configuration) (o o' : Option (List Entry)) (s : Content) (i : ℕ) → Watched first o s (Some i) → OnOk r (o' ≡ tells (WasClosed i) o) → OnOk r (Watched first o' s None)
-closes (Ok _) first o o' s i watched more = closed first o o' s i watched more
-closes (Err _) first o o' s i watched more = tt
+pub closes : {T E P : Type 0} (r : Result T E) (first : Configuration) (D D' : List Entry → Type 0) (s : Content) (i : ℕ) → Watched first D s (Some i) → OnOk r P → (P → Grows D D' (WasClosed i)) → OnOk r (Watched first D' s None)
+closes (Ok _) first D D' s i watched call on = closed first D D' s i watched (on call)
+closes (Err _) first D D' s i watched call on = tt

@@ -5,3 +5,4 @@ pub mod Arrivals
 pub mod Writes
 pub mod Settles
 pub mod Noted
+pub mod Replayed

@@ -97,21 +97,21 @@ watch_left n (Some w) whole less = link_left n w.link whole less
 -- ---- a write
 
 -- the content after bytes were taken
-took_moved : (first : Configuration) (o : Option (List Entry)) (s s' : Content) (i : ℕ) (part : List ℕ) (w : Written) (n : ℕ) (r : Result (Unit {0}) MonitorFault)
-    → Watched first o s None → w ≡ Took n → IsWithin w (length part) → part ≡ waiting_of i s.watches → IsAnswer s (LinkTook i n) r → s' ≡ content_after r s (LinkTook i n)
+took_moved : (first : Configuration) (D : List Entry → Type 0) (s s' : Content) (i : ℕ) (part : List ℕ) (w : Written) (n : ℕ) (r : Result (Unit {0}) MonitorFault)
+    → Watched first D s None → w ≡ Took n → IsWithin w (length part) → part ≡ waiting_of i s.watches → IsAnswer s (LinkTook i n) r → s' ≡ content_after r s (LinkTook i n)
     → (0 < n) × (n ≤ length (waiting_of i s.watches)) × (s' ≡ advance s (LinkTook i n))
-took_moved first o s s' i part w n r watched is within all answer moved =
+took_moved first D s s' i part w n r watched is within all answer moved =
     let inside : IsWithin (Took n) (length part) = subst (λ v. IsWithin v (length part)) is within in
     let some : 0 < n = inside.0 in
     let fits : n ≤ length part = inside.1 in
     let reach : n ≤ length (waiting_of i s.watches) = omega (arith, fits, ap length all) in
     (some, reach, moved_on s s' (LinkTook i n) r (may_take s i n some reach) (no_memory_took i n) answer moved)
 
-pub waits_less : (first : Configuration) (o : Option (List Entry)) (s s' : Content) (i : ℕ) (part : List ℕ) (w : Written) (n : ℕ) (r : Result (Unit {0}) MonitorFault)
-    → Watched first o s None → w ≡ Took n → IsWithin w (length part) → part ≡ waiting_of i s.watches → IsAnswer s (LinkTook i n) r → s' ≡ content_after r s (LinkTook i n)
+pub waits_less : (first : Configuration) (D : List Entry → Type 0) (s s' : Content) (i : ℕ) (part : List ℕ) (w : Written) (n : ℕ) (r : Result (Unit {0}) MonitorFault)
+    → Watched first D s None → w ≡ Took n → IsWithin w (length part) → part ≡ waiting_of i s.watches → IsAnswer s (LinkTook i n) r → s' ≡ content_after r s (LinkTook i n)
     → length (waiting_of i s'.watches) < length (waiting_of i s.watches)
-waits_less first o s s' i part w n r watched is within all answer moved =
-    let facts = took_moved first o s s' i part w n r watched is within all answer moved in
+waits_less first D s s' i part w n r watched is within all answer moved =
+    let facts = took_moved first D s s' i part w n r watched is within all answer moved in
     let some : 0 < n = facts.0 in
     let reach : n ≤ length (waiting_of i s.watches) = facts.1 in
     let ok : IsWholeAt (watch_at i s.watches) = subst (λ (t : Content). IsWholeAt (watch_at i t.watches)) (sym watched.holds.1) (whole first (history_of watched.steps) i) in
@@ -119,11 +119,11 @@ waits_less first o s s' i part w n r watched is within all answer moved =
     ap (λ (t : Content). waiting_of i t.watches) facts.2 ∙ ap waiting_on (update_here i (took n) s.watches) ∙ watch_left n (watch_at i s.watches) ok reach in
     omega (arith, some, reach, ap length here, length-drop n (waiting_of i s.watches))
 
-pub only_took : (first : Configuration) (o : Option (List Entry)) (s s' : Content) (i : ℕ) (part : List ℕ) (w : Written) (n : ℕ) (r : Result (Unit {0}) MonitorFault)
-    → Watched first o s None → w ≡ Took n → IsWithin w (length part) → part ≡ waiting_of i s.watches → IsAnswer s (LinkTook i n) r → s' ≡ content_after r s (LinkTook i n)
+pub only_took : (first : Configuration) (D : List Entry → Type 0) (s s' : Content) (i : ℕ) (part : List ℕ) (w : Written) (n : ℕ) (r : Result (Unit {0}) MonitorFault)
+    → Watched first D s None → w ≡ Took n → IsWithin w (length part) → part ≡ waiting_of i s.watches → IsAnswer s (LinkTook i n) r → s' ≡ content_after r s (LinkTook i n)
     → OnlyAt i s.watches s'.watches
-only_took first o s s' i part w n r watched is within all answer moved =
-    let facts = took_moved first o s s' i part w n r watched is within all answer moved in
+only_took first D s s' i part w n r watched is within all answer moved =
+    let facts = took_moved first D s s' i part w n r watched is within all answer moved in
     record {
       as_many = ap (λ (t : Content). length t.watches) facts.2 ∙ update_as_many i (took n) s.watches;
       others = λ j other. ap (λ (t : Content). waiting_of j t.watches) facts.2 ∙ ap waiting_on (update_other i j (took n) s.watches other);

@@ -1,5 +1,6 @@
 -- What is watched stays watched at each step of the loop.
-use Rattle.std.proofs.Common.{◌≡◌, ℕ, List, [], ◌∷◌, ◌++◌, Option, Some, None, Result, Ok, Err, IfSome, OnErr, refl, sym, ◌∙◌, ap, subst}
+use Rattle.std.proofs.Common.{◌≡◌, ℕ, List, [], ◌∷◌, ◌++◌, Option, Some, None, Result, Ok, Err, OnErr, refl, sym, ◌∙◌, ap, subst}
+use Rattle.nut_conf.specs.declared.upsmon.UpsmonConf.{UpsmonConf}
 use Rattle.nut_monitor_spec.specs.declared.MonitorFault.{MonitorFault}
 use Rattle.nut_monitor_spec.specs.declared.MonitorFault.TheVariants.{NoSuchLink, WrongLinkState, PieceTooLong, TooMuchTaken, Busy, Memory}
 use Rattle.nut_monitor_spec.specs.Configuration.{Configuration}
@@ -11,25 +12,36 @@ use Rattle.nut_monitor_spec.specs.machine.Machine.{advance}
 use Rattle.nut_monitor_spec.specs.Outcome.{IsAnswer, IsRefusal, MayLack}
 use Rattle.nut_monitor_spec.specs.machine.MachineOutcome.{content_after}
 use Rattle.nut_monitor_spec.proofs.Answering.{answers-keep}
-use Rattle.nut_monitor_loop.specs.Record.{Entry, tells}
-use Rattle.nut_monitor_loop.specs.Watched.{entries_of, history_of, with_event, Stands, taken, since_made, handed, Watched}
+use Rattle.nut_monitor_loop.specs.Record.{Entry}
+use Rattle.nut_monitor_loop.specs.Watched.{entries_of, history_of, with_event, Stands, taken, since_made, handed, Since, Watched}
 use Rattle.nut_monitor_loop.proofs.Sent.{sent-given}
 use Rattle.nut_monitor_loop.proofs.Handed.{handed-given}
 
--- a world that tells its entries tells one more
-tells_more : (o : Option (List Entry)) (entries : List Entry) (entry : Entry) → IfSome o (λ r. r ≡ entries) → IfSome (tells entry o) (λ r. r ≡ entry ∷ entries)
-tells_more None entries entry same = tt
-tells_more (Some r) entries entry same = ap (λ q. entry ∷ q) same
+-- one more entry was done
+abbrev pub Grows : (List Entry → Type 0) → (List Entry → Type 0) → Entry → Type 0
+Grows D D' entry = (entries : List Entry) → D entries → D' (entry ∷ entries)
+
+-- nothing more was done
+abbrev pub Stays : (List Entry → Type 0) → (List Entry → Type 0) → Type 0
+Stays D D' = (entries : List Entry) → D entries → D' entries
+
+-- what a call did follows what was done since the start
+pub follows : {W : Type 0} (Did : UpsmonConf → W → W → List Entry → Type 0)
+    → ((config : UpsmonConf) (a b c : W) (xs ys : List Entry) → Did config a b xs → Did config b c ys → Did config a c (ys ++ xs))
+    → (since : Since W) (old new : W) (config : UpsmonConf) (ys : List Entry) → config ≡ since.config → Did config old new ys
+    → (entries : List Entry) → Did since.config since.start old entries → Did since.config since.start new (ys ++ entries)
+follows Did on since old new config ys same call entries before =
+    on since.config since.start old new entries ys before (subst (λ c. Did c old new ys) same call)
 
 -- one more step
-pub goes_on : (first : Configuration) (o o' : Option (List Entry)) (s s' : Content) (owed owed' : Option ℕ) (entry : Entry) (event : Option Event) (watched : Watched first o s owed)
-    → o' ≡ tells entry o → Stands first (history_of watched.steps) owed entry event owed' → Tells first (with_event event (history_of watched.steps)) s'
+pub goes_on : (first : Configuration) (D D' : List Entry → Type 0) (s s' : Content) (owed owed' : Option ℕ) (entry : Entry) (event : Option Event) (watched : Watched first D s owed)
+    → Grows D D' entry → Stands first (history_of watched.steps) owed entry event owed' → Tells first (with_event event (history_of watched.steps)) s'
     → ((i : ℕ) → taken i (record { entry = entry; event = event } ∷ watched.steps) ≡ sent first i (trace first (with_event event (history_of watched.steps))))
-    → handed (entry ∷ entries_of watched.steps) ++ s'.notices ≡ notices (trace first (with_event event (history_of watched.steps))) → Watched first o' s' owed'
-goes_on first o o' s s' owed owed' entry event watched more stands holds same all =
+    → handed (entry ∷ entries_of watched.steps) ++ s'.notices ≡ notices (trace first (with_event event (history_of watched.steps))) → Watched first D' s' owed'
+goes_on first D D' s s' owed owed' entry event watched more stands holds same all =
     record {
       steps = record { entry = entry; event = event } ∷ watched.steps;
-      tells = subst (λ q. IfSome q (λ r. r ≡ entry ∷ entries_of watched.steps)) (sym more) (tells_more o (entries_of watched.steps) entry watched.tells);
+      did = more (entries_of watched.steps) watched.did;
       told = (owed, watched.told, stands);
       holds = holds;
       sent_is = same;
@@ -37,19 +49,27 @@ goes_on first o o' s s' owed owed' entry event watched more stands holds same al
     }
 
 -- a fault adds nothing to the record
-pub stays : (first : Configuration) (o o' : Option (List Entry)) (s : Content) (owed : Option ℕ) → o' ≡ o → Watched first o s owed → Watched first o' s owed
-stays first o o' s owed same watched = subst (λ q. Watched first q s owed) (sym same) watched
+pub stays : (first : Configuration) (D D' : List Entry → Type 0) (s : Content) (owed : Option ℕ) → Stays D D' → Watched first D s owed → Watched first D' s owed
+stays first D D' s owed same watched =
+    record {
+      steps = watched.steps;
+      did = same (entries_of watched.steps) watched.did;
+      told = watched.told;
+      holds = watched.holds;
+      sent_is = watched.sent_is;
+      notices_are = watched.notices_are;
+    }
 
 -- what is watched at a fault, with or without a link to be closed
-pub at_err : {T E : Type 0} (r : Result T E) (first : Configuration) (o : Option (List Entry)) (s : Content) (owed : Option ℕ) → Watched first o s owed
-    → OnErr r ((x : Option ℕ) × Watched first o s x)
-at_err (Ok _) first o s owed watched = tt
-at_err (Err _) first o s owed watched = (owed, watched)
+pub at_err : {T E : Type 0} (r : Result T E) (first : Configuration) (D : List Entry → Type 0) (s : Content) (owed : Option ℕ) → Watched first D s owed
+    → OnErr r ((x : Option ℕ) × Watched first D s x)
+at_err (Ok _) first D s owed watched = tt
+at_err (Err _) first D s owed watched = (owed, watched)
 
-pub faulted : {T E : Type 0} (r : Result T E) (first : Configuration) (o o' : Option (List Entry)) (s : Content) (owed : Option ℕ) → Watched first o s owed → OnErr r (o' ≡ o)
-    → OnErr r ((x : Option ℕ) × Watched first o' s x)
-faulted (Ok _) first o o' s owed watched same = tt
-faulted (Err _) first o o' s owed watched same = (owed, stays first o o' s owed same watched)
+pub faulted : {T E P : Type 0} (r : Result T E) (first : Configuration) (D D' : List Entry → Type 0) (s : Content) (owed : Option ℕ) → Watched first D s owed → OnErr r P → (P → Stays D D')
+    → OnErr r ((x : Option ℕ) × Watched first D' s x)
+faulted (Ok _) first D D' s owed watched call on = tt
+faulted (Err _) first D D' s owed watched call on = (owed, stays first D D' s owed (on call) watched)
 
 -- ---- events that take nothing
 

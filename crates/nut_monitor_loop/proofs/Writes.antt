@@ -15,13 +15,13 @@ use Rattle.nut_monitor_spec.specs.Outcome.{IsAnswer}
 use Rattle.nut_monitor_spec.specs.machine.MachineOutcome.{content_after}
 use Rattle.nut_monitor_spec.proofs.Answering.{answers-keep}
 use Rattle.nut_io.specs.Writes.{IsWithin}
-use Rattle.nut_monitor_loop.specs.Record.{Entry, TookBytes, WasLate, WriteBroke, WasTold, tells, tells_write, waiting_of}
+use Rattle.nut_monitor_loop.specs.Record.{Entry, TookBytes, WasLate, WriteBroke, WasTold, waiting_of, written_by}
 use Rattle.nut_io.specs.declared.types.Written.{Written}
 use Rattle.nut_io.specs.declared.types.Written.TheVariants.{Took, Later, Failed}
 use Rattle.nut_monitor_loop.specs.Watched.{history_of, entries_of, taken, handed, Watched}
 use Rattle.nut_monitor_loop.proofs.Sent.{sent-given, sent-took, sent-took_other}
 use Rattle.nut_monitor_loop.proofs.Handed.{handed-given, handed-taken}
-use Rattle.nut_monitor_loop.proofs.Steps.{goes_on, sent_on, notices_on, holds_on, no_memory_took, no_memory_lost}
+use Rattle.nut_monitor_loop.proofs.Steps.{Grows, goes_on, sent_on, notices_on, holds_on, no_memory_took, no_memory_lost}
 
 -- a link on which bytes wait is up
 there : (w : Watch) → 0 < length (waits_on w.link) → is_some w.link ≡ true
@@ -67,10 +67,10 @@ took_notices first h s s' i n before told told' same =
     ∙ handed-given first h (LinkTook i n) before told'.0 (λ m. refl) (sym (ap (λ (t : Content). before ++ t.notices) told.1) ∙ same)
 
 -- a write took some of what waits
-pub write_took : (first : Configuration) (o o' : Option (List Entry)) (s s' : Content) (i : ℕ) (part : List ℕ) (w : Written) (n : ℕ) (r : Result (Unit {0}) MonitorFault)
-    → Watched first o s None → w ≡ Took n → o' ≡ tells_write w i part o → IsWithin w (length part) → part ≡ waiting_of i s.watches
-    → IsAnswer s (LinkTook i n) r → s' ≡ content_after r s (LinkTook i n) → Watched first o' s' None
-write_took first o o' s s' i part w n r watched is more within all answer moved =
+pub write_took : (first : Configuration) (D D' : List Entry → Type 0) (s s' : Content) (i : ℕ) (part : List ℕ) (w : Written) (n : ℕ) (r : Result (Unit {0}) MonitorFault)
+    → Watched first D s None → w ≡ Took n → Grows D D' (written_by w i part) → IsWithin w (length part) → part ≡ waiting_of i s.watches
+    → IsAnswer s (LinkTook i n) r → s' ≡ content_after r s (LinkTook i n) → Watched first D' s' None
+write_took first D D' s s' i part w n r watched is more within all answer moved =
     let h = history_of watched.steps in
     let inside : IsWithin (Took n) (length part) = subst (λ v. IsWithin v (length part)) is within in
     let some : 0 < n = inside.0 in
@@ -80,7 +80,7 @@ write_took first o o' s s' i part w n r watched is more within all answer moved 
     let free : refusal s (LinkTook i n) ≡ None = may_take s i n some reach in
     let holds : Tells first (LinkTook i n ∷ h) s' = holds_on first h s s' (LinkTook i n) r watched.holds free (no_memory_took i n) answer moved in
     let base : Tells first (LinkTook i n ∷ h) (advance s (LinkTook i n)) = answers-keep first h s (LinkTook i n) (Ok tt) watched.holds (free, tt) in
-    goes_on first o o' s s' None None (TookBytes i (take n part)) (Some (LinkTook i n)) watched (more ∙ ap (λ v. tells_write v i part o) is) (
+    goes_on first D D' s s' None None (TookBytes i (take n part)) (Some (LinkTook i n)) watched (λ entries did. subst (λ v. D' (written_by v i part ∷ entries)) is (more entries did)) (
       subst (λ m. refusal (content first h) (LinkTook i m) ≡ None) (sym len) (subst (λ t. refusal t (LinkTook i n) ≡ None) watched.holds.1 free),
       ap (λ m. Some (LinkTook i m)) (sym len),
       refl,
@@ -91,19 +91,19 @@ write_took first o o' s s' i part w n r watched is more within all answer moved 
     (took_notices first h s s' i n (handed (entries_of watched.steps)) watched.holds holds watched.notices_are)
 
 -- a write was late
-pub write_late : (first : Configuration) (o o' : Option (List Entry)) (s : Content) (i : ℕ) (part : List ℕ) (w : Written) → Watched first o s None → w ≡ Later → o' ≡ tells_write w i part o → Watched first o' s None
-write_late first o o' s i part w watched is more =
-    goes_on first o o' s s None None (WasLate i) None watched (more ∙ ap (λ v. tells_write v i part o) is) (refl, refl) watched.holds watched.sent_is watched.notices_are
+pub write_late : (first : Configuration) (D D' : List Entry → Type 0) (s : Content) (i : ℕ) (part : List ℕ) (w : Written) → Watched first D s None → w ≡ Later → Grows D D' (written_by w i part) → Watched first D' s None
+write_late first D D' s i part w watched is more =
+    goes_on first D D' s s None None (WasLate i) None watched (λ entries did. subst (λ v. D' (written_by v i part ∷ entries)) is (more entries did)) (refl, refl) watched.holds watched.sent_is watched.notices_are
 
 -- a write failed
-pub write_broke : (first : Configuration) (o o' : Option (List Entry)) (s s' : Content) (i : ℕ) (part : List ℕ) (w : Written) (r : Result (Unit {0}) MonitorFault)
-    → Watched first o s None → w ≡ Failed → o' ≡ tells_write w i part o → 0 < length (waiting_of i s.watches)
-    → IsAnswer s (LinkLost i) r → s' ≡ content_after r s (LinkLost i) → Watched first o' s' (Some i)
-write_broke first o o' s s' i part w r watched is more some answer moved =
+pub write_broke : (first : Configuration) (D D' : List Entry → Type 0) (s s' : Content) (i : ℕ) (part : List ℕ) (w : Written) (r : Result (Unit {0}) MonitorFault)
+    → Watched first D s None → w ≡ Failed → Grows D D' (written_by w i part) → 0 < length (waiting_of i s.watches)
+    → IsAnswer s (LinkLost i) r → s' ≡ content_after r s (LinkLost i) → Watched first D' s' (Some i)
+write_broke first D D' s s' i part w r watched is more some answer moved =
     let h = history_of watched.steps in
     let free = may_lose s i some in
     let holds = holds_on first h s s' (LinkLost i) r watched.holds free (no_memory_lost i) answer moved in
-    goes_on first o o' s s' None (Some i) (WriteBroke i) (Some (LinkLost i)) watched (more ∙ ap (λ v. tells_write v i part o) is)
+    goes_on first D D' s s' None (Some i) (WriteBroke i) (Some (LinkLost i)) watched (λ entries did. subst (λ v. D' (written_by v i part ∷ entries)) is (more entries did))
     (subst (λ t. refusal t (LinkLost i) ≡ None) watched.holds.1 free, refl, refl, refl)
     holds
     (λ j. sent_on first h (Some (LinkLost i)) j _ holds.0 tt (watched.sent_is j))
@@ -123,16 +123,16 @@ is_waiting : (s : Content) (notice : Notice) (others : List Notice) → s.notice
 is_waiting s notice others is = lt-ltb 0 (length s.notices) (omega (arith, ap length is))
 
 -- the oldest notice was handed over and taken
-pub told_one : (first : Configuration) (o o' : Option (List Entry)) (s s' : Content) (notice : Notice) → Watched first o s None → o' ≡ tells (WasTold notice) o → slice_get s.notices 0 ≡ Some notice
-    → s' ≡ advance s NoticeTaken → Watched first o' s' None
-told_one first o o' s s' notice watched more is moved =
+pub told_one : (first : Configuration) (D D' : List Entry → Type 0) (s s' : Content) (notice : Notice) → Watched first D s None → Grows D D' (WasTold notice) → slice_get s.notices 0 ≡ Some notice
+    → s' ≡ advance s NoticeTaken → Watched first D' s' None
+told_one first D D' s s' notice watched more is moved =
     let h = history_of watched.steps in
     let some = oldest s.notices notice is in
     let accepted : Accepts s NoticeTaken = (refl, is_waiting s notice some.0 some.1) in
     let holds : Tells first (NoticeTaken ∷ h) s' = subst (λ t. Tells first (NoticeTaken ∷ h) t) (sym moved) (answers-keep first h s NoticeTaken (Ok tt) watched.holds accepted) in
     let here : (content first h).notices ≡ notice ∷ some.0 = sym (ap (λ (t : Content). t.notices) watched.holds.1) ∙ some.1 in
     let before : List Notice = handed (entries_of watched.steps) in
-    goes_on first o o' s s' None None (WasTold notice) (Some NoticeTaken) watched more
+    goes_on first D D' s s' None None (WasTold notice) (Some NoticeTaken) watched more
     (some.0, here, refl, refl)
     holds
     (λ j. sent_still first h j _ holds.0 (watched.sent_is j))

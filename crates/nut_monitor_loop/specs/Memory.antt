@@ -47,9 +47,7 @@ given_in [] = []
 given_in (entry.Gave e ∷ r) = given_in r ++ e ∷ []
 given_in (e ∷ r) = given_in r
 
--- The log grew by some entries. The events that were left are those that these entries gave, followed by those that are
--- left now.
-pub record GoesOn (old new : MemoryState) : Type 0 where
-  pub more : List entry.Entry
+-- The log grew by these entries. The events that were left are those that these gave, followed by those that are left now.
+pub record GoesOn (old new : MemoryState) (more : List entry.Entry) : Type 0 where
   pub grown : new.log ≡ more ++ old.log
   pub each : map event_of old.left ≡ given_in more ++ map event_of new.left

@@ -1,5 +1,5 @@
 -- What a world tells of itself: a list of entries, the newest first.
-use Rattle.std.specs.Prelude.{◌≡◌, ◌<◌, ℕ, Bool, true, List, ◌∷◌, length, take, Option, Some, None, option_map}
+use Rattle.std.specs.Prelude.{◌≡◌, ◌<◌, ℕ, Bool, true, List, [], ◌∷◌, length, take, Option, Some, None}
 use Rattle.nut_monitor_spec.specs.declared.Notice.{Notice}
 use Rattle.nut_monitor_spec.specs.Event.{Event}
 use Rattle.nut_monitor_spec.specs.Event as event
@@ -24,10 +24,6 @@ pub data Entry : Type 0 where
   -- it was handed this notice
   WasTold : (notice : Notice) → Entry
 
--- a record after one more entry; a world that tells nothing goes on telling nothing
-abbrev pub tells : Entry → Option (List Entry) → Option (List Entry)
-tells entry o = option_map (λ entries. entry ∷ entries) o
-
 -- the event that `next` gave by this value, with these bytes in the piece
 abbrev pub event_given : Next → List ℕ → Option Event
 event_given (Moment t) piece = Some (event.Moment t)
@@ -37,20 +33,19 @@ event_given (LinkLost i) piece = Some (event.LinkLost i)
 event_given Again piece = None
 event_given End piece = None
 
--- a record after an event was given, if one was given
-abbrev pub tells_event : Option Event → Option (List Entry) → Option (List Entry)
-tells_event None o = o
-tells_event (Some e) o = tells (Gave e) o
+abbrev pub giving : Option Event → List Entry
+giving None = []
+giving (Some e) = Gave e ∷ []
 
--- a record after `next` gave this value, with these bytes in the piece
-abbrev pub tells_next : Next → List ℕ → Option (List Entry) → Option (List Entry)
-tells_next n piece o = tells_event (event_given n piece) o
+-- what `next` is told by that gave this value, with these bytes in the piece
+abbrev pub given_by : Next → List ℕ → List Entry
+given_by n piece = giving (event_given n piece)
 
--- a record after a write of these bytes to link i
-abbrev pub tells_write : Written → ℕ → List ℕ → Option (List Entry) → Option (List Entry)
-tells_write (Took n) i bytes o = tells (TookBytes i (take n bytes)) o
-tells_write Later i bytes o = tells (WasLate i) o
-tells_write Failed i bytes o = tells (WriteBroke i) o
+-- what a write of these bytes to link i is told by
+abbrev pub written_by : Written → ℕ → List ℕ → Entry
+written_by (Took n) i bytes = TookBytes i (take n bytes)
+written_by Later i bytes = WasLate i
+written_by Failed i bytes = WriteBroke i
 
 -- what waits on link i; nothing if it isn't up
 abbrev pub waiting_of : ℕ → List Watch → List ℕ

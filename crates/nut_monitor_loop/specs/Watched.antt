@@ -1,5 +1,6 @@
 -- How the history of a monitor follows from the record of its world.
-use Rattle.std.specs.Prelude.{◌≡◌, ◌==◌, ℕ, List, [], ◌∷◌, ◌++◌, length, map, Option, Some, None, Result, IfSome, if◌then◌else◌}
+use Rattle.std.specs.Prelude.{◌≡◌, ◌==◌, ℕ, List, [], ◌∷◌, ◌++◌, length, map, Option, Some, None, Result, if◌then◌else◌}
+use Rattle.nut_conf.specs.declared.upsmon.UpsmonConf.{UpsmonConf}
 use Rattle.nut_monitor_spec.specs.declared.MonitorFault.{MonitorFault}
 use Rattle.nut_monitor_spec.specs.declared.Notice.{Notice}
 use Rattle.nut_monitor_spec.specs.Configuration.{Configuration}
@@ -8,7 +9,7 @@ use Rattle.nut_monitor_spec.specs.Trace.{trace, sent, notices, since_linked}
 use Rattle.nut_monitor_spec.specs.Content.{Content, content}
 use Rattle.nut_monitor_spec.specs.Acceptance.{refusal, is_linked, watch_at, Tells}
 use Rattle.nut_monitor_spec.specs.Outcome.{IsAnswer, after}
-use Rattle.nut_monitor_loop.specs.Record.{Entry, Gave, TookBytes, WasLate, WriteBroke, WasClosed, WasTold, tells_next}
+use Rattle.nut_monitor_loop.specs.Record.{Entry, Gave, TookBytes, WasLate, WriteBroke, WasClosed, WasTold, given_by}
 use Rattle.nut_monitor_loop.specs.declared.types.Next.{Next}
 
 -- An entry of the world's record, and the event of the monitor's history that stands for it, if one does.
@@ -88,17 +89,23 @@ handed [] = []
 handed (WasTold notice ∷ r) = handed r ++ notice ∷ []
 handed (entry ∷ r) = handed r
 
--- There are steps whose entries are those that the world tells, if it tells any, such that: the monitor has the content
--- of their history; the bytes that the world took of the writes to each link since it was made are those that were sent on it; and
--- the notices that the world was handed, followed by those that wait, are the notices of the history.
-pub record Watched (first : Configuration) (log : Option (List Entry)) (s : Content) (owed : Option ℕ) : Type 0 where
+-- There are steps whose entries are such that the world did them, and: the monitor has the content of their history; the
+-- bytes that the world took of the writes to each link since it was made are those that were sent on it; and the notices
+-- that the world was handed, followed by those that wait, are the notices of the history.
+pub record Watched (first : Configuration) (Did : List Entry → Type 0) (s : Content) (owed : Option ℕ) : Type 0 where
   pub steps : List Step
-  pub tells : IfSome log (λ r. r ≡ entries_of steps)
+  pub did : Did (entries_of steps)
   pub told : Told first steps owed
   pub holds : Tells first (history_of steps) s
   pub sent_is : (i : ℕ) → taken i steps ≡ sent first i (trace first (history_of steps))
   pub notices_are : handed (entries_of steps) ++ s.notices ≡ notices (trace first (history_of steps))
 
 -- `Watched` held before the world gave this value, with these bytes in the piece, and no link had to be closed.
-abbrev pub WatchedBefore : Configuration → Option (List Entry) → Content → Next → List ℕ → Type 0
-WatchedBefore first log s n piece = (before : Option (List Entry)) × Watched first before s None × (log ≡ tells_next n piece before)
+abbrev pub WatchedBefore : Configuration → (List Entry → Type 0) → Content → Next → List ℕ → Type 0
+WatchedBefore first Did s n piece = Watched first (λ entries. Did (given_by n piece ++ entries)) s None
+
+-- What is watched since `start`: the configuration, of the monitor and as it is defined, and the world as it was then.
+pub record Since (World : Type 0) : Type 0 where
+  pub config : UpsmonConf
+  pub first : Configuration
+  pub start : World

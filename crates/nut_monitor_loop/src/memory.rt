@@ -2,7 +2,7 @@
 
 ghost use Rattle.std.specs.Prelude.{◌≡◌, ◌+◌, ◌-◌, ◌^◌, ◌<◌, ◌≤◌, ℕ, true, false, List, [], ◌∷◌, ◌++◌, length, map, reverse, Option, Some, None, Ok, IfOk, OnOk, OnErr, is_ok, if◌then◌else◌, vec_capacity, vec_len};
 ghost use Rattle.nut_io.specs.Writes.{IsWithin, late_after};
-ghost use Rattle.nut_monitor_loop.specs.Record.{tells, tells_next, tells_write, event_given};
+ghost use Rattle.nut_monitor_loop.specs.Record.{event_given, given_by, written_by};
 ghost use Rattle.nut_monitor_loop.specs.Record as entry;
 ghost use Rattle.nut_monitor_loop.specs.Memory.{MemoryState, log_of, entry_of, event_of, Gives, GoesOn};
 ghost use Rattle.nut_monitor_loop.specs.inside.MemoryLaws.{goes_on_self, goes_on_twice};
@@ -52,7 +52,7 @@ impl MemoryMonWorld {
 }
 
 impl MonWorld for MemoryMonWorld {
-    ghost log = { λ w. Some w.log };
+    ghost did = { λ config. GoesOn };
 
     ghost late = { λ w i. false };
 
@@ -60,11 +60,9 @@ impl MonWorld for MemoryMonWorld {
 
     ghost has_ended = { λ w. w.left ≡ [] };
 
-    ghost reached = { GoesOn };
+    ghost did_self = { λ config. goes_on_self };
 
-    ghost reached_self = { goes_on_self };
-
-    ghost reached_on = { goes_on_twice };
+    ghost did_on = { λ config. goes_on_twice };
 
     fn faults(&self) -> u64 {
         self.faults
@@ -72,12 +70,11 @@ impl MonWorld for MemoryMonWorld {
 
     fn next(&mut self, monitor: &Monitor, piece: &mut Piece) -> Result<Next, Fault>
         requires { self.old.faults < 2 ^ 64 - 1 }
-        ensures ok { IfOk result (λ n. Some self.new.log ≡ tells_next n piece.new.items (Some self.old.log)) }
-        ensures err { OnErr result (Some self.new.log ≡ Some self.old.log) }
+        ensures ok { IfOk result (λ n. GoesOn self.old self.new (given_by n piece.new.items)) }
+        ensures err { OnErr result (GoesOn self.old self.new []) }
         ensures ended { result ≡ Ok Next.End → self.new.left ≡ [] }
         ensures none_late { (i : ℕ) → false ≡ false }
         ensures counted { self.new.faults ≡ (if is_ok result then self.old.faults else self.old.faults + 1) }
-        ensures reached { GoesOn self.old self.new }
         ensures gives { IfOk result (λ n. Gives self.old.left self.new.left n piece.new.items) }
         ensures left_err { OnErr result (self.new.left ≡ self.old.left) }
 
@@ -96,12 +93,11 @@ impl MonWorld for MemoryMonWorld {
     fn write(&mut self, _monitor: &Monitor, i: usize, bytes: &[u8]) -> Result<Written, Fault>
         requires few { self.old.faults < 2 ^ 64 - 1 }
         requires some { 0 < length bytes.now }
-        ensures ok { IfOk result (λ w. Some self.new.log ≡ tells_write w i bytes.now (Some self.old.log)) }
-        ensures err { OnErr result (Some self.new.log ≡ Some self.old.log) }
+        ensures ok { IfOk result (λ w. GoesOn self.old self.new (written_by w i bytes.now ∷ [])) }
+        ensures err { OnErr result (GoesOn self.old self.new []) }
         ensures within { IfOk result (λ w. IsWithin w (length bytes.now)) }
         ensures late { IfOk result (λ w. (j : ℕ) → false ≡ late_after w i (λ _. false) j) }
         ensures counted { self.new.faults ≡ (if is_ok result then self.old.faults else self.old.faults + 1) }
-        ensures reached { GoesOn self.old self.new }
         ensures all { IfOk result (λ w. w ≡ Written.Took (length bytes.now)) }
         ensures left { self.new.left ≡ self.old.left }
     {
@@ -116,11 +112,10 @@ impl MonWorld for MemoryMonWorld {
 
     fn close(&mut self, _monitor: &Monitor, i: usize) -> Result<(), Fault>
         requires { self.old.faults < 2 ^ 64 - 1 }
-        ensures ok { OnOk result (Some self.new.log ≡ tells (entry.WasClosed i) (Some self.old.log)) }
-        ensures err { OnErr result (Some self.new.log ≡ Some self.old.log) }
+        ensures ok { OnOk result (GoesOn self.old self.new (entry.WasClosed i ∷ [])) }
+        ensures err { OnErr result (GoesOn self.old self.new []) }
         ensures late { (j : ℕ) → false ≡ false }
         ensures counted { self.new.faults ≡ (if is_ok result then self.old.faults else self.old.faults + 1) }
-        ensures reached { GoesOn self.old self.new }
         ensures left { self.new.left ≡ self.old.left }
     {
         match note(&mut self.notes, Note::Closed(i)) {
@@ -134,11 +129,10 @@ impl MonWorld for MemoryMonWorld {
 
     fn notice(&mut self, monitor: &Monitor, notice: Notice) -> Result<(), Fault>
         requires { self.old.faults < 2 ^ 64 - 1 }
-        ensures ok { OnOk result (Some self.new.log ≡ tells (entry.WasTold notice) (Some self.old.log)) }
-        ensures err { OnErr result (Some self.new.log ≡ Some self.old.log) }
+        ensures ok { OnOk result (GoesOn self.old self.new (entry.WasTold notice ∷ [])) }
+        ensures err { OnErr result (GoesOn self.old self.new []) }
         ensures late { (j : ℕ) → false ≡ false }
         ensures counted { self.new.faults ≡ (if is_ok result then self.old.faults else self.old.faults + 1) }
-        ensures reached { GoesOn self.old self.new }
         ensures left { self.new.left ≡ self.old.left }
     {
         match note(&mut self.notes, Note::Told(notice)) {
@@ -152,10 +146,10 @@ impl MonWorld for MemoryMonWorld {
 }
 
 /// Gives the first event that is left and notes it, or gives the end if none is left. Changes nothing on a fault.
-#[tactic(auto, using(crate::proofs::Noted::log_more, crate::proofs::Noted::tells_given))]
+#[tactic(auto, using(crate::proofs::Noted::log_more))]
 fn give(left: &mut Vec<Given>, notes: &mut Vec<Note>, piece: &mut Piece) -> Result<Next, Fault>
     ensures given { IfOk result (λ n. Gives left.old.items left.new.items n piece.new.items) }
-    ensures noted { IfOk result (λ n. Some (log_of notes.new.items) ≡ tells_next n piece.new.items (Some (log_of notes.old.items))) }
+    ensures noted { IfOk result (λ n. log_of notes.new.items ≡ given_by n piece.new.items ++ log_of notes.old.items) }
     ensures left_err { OnErr result (left.new.items ≡ left.old.items) }
     ensures notes_err { OnErr result (notes.new.items ≡ notes.old.items) }
     ensures full { OnErr result (vec_capacity notes.old ≤ vec_len notes.old) }

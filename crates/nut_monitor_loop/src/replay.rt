@@ -1,6 +1,6 @@
 //! The loop over a world over memory.
 
-ghost use Rattle.std.specs.Prelude.{◌≡◌, ◌<◌, ◌-◌, ◌^◌, ℕ, [], Option, Some, IfOk, OnErr};
+ghost use Rattle.std.specs.Prelude.{◌≡◌, ◌<◌, ◌-◌, ◌^◌, ℕ, [], Option, IfOk, OnErr};
 ghost use Rattle.nut_monitor_spec.specs.Content.{content, phase_of};
 ghost use Rattle.nut_monitor_loop.specs.Memory.{GoesOn};
 ghost use Rattle.nut_monitor_loop.specs.Watched.{Watched};
@@ -27,8 +27,7 @@ pub fn watch_memory(
     ensures all { IfOk result (λ phase. WatchedAll monitor.old.content.configuration world.old world.new monitor.new.content phase) }
     ensures phase { IfOk result (λ phase. phase ≡ phase_of monitor.new.content) }
     ensures err { OnErr result ((owed : Option ℕ)
-        × Watched monitor.old.content.configuration (Some world.new.log) monitor.new.content owed) }
-    ensures reached { GoesOn world.old world.new }
+        × Watched monitor.old.content.configuration (GoesOn world.old world.new) monitor.new.content owed) }
     ensures fault { OnErr result (world.old.faults < world.new.faults) }
 {
     watch(rt, monitor, world)

@@ -1,12 +1,11 @@
 //! The loop over any world.
 
-ghost use Rattle.std.specs.Prelude.{◌≡◌, ◌⊎◌, ◌+◌, ◌-◌, ◌^◌, ◌<◌, ℕ, true, false, [], length, slice_get, Option, Some, None, Ok, IfSome, IfOk, OnOk, OnErr, is_ok, option_map, if◌then◌else◌};
-ghost use Rattle.nut_monitor_spec.specs.Configuration.{Configuration};
+ghost use Rattle.std.specs.Prelude.{◌≡◌, ◌⊎◌, ◌+◌, ◌-◌, ◌^◌, ◌<◌, ℕ, true, false, [], length, slice_get, Option, Some, None, Ok, IfOk, OnOk, OnErr, is_ok, option_map, if◌then◌else◌};
 ghost use Rattle.nut_monitor_spec.specs.Content.{content, phase_of};
 ghost use Rattle.nut_monitor_spec.specs.Decision.{is_halted};
 ghost use Rattle.nut_monitor.specs.Events.{event_of as told_as};
 ghost use Rattle.nut_monitor_loop.specs.Record.{waiting_of, IsSettled, NothingIsWithheld, event_given};
-ghost use Rattle.nut_monitor_loop.specs.Watched.{Watched, WatchedBefore, sender, lost_of};
+ghost use Rattle.nut_monitor_loop.specs.Watched.{Since, Watched, WatchedBefore, sender, lost_of};
 ghost use Rattle.nut_monitor_loop.specs.inside.Kept.{OnlyAt, StaysLate, KeepsLate, Less, Settles, Unbroken};
 
 use crate::{MonWorld, Next};
@@ -16,14 +15,13 @@ use std::sync::Wait;
 
 /// Watches until the machine has to be halted or the world ends. Returns the phase.
 ///
-/// The monitor must have been told nothing yet, and the world's record must be empty if the world tells one. The
-/// monitor is told each event of the world, and the result of each write. Before the next event is asked for, the bytes
-/// that wait on each link were offered until none waited or the world took no more; each link that the monitor dropped
-/// by itself, or that a failed write ended, was closed; and each notice was handed to the world. No other link is
-/// closed.
+/// The monitor must have been told nothing yet. It is told each event of the world, and the result of each write.
+/// Before the next event is asked for, the bytes that wait on each link were offered until none waited or the world
+/// took no more; each link that the monitor dropped by itself, or that a failed write ended, was closed; and each
+/// notice was handed to the world. No other link is closed.
 ///
-/// At the return, with or without an error, the monitor's content is that of a history of accepted events which the
-/// world's record tells. The bytes that the world took of each link since it was made are those that were sent on it.
+/// At the return, with or without an error, the monitor's content is that of a history of accepted events which what the
+/// world did tells. The bytes that the world took of each link since it was made are those that were sent on it.
 /// The notices that the world was handed are those of the history, in order; after an error some may still wait.
 ///
 /// # Errors
@@ -35,15 +33,16 @@ pub fn watch<W: MonWorld>(
     world: &mut W,
 ) -> Result<Phase, ServeFault>
     requires fresh { monitor.old.content ≡ content monitor.old.content.configuration [] }
-    requires blank { IfSome (W.log world.old) (λ r. r ≡ []) }
     requires few { W.fault_count world.old < 2 ^ 64 - 1 }
-    ensures err { OnErr result ((owed : Option ℕ) × Watched monitor.old.content.configuration (W.log world.new) monitor.new.content owed) }
-    ensures ok { OnOk result (Watched monitor.old.content.configuration (W.log world.new) monitor.new.content None) }
+    ensures err { OnErr result ((owed : Option ℕ)
+        × Watched monitor.old.content.configuration (W.did monitor.old.config world.old world.new) monitor.new.content owed) }
+    ensures ok { OnOk result
+        (Watched monitor.old.content.configuration (W.did monitor.old.config world.old world.new) monitor.new.content None) }
     ensures phase { IfOk result (λ phase. phase ≡ phase_of monitor.new.content) }
     ensures told { OnOk result (monitor.new.content.notices ≡ []) }
     ensures ended { IfOk result (λ phase. (is_halted phase ≡ true) ⊎ W.has_ended world.new) }
     ensures fault { OnErr result (W.fault_count world.old < W.fault_count world.new) }
-    ensures reached { W.reached world.old world.new }
+    ensures config { monitor.new.config ≡ monitor.old.config }
 {
     let mut piece = Piece::new();
     let phase = go_on(rt, monitor, world, &mut piece);
@@ -59,16 +58,18 @@ fn go_on<W: MonWorld>(
     world: &mut W,
     piece: &mut Piece,
 ) -> Result<Phase, ServeFault>
-    ghost first: { Configuration }
+    ghost since: { Since W }
     requires few { W.fault_count world.old < 2 ^ 64 - 1 }
-    requires watched { Watched first (W.log world.old) monitor.old.content None }
-    ensures err { OnErr result ((owed : Option ℕ) × Watched first (W.log world.new) monitor.new.content owed) }
-    ensures ok { OnOk result (Watched first (W.log world.new) monitor.new.content None) }
+    requires watched { Watched since.first (W.did since.config since.start world.old) monitor.old.content None }
+    requires config { monitor.old.config ≡ since.config }
+    ensures err { OnErr result ((owed : Option ℕ)
+        × Watched since.first (W.did since.config since.start world.new) monitor.new.content owed) }
+    ensures ok { OnOk result (Watched since.first (W.did since.config since.start world.new) monitor.new.content None) }
     ensures phase { IfOk result (λ phase. phase ≡ phase_of monitor.new.content) }
     ensures told { OnOk result (monitor.new.content.notices ≡ []) }
     ensures ended { IfOk result (λ phase. (is_halted phase ≡ true) ⊎ W.has_ended world.new) }
     ensures fault { OnErr result (W.fault_count world.old < W.fault_count world.new) }
-    ensures reached { W.reached world.old world.new }
+    ensures config { monitor.new.config ≡ monitor.old.config }
 {
     for _ in rt.forever() {
         if !round(monitor, world, piece)? {
@@ -85,15 +86,17 @@ fn round<W: MonWorld>(
     world: &mut W,
     piece: &mut Piece,
 ) -> Result<bool, Fault>
-    ghost first: { Configuration }
+    ghost since: { Since W }
     requires few { W.fault_count world.old < 2 ^ 64 - 1 }
-    requires watched { Watched first (W.log world.old) monitor.old.content None }
-    ensures err { OnErr result ((owed : Option ℕ) × Watched first (W.log world.new) monitor.new.content owed) }
-    ensures ok { OnOk result (Watched first (W.log world.new) monitor.new.content None) }
+    requires watched { Watched since.first (W.did since.config since.start world.old) monitor.old.content None }
+    requires config { monitor.old.config ≡ since.config }
+    ensures err { OnErr result ((owed : Option ℕ)
+        × Watched since.first (W.did since.config since.start world.new) monitor.new.content owed) }
+    ensures ok { OnOk result (Watched since.first (W.did since.config since.start world.new) monitor.new.content None) }
     ensures told { result ≡ Ok false → monitor.new.content.notices ≡ [] }
     ensures ended { result ≡ Ok false → (is_halted (phase_of monitor.new.content) ≡ true) ⊎ W.has_ended world.new }
     ensures counted { W.fault_count world.new ≡ (if is_ok result then W.fault_count world.old else W.fault_count world.old + 1) }
-    ensures reached { W.reached world.old world.new }
+    ensures config { monitor.new.config ≡ monitor.old.config }
 {
     // A lost link may let queries be put on other links, so after a failed write all links are settled again.
     if !settle_links(monitor, world)? {
@@ -105,17 +108,19 @@ fn round<W: MonWorld>(
 
 /// Asks for the next event, unless the machine has to be halted, and handles it. Returns whether the loop goes on.
 fn turn<W: MonWorld>(monitor: &mut Monitor, world: &mut W, piece: &mut Piece) -> Result<bool, Fault>
-    ghost first: { Configuration }
+    ghost since: { Since W }
     requires few { W.fault_count world.old < 2 ^ 64 - 1 }
     requires withheld { NothingIsWithheld (W.late world.old) monitor.old.content }
     requires told { monitor.old.content.notices ≡ [] }
-    requires watched { Watched first (W.log world.old) monitor.old.content None }
-    ensures err { OnErr result ((owed : Option ℕ) × Watched first (W.log world.new) monitor.new.content owed) }
-    ensures ok { OnOk result (Watched first (W.log world.new) monitor.new.content None) }
+    requires watched { Watched since.first (W.did since.config since.start world.old) monitor.old.content None }
+    requires config { monitor.old.config ≡ since.config }
+    ensures err { OnErr result ((owed : Option ℕ)
+        × Watched since.first (W.did since.config since.start world.new) monitor.new.content owed) }
+    ensures ok { OnOk result (Watched since.first (W.did since.config since.start world.new) monitor.new.content None) }
     ensures told { result ≡ Ok false → monitor.new.content.notices ≡ [] }
     ensures ended { result ≡ Ok false → (is_halted (phase_of monitor.new.content) ≡ true) ⊎ W.has_ended world.new }
     ensures counted { W.fault_count world.new ≡ (if is_ok result then W.fault_count world.old else W.fault_count world.old + 1) }
-    ensures reached { W.reached world.old world.new }
+    ensures config { monitor.new.config ≡ monitor.old.config }
 {
     if has_halted(monitor) {
         return Ok(false);
@@ -145,14 +150,16 @@ fn hand_on<W: MonWorld>(
     next: &Next,
     piece: &Piece,
 ) -> Result<(), Fault>
-    ghost first: { Configuration }
+    ghost since: { Since W }
     requires few { W.fault_count world.old < 2 ^ 64 - 1 }
     requires told { monitor.old.content.notices ≡ [] }
-    requires watched { WatchedBefore first (W.log world.old) monitor.old.content next.now piece.now.items }
-    ensures err { OnErr result ((owed : Option ℕ) × Watched first (W.log world.new) monitor.new.content owed) }
-    ensures ok { OnOk result (Watched first (W.log world.new) monitor.new.content None) }
+    requires watched { WatchedBefore since.first (W.did since.config since.start world.old) monitor.old.content next.now piece.now.items }
+    requires config { monitor.old.config ≡ since.config }
+    ensures err { OnErr result ((owed : Option ℕ)
+        × Watched since.first (W.did since.config since.start world.new) monitor.new.content owed) }
+    ensures ok { OnOk result (Watched since.first (W.did since.config since.start world.new) monitor.new.content None) }
     ensures counted { W.fault_count world.new ≡ (if is_ok result then W.fault_count world.old else W.fault_count world.old + 1) }
-    ensures reached { W.reached world.old world.new }
+    ensures config { monitor.new.config ≡ monitor.old.config }
 {
     let Some(event) = event_of(next, piece) else {
         return Ok(());
@@ -203,14 +210,16 @@ fn lost_link(monitor: &Monitor, sender: Option<usize>) -> Option<usize>
 /// Writes what waits on each link, as far as the world takes it. Stops at the first write that fails. Returns whether
 /// none failed.
 fn settle_links<W: MonWorld>(monitor: &mut Monitor, world: &mut W) -> Result<bool, Fault>
-    ghost first: { Configuration }
+    ghost since: { Since W }
     requires few { W.fault_count world.old < 2 ^ 64 - 1 }
-    requires watched { Watched first (W.log world.old) monitor.old.content None }
-    ensures err { OnErr result ((owed : Option ℕ) × Watched first (W.log world.new) monitor.new.content owed) }
-    ensures ok { OnOk result (Watched first (W.log world.new) monitor.new.content None) }
+    requires watched { Watched since.first (W.did since.config since.start world.old) monitor.old.content None }
+    requires config { monitor.old.config ≡ since.config }
+    ensures err { OnErr result ((owed : Option ℕ)
+        × Watched since.first (W.did since.config since.start world.new) monitor.new.content owed) }
+    ensures ok { OnOk result (Watched since.first (W.did since.config since.start world.new) monitor.new.content None) }
     ensures withheld { result ≡ Ok true → NothingIsWithheld (W.late world.new) monitor.new.content }
     ensures counted { W.fault_count world.new ≡ (if is_ok result then W.fault_count world.old else W.fault_count world.old + 1) }
-    ensures reached { W.reached world.old world.new }
+    ensures config { monitor.new.config ≡ monitor.old.config }
 {
     let lines = monitor.lines();
     let mut i = 0;
@@ -225,16 +234,18 @@ fn settle_links<W: MonWorld>(monitor: &mut Monitor, world: &mut W) -> Result<boo
 
 /// Writes until nothing waits on a link or the world takes no more. Returns whether no write failed.
 fn flush<W: MonWorld>(monitor: &mut Monitor, world: &mut W, i: usize) -> Result<bool, Fault>
-    ghost first: { Configuration }
+    ghost since: { Since W }
     requires few { W.fault_count world.old < 2 ^ 64 - 1 }
-    requires watched { Watched first (W.log world.old) monitor.old.content None }
-    ensures err { OnErr result ((owed : Option ℕ) × Watched first (W.log world.new) monitor.new.content owed) }
-    ensures ok { OnOk result (Watched first (W.log world.new) monitor.new.content None) }
+    requires watched { Watched since.first (W.did since.config since.start world.old) monitor.old.content None }
+    requires config { monitor.old.config ≡ since.config }
+    ensures err { OnErr result ((owed : Option ℕ)
+        × Watched since.first (W.did since.config since.start world.new) monitor.new.content owed) }
+    ensures ok { OnOk result (Watched since.first (W.did since.config since.start world.new) monitor.new.content None) }
     ensures settled { result ≡ Ok true → IsSettled (W.late world.new) monitor.new.content.watches i }
     ensures only { result ≡ Ok true → OnlyAt i monitor.old.content.watches monitor.new.content.watches }
     ensures late { OnOk result (StaysLate (W.late world.old) (W.late world.new)) }
     ensures counted { W.fault_count world.new ≡ (if is_ok result then W.fault_count world.old else W.fault_count world.old + 1) }
-    ensures reached { W.reached world.old world.new }
+    ensures config { monitor.new.config ≡ monitor.old.config }
 {
     while monitor.waiting(i).len() > 0 {
         match write_once(monitor, world, i)? {
@@ -248,18 +259,20 @@ fn flush<W: MonWorld>(monitor: &mut Monitor, world: &mut W, i: usize) -> Result<
 
 /// Offers what waits on a link to the world once, and tells the monitor the result.
 fn write_once<W: MonWorld>(monitor: &mut Monitor, world: &mut W, i: usize) -> Result<Written, Fault>
-    ghost first: { Configuration }
+    ghost since: { Since W }
     requires few { W.fault_count world.old < 2 ^ 64 - 1 }
     requires some { 0 < length (waiting_of i monitor.old.content.watches) }
-    requires watched { Watched first (W.log world.old) monitor.old.content None }
-    ensures err { OnErr result ((owed : Option ℕ) × Watched first (W.log world.new) monitor.new.content owed) }
-    ensures ok { OnOk result (Watched first (W.log world.new) monitor.new.content None) }
+    requires watched { Watched since.first (W.did since.config since.start world.old) monitor.old.content None }
+    requires config { monitor.old.config ≡ since.config }
+    ensures err { OnErr result ((owed : Option ℕ)
+        × Watched since.first (W.did since.config since.start world.new) monitor.new.content owed) }
+    ensures ok { OnOk result (Watched since.first (W.did since.config since.start world.new) monitor.new.content None) }
     ensures less { IfOk result (λ w. Less w i monitor.old.content.watches monitor.new.content.watches) }
     ensures settled { IfOk result (λ w. Settles w (W.late world.new) monitor.new.content.watches i) }
     ensures only { IfOk result (λ w. Unbroken w i monitor.old.content.watches monitor.new.content.watches) }
     ensures late { OnOk result (StaysLate (W.late world.old) (W.late world.new)) }
     ensures counted { W.fault_count world.new ≡ (if is_ok result then W.fault_count world.old else W.fault_count world.old + 1) }
-    ensures reached { W.reached world.old world.new }
+    ensures config { monitor.new.config ≡ monitor.old.config }
 {
     match world.write(monitor, i, monitor.waiting(i))? {
         Written::Took(n) => {
@@ -277,16 +290,18 @@ fn write_once<W: MonWorld>(monitor: &mut Monitor, world: &mut W, i: usize) -> Re
 
 /// Hands each waiting notice to the world, the oldest first. No link changes.
 fn tell_all<W: MonWorld>(monitor: &mut Monitor, world: &mut W) -> Result<(), Fault>
-    ghost first: { Configuration }
+    ghost since: { Since W }
     requires few { W.fault_count world.old < 2 ^ 64 - 1 }
-    requires watched { Watched first (W.log world.old) monitor.old.content None }
-    ensures err { OnErr result ((owed : Option ℕ) × Watched first (W.log world.new) monitor.new.content owed) }
-    ensures ok { OnOk result (Watched first (W.log world.new) monitor.new.content None) }
+    requires watched { Watched since.first (W.did since.config since.start world.old) monitor.old.content None }
+    requires config { monitor.old.config ≡ since.config }
+    ensures err { OnErr result ((owed : Option ℕ)
+        × Watched since.first (W.did since.config since.start world.new) monitor.new.content owed) }
+    ensures ok { OnOk result (Watched since.first (W.did since.config since.start world.new) monitor.new.content None) }
     ensures told { OnOk result (monitor.new.content.notices ≡ []) }
     ensures watches { OnOk result (monitor.new.content.watches ≡ monitor.old.content.watches) }
     ensures late { OnOk result (KeepsLate (W.late world.old) (W.late world.new)) }
     ensures counted { W.fault_count world.new ≡ (if is_ok result then W.fault_count world.old else W.fault_count world.old + 1) }
-    ensures reached { W.reached world.old world.new }
+    ensures config { monitor.new.config ≡ monitor.old.config }
 {
     while let Some(notice) = monitor.first_notice() {
         tell(monitor, world, notice)?;
@@ -296,17 +311,19 @@ fn tell_all<W: MonWorld>(monitor: &mut Monitor, world: &mut W) -> Result<(), Fau
 
 /// Hands the oldest notice to the world and removes it from the monitor.
 fn tell<W: MonWorld>(monitor: &mut Monitor, world: &mut W, notice: Notice) -> Result<(), Fault>
-    ghost first: { Configuration }
+    ghost since: { Since W }
     requires few { W.fault_count world.old < 2 ^ 64 - 1 }
     requires oldest { slice_get monitor.old.content.notices 0 ≡ Some notice }
-    requires watched { Watched first (W.log world.old) monitor.old.content None }
-    ensures err { OnErr result ((owed : Option ℕ) × Watched first (W.log world.new) monitor.new.content owed) }
-    ensures ok { OnOk result (Watched first (W.log world.new) monitor.new.content None) }
+    requires watched { Watched since.first (W.did since.config since.start world.old) monitor.old.content None }
+    requires config { monitor.old.config ≡ since.config }
+    ensures err { OnErr result ((owed : Option ℕ)
+        × Watched since.first (W.did since.config since.start world.new) monitor.new.content owed) }
+    ensures ok { OnOk result (Watched since.first (W.did since.config since.start world.new) monitor.new.content None) }
     ensures less { OnOk result (length monitor.new.content.notices < length monitor.old.content.notices) }
     ensures watches { OnOk result (monitor.new.content.watches ≡ monitor.old.content.watches) }
     ensures late { OnOk result (KeepsLate (W.late world.old) (W.late world.new)) }
     ensures counted { W.fault_count world.new ≡ (if is_ok result then W.fault_count world.old else W.fault_count world.old + 1) }
-    ensures reached { W.reached world.old world.new }
+    ensures config { monitor.new.config ≡ monitor.old.config }
 {
     world.notice(monitor, notice)?;
     let _ = monitor.take_notice();

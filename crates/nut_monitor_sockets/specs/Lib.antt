@@ -1,1 +1,2 @@
-pub mod Untold
+pub mod Handing
+pub mod inside

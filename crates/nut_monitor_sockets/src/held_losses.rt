@@ -4,6 +4,7 @@
 //! told at once, and no decision waits for anything here.
 
 ghost use Rattle.std.specs.Prelude.{◌≡◌, ◌⊎◌, ◌-◌, ◌<◌, ◌++◌, ◌∷◌, [], true, false};
+ghost use Rattle.nut_monitor_sockets.specs.Handing.{HandsOn};
 ghost use Rattle.nut_conf.specs.declared.notice.Notice.TheVariants as kinds;
 
 use crate::herald::Herald;
@@ -39,7 +40,7 @@ impl HeldLosses {
 
     /// Tells a notice, unless it is held. The losses that are held are told before SHUTDOWN.
     pub fn tell<H: Herald>(&mut self, herald: &mut H, monitor: &Monitor, notice: Notice)
-        ensures { H.reached herald.old herald.new }
+        ensures { HandsOn (H.told monitor.now.config herald.old herald.new) (notice ∷ []) }
     {
         if self.holds(notice, has_status(monitor, notice)) {
             return;
@@ -52,7 +53,7 @@ impl HeldLosses {
 
     /// Counts a second that has passed. The losses that are held are told once the first seconds are over.
     pub fn second<H: Herald>(&mut self, herald: &mut H, monitor: &Monitor)
-        ensures { H.reached herald.old herald.new }
+        ensures { HandsOn (H.told monitor.now.config herald.old herald.new) [] }
     {
         self.left = self.left.saturating_sub(1);
         if self.left == 0 {
@@ -109,7 +110,7 @@ impl HeldLosses {
 
     /// Tells the losses that are held.
     fn tell_all<H: Herald>(&mut self, herald: &mut H, monitor: &Monitor)
-        ensures { H.reached herald.old herald.new }
+        ensures { HandsOn (H.told monitor.now.config herald.old herald.new) [] }
     {
         for line in self.lines.iter() {
             let loss = Notice {

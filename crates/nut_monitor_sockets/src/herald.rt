@@ -1,25 +1,31 @@
 //! Where a monitor's notices go.
 
+ghost use Rattle.std.specs.Prelude.{List, [], ◌∷◌, ◌++◌};
+ghost use Rattle.nut_conf.specs.declared.upsmon.UpsmonConf.{UpsmonConf};
+ghost use Rattle.nut_monitor_spec.specs.declared.Notice.{Notice};
+
 use nut_monitor::{Monitor, Notice};
 
 /// A receiver of a monitor's notices.
 pub trait Herald: Drop {
-    /// Calls may lead from the first state to the second.
-    ghost reached: { Self → Self → Type 0 };
+    /// Calls that are shown monitors of this configuration may lead from the first state to the second, and these notices, the
+    /// oldest first, are those that it receives by them.
+    ghost told: { UpsmonConf → Self → Self → List Notice → Type 0 };
 
     /// Receives a notice of this monitor.
     fn announce(&mut self, monitor: &Monitor, notice: Notice)
-        ensures { reached self.old self.new };
+        ensures { told monitor.now.config self.old self.new (notice ∷ []) };
 
     /// Is told that a second has passed, or several of them that were missed and that the monitor is told at once. What
     /// was started for a notice may have ended. Returns whether the watch is to end: then this monitor is told nothing
     /// more.
     fn second(&mut self, monitor: &Monitor) -> bool
-        ensures { reached self.old self.new };
+        ensures { told monitor.now.config self.old self.new [] };
 
-    /// Each state is reached from itself.
-    ghost reached_self: { (h : Self) → reached h h };
+    /// Without a call none is received.
+    ghost told_self: { (config : UpsmonConf) (h : Self) → told config h h [] };
 
-    /// What is reached from a reached state is reached.
-    ghost reached_on: { (a b c : Self) → reached a b → reached b c → reached a c };
+    /// What is received by calls after calls.
+    ghost told_on: { (config : UpsmonConf) (a b c : Self) (xs ys : List Notice) → told config a b xs → told config b c ys
+        → told config a c (xs ++ ys) };
 }

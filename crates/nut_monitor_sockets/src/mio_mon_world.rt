@@ -1,10 +1,12 @@
 //! The world of a monitor over sockets.
 
-ghost use Rattle.std.specs.Prelude.{◌≡◌, ◌<◌, ℕ, length, IsOk, IfOk, OnOk, OnErr};
+ghost use Rattle.std.specs.Prelude.{◌≡◌, ◌<◌, ℕ, [], ◌∷◌, length, refl, IsOk, IfOk, OnOk, OnErr};
 ghost use Rattle.nut_io.specs.Writes.{IsWithin, late_after};
-ghost use Rattle.nut_monitor_loop.specs.Record.{WasClosed, WasTold, tells, tells_write};
+ghost use Rattle.nut_monitor_loop.specs.Record.{written_by};
+ghost use Rattle.nut_monitor_loop.specs.Watched.{handed};
 ghost use Rattle.nut_poll.specs.Late.{is_noted};
-ghost use Rattle.nut_monitor_sockets.specs.Untold.{untold_watch};
+ghost use Rattle.nut_monitor_sockets.specs.Handing.{HandsOn};
+ghost use Rattle.nut_monitor_sockets.specs.inside.HandingLaws.{hands_on_twice};
 
 use crate::held_losses::HeldLosses;
 use crate::herald::Herald;
@@ -128,7 +130,7 @@ impl<'r, 'e, R: Net + Clock + Processes, H: Herald> MioMonWorld<'r, 'e, R, H> {
 ghost use Rattle.std.specs.Prelude.{◌≢◌, ◌<◌, ◌≤◌, IfOk, IfSome, Some, Ok, true};
 
 impl<'r, 'e, R: Net + Clock + Processes, H: Herald> MonWorld for MioMonWorld<'r, 'e, R, H> {
-    ghost log = { λ w. untold_watch };
+    ghost did = { λ config a b entries. HandsOn (H.told config a.herald b.herald) (handed entries) };
 
     ghost late = { λ w i. is_noted w.late.items i };
 
@@ -136,11 +138,10 @@ impl<'r, 'e, R: Net + Clock + Processes, H: Herald> MonWorld for MioMonWorld<'r,
 
     ghost has_ended = { λ w. w.has_ended ≡ true };
 
-    ghost reached = { λ a b. H.reached a.herald b.herald };
+    ghost did_self = { λ config w. ([], H.told_self config w.herald, refl) };
 
-    ghost reached_self = { λ w. H.reached_self w.herald };
-
-    ghost reached_on = { λ a b c first second. H.reached_on a.herald b.herald c.herald first second };
+    ghost did_on = { λ config a b c xs ys first second. hands_on_twice (H.told config a.herald b.herald) (H.told config b.herald c.herald)
+        (H.told config a.herald c.herald) (H.told_on config a.herald b.herald c.herald) xs ys first second };
 
     fn faults(&self) -> u64 {
         self.faults
@@ -172,12 +173,12 @@ impl<'r, 'e, R: Net + Clock + Processes, H: Herald> MonWorld for MioMonWorld<'r,
         requires { 0 < length bytes.now }
         ensures no_fault { IsOk result }
         ensures count { self.new.faults ≡ self.old.faults }
-        ensures ok { IfOk result (λ w. untold_watch ≡ tells_write w i bytes.now untold_watch) }
-        ensures err { OnErr result (untold_watch ≡ untold_watch) }
+        ensures ok { IfOk result (λ w. HandsOn (H.told monitor.now.config self.old.herald self.new.herald)
+            (handed (written_by w i bytes.now ∷ []))) }
+        ensures err { OnErr result (HandsOn (H.told monitor.now.config self.old.herald self.new.herald) []) }
         ensures within { IfOk result (λ w. IsWithin w (length bytes.now)) }
         ensures late { IfOk result (λ w. (j : ℕ)
             → is_noted self.new.late.items j ≡ late_after w i (is_noted self.old.late.items) j) }
-        ensures reached { H.reached self.old.herald self.new.herald }
     {
         let reports = &mut self.services.reports;
         let written = self.links.offer(monitor, i, bytes, reports);
@@ -187,10 +188,9 @@ impl<'r, 'e, R: Net + Clock + Processes, H: Herald> MonWorld for MioMonWorld<'r,
     fn close(&mut self, monitor: &Monitor, i: usize) -> Result<(), Fault>
         ensures no_fault { IsOk result }
         ensures count { self.new.faults ≡ self.old.faults }
-        ensures ok { OnOk result (untold_watch ≡ tells (WasClosed i) untold_watch) }
-        ensures err { OnErr result (untold_watch ≡ untold_watch) }
+        ensures ok { OnOk result (HandsOn (H.told monitor.now.config self.old.herald self.new.herald) []) }
+        ensures err { OnErr result (HandsOn (H.told monitor.now.config self.old.herald self.new.herald) []) }
         ensures late { (j : ℕ) → is_noted self.new.late.items j ≡ is_noted self.old.late.items j }
-        ensures reached { H.reached self.old.herald self.new.herald }
     {
         self.links.close(monitor, i, &mut self.services.reports);
         Ok(())
@@ -199,10 +199,9 @@ impl<'r, 'e, R: Net + Clock + Processes, H: Herald> MonWorld for MioMonWorld<'r,
     fn notice(&mut self, monitor: &Monitor, notice: Notice) -> Result<(), Fault>
         ensures no_fault { IsOk result }
         ensures count { self.new.faults ≡ self.old.faults }
-        ensures ok { OnOk result (untold_watch ≡ tells (WasTold notice) untold_watch) }
-        ensures err { OnErr result (untold_watch ≡ untold_watch) }
+        ensures ok { OnOk result (HandsOn (H.told monitor.now.config self.old.herald self.new.herald) (notice ∷ [])) }
+        ensures err { OnErr result (HandsOn (H.told monitor.now.config self.old.herald self.new.herald) []) }
         ensures late { (j : ℕ) → is_noted self.new.late.items j ≡ is_noted self.old.late.items j }
-        ensures reached { H.reached self.old.herald self.new.herald }
     {
         self.held_losses.tell(&mut self.herald, monitor, notice);
         Ok(())

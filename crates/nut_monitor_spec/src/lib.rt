@@ -71,7 +71,7 @@ pub struct LastQuery {
 }
 
 /// The last answer on a link.
-#[derive(Debug, Drop)]
+#[derive(Drop)]
 pub struct LastAnswer {
     /// The query that it answers.
     pub asked: LastQuery,

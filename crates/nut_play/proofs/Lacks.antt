@@ -1,5 +1,5 @@
 -- At which steps memory may be lacking.
-use Rattle.std.proofs.Common.{◌≡◌, ◌<◌, ◌++◌, ℕ, Bool, true, false, ◌||◌, List, [], ◌∷◌, length, map, Option, Some, None, is_none, Result, Ok, Err, OnErr, is_err, refl, sym, ◌∙◌, ap, arith}
+use Rattle.std.proofs.Common.{◌≡◌, ◌<◌, ◌++◌, ℕ, Bool, true, false, ◌||◌, List, [], ◌∷◌, length, map, None, is_none, Result, Ok, Err, OnErr, refl, sym, ◌∙◌, ap, arith}
 use Rattle.std.specs.Prelude.{IsTrue, if◌then◌else◌}
 use Rattle.nut_server_spec.specs.declared.Place.{Place}
 use Rattle.nut_server_spec.specs.declared.Place.TheVariants.{Line, Report, NewUpses}
@@ -15,7 +15,6 @@ use Rattle.nut_monitor_spec.specs.Content as knowledge
 use Rattle.nut_monitor_spec.specs.Content.{phase_of}
 use Rattle.nut_monitor_spec.specs.Acceptance.{refusal}
 use Rattle.nut_monitor_spec.specs.machine.Machine.{advance}
-use Rattle.nut_monitor_spec.specs.Outcome as monitor_outcome
 use Rattle.nut_fleet.specs.Schedule.{Step}
 use Rattle.nut_fleet.specs.World.{Inform, Skip}
 use Rattle.nut_fleet.specs.Log.{News, Skipped, Noticed, Moved, turned}
@@ -53,21 +52,6 @@ server_lacks s NewUpses (arrivals.WriteFailed c) may = absurd may
 server_lacks s NewUpses (arrivals.DriverUp u) may = absurd may
 server_lacks s NewUpses (arrivals.DriverTook u n) may = absurd may
 server_lacks s NewUpses (arrivals.DriverDown u) may = absurd may
-
-pub monitor_lacks : (s : knowledge.Content) (link : Option ℕ) (k : ℕ) (e : events.Event) → monitor_outcome.MayLack s link k e → is_link_piece e ≡ true
-monitor_lacks s link k (events.LinkBytes i piece) may = refl
-monitor_lacks s None k (events.Moment t) may = absurd may
-monitor_lacks s None k (events.Linked i) may = absurd may
-monitor_lacks s None k (events.LinkLost i) may = absurd may
-monitor_lacks s None k (events.LinkTook i n) may = absurd may
-monitor_lacks s None k (events.OutOfMemory i piece j) may = absurd may
-monitor_lacks s None k events.NoticeTaken may = absurd may
-monitor_lacks s (Some l) k (events.Moment t) may = absurd may
-monitor_lacks s (Some l) k (events.Linked i) may = absurd may
-monitor_lacks s (Some l) k (events.LinkLost i) may = absurd may
-monitor_lacks s (Some l) k (events.LinkTook i n) may = absurd may
-monitor_lacks s (Some l) k (events.OutOfMemory i piece j) may = absurd may
-monitor_lacks s (Some l) k events.NoticeTaken may = absurd may
 
 -- ---- what is told
 
@@ -113,7 +97,3 @@ lacks_told step false news e = lacks_skipped step
 pub on-any-err : {T E : Type 0} (P : Type 0) (r : Result T E) → P → OnErr r P
 on-any-err P (Ok x) p = tt
 on-any-err P (Err e) p = p
-
-pub from-err : {T E : Type 0} (P : Type 0) (r : Result T E) → is_err r ≡ true → OnErr r P → P
-from-err P (Ok x) e p = cc
-from-err P (Err y) e p = p

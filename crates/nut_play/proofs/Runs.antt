@@ -1,5 +1,5 @@
 -- The result of a run of steps.
-use Rattle.std.proofs.Common.{◌≡◌, ◌<◌, ◌≤◌, ◌++◌, ◌+◌, ◌&&◌, ℕ, zero, suc, Bool, true, List, [], ◌∷◌, length, map, slice_get, Some, Result, Ok, Err, OnOk, is_err, false, not, refl, sym, ◌∙◌, ap, subst, arith}
+use Rattle.std.proofs.Common.{◌≡◌, ◌<◌, ◌≤◌, ◌++◌, ◌+◌, ◌&&◌, ℕ, zero, suc, Bool, true, List, [], ◌∷◌, length, map, slice_get, Some, false, not, refl, sym, ◌∙◌, ap, subst, arith}
 use Rattle.nut_fleet.specs.Schedule.{Step}
 use Rattle.nut_fleet.specs.Log.{Logged, logged}
 use Rattle.nut_play.specs.Lack.{may_lack}
@@ -24,10 +24,6 @@ length-firsts zero steps le = refl
 length-firsts (suc n) steps le =
     let x = some-get steps n (omega arith) in
     ap (λ o. length (before_all o (firsts n steps))) x.1 ∙ ap suc (length-firsts n steps (omega arith))
-
-pub from-ok : {T E : Type 0} (P : Type 0) (r : Result T E) → is_err r ≡ false → OnOk r P → P
-from-ok P (Ok x) e p = p
-from-ok P (Err y) e p = cc
 
 module _ (k : Kept) (steps : List Step) (n : ℕ) (old new : Kept) (x : Step) (is : slice_get steps n ≡ Some x) where
   pub played-more : IsPlayed k steps n old → fits old x ≡ true → new ≡ next old x → IsPlayed k steps (suc n) new

@@ -11,13 +11,13 @@ use Rattle.nut_server_spec.specs.Content as server
 use Rattle.nut_monitor_spec.specs.Configuration.{Configuration, Line, configuration_of}
 use Rattle.nut_monitor_spec.specs.Content as knowledge
 use Rattle.nut_monitor_spec.specs.Content.{for_each_line}
-use Rattle.nut_fleet.specs.Schedule.{Step, ServerClock, MonitorClock, Up, Driver, Down, Link, Out, Reach, Back, Land, CutServer, CutMonitor}
+use Rattle.nut_fleet.specs.Schedule.{Step, ServerClock, MonitorClock, Up, Driver, Down, Link, Out, Reach, Back, Land, CutServer, CutMonitor, Other}
 use Rattle.nut_fleet.specs.World.{Setup, no_monitor, monitor_of, world, nothing, is_fit, has_link, has_ups}
 use Rattle.nut_fleet.specs.Fleet.{IsMonitor, ConfigurationsAreSpoken}
 use Rattle.nut_fleet.specs.Log.{logged, log, news}
 use Rattle.nut_fleet.specs.machine.Going.{FleetsGoOn}
 use Rattle.nut_fleet.specs.Seen.{KeepsLink}
-use Rattle.nut_fleet.proofs.Unreloaded.{as-made, no-reload}
+use Rattle.nut_fleet.proofs.Rereads.{as-made, room-stays}
 use Rattle.nut_play.specs.Kept.{Seat, Kept, fleet_of, no_ends, ends_at, links_in, known_in, fresh_seat, fresh_fleet, IsFleet}
 use Rattle.nut_play.specs.machine.Next.{known_of, changed_at, next, fits, fits_link, reach_seat, back_seat, out_seat, land_seat, join_seat}
 use Rattle.nut_play.specs.machine.Play.{told_at, run, run_log, AreFit}
@@ -62,7 +62,7 @@ module _ (setup : Setup) (schedule : List Step) (k : Kept) (is : IsFleet setup (
   upses : length k.server.configuration.upses ≡ length setup.server.upses
   upses =
       ap (λ s. let t : server.Content = s in length t.configuration.upses) is.keeps.server
-      ∙ ap (λ c. let d : ServerConfiguration = c in length d.upses) (as-made setup.server (arrivals.steps (world setup schedule).server) (no-reload setup schedule)).configured
+      ∙ (as-made setup.server (arrivals.steps (world setup schedule).server) (room-stays setup schedule)).as_many
 
   same-ups : (u : ℕ) → nat_lt u (length k.server.configuration.upses) ≡ has_ups setup u
   same-ups u = ap (nat_lt u) upses
@@ -88,6 +88,7 @@ module _ (setup : Setup) (schedule : List Step) (k : Kept) (is : IsFleet setup (
   same-fit (Land m i n) = same-link_there m i
   same-fit (CutServer m i) = same-link_there m i
   same-fit (CutMonitor m i) = same-link_there m i
+  same-fit (Other event) = refl
 
 -- ---- what a step leaves unchanged
 
@@ -126,6 +127,7 @@ stays k (Back m i n) = seats-stay m (back_seat k.server i n) _ k (λ x. refl) (�
 stays k (Land m i n) = seats-stay m (land_seat m i n) k.server k (λ x. refl) (λ x. length-changed i _ x.links)
 stays k (CutServer m i) = server-stays _ k
 stays k (CutMonitor m i) = seats-stay m _ k.server k (λ x. refl) (λ x. refl)
+stays k (Other event) = record { monitors = refl; links = refl; works = refl }
 
 -- ---- a step
 

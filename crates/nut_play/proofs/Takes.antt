@@ -1,18 +1,15 @@
 -- Bytes that a server's connection takes piece by piece.
-use Rattle.std.proofs.Common.{◌≡◌, ◌≤◌, ◌+◌, ◌++◌, ℕ, ◌==◌, Bool, true, false, inl, inr, List, [], ◌∷◌, length, take, drop, Option, Some, None, is_some, refl, sym, ◌∙◌, ap, append-nil, drop-drop}
+use Rattle.std.proofs.Common.{◌≡◌, ◌+◌, ◌++◌, ℕ, ◌==◌, Bool, true, false, inl, inr, List, [], ◌∷◌, take, drop, Option, Some, None, is_some, refl, sym, ◌∙◌, ap, append-nil, drop-drop}
 use Rattle.std.specs.Option.{option_map}
 use Rattle.std.proofs.Math.Seq.{take-add}
 use Rattle.std.proofs.lemmas.List.{append_assoc}
-use Rattle.std.proofs.lemmas.Bool.{cases_Bool, le-ltb}
+use Rattle.std.proofs.lemmas.Bool.{cases_Bool}
 use Rattle.nut_server_spec.specs.Event.{Took}
 use Rattle.nut_server_spec.specs.Content.{Session, Content}
-use Rattle.nut_server_spec.specs.Acceptance.{refusal, took_refusal, session_of, waiting_of, waiting_in}
+use Rattle.nut_server_spec.specs.Acceptance.{session_of}
 use Rattle.nut_server_spec.specs.machine.Machine.{advance, update}
 use Rattle.nut_server_spec.proofs.Sessions.{session_of-update}
 use Rattle.nut_fleet.specs.machine.Going.{put_on}
-
-took : ℕ → Session → Session
-took n k = record k { waits = drop n k.waits }
 
 update-twice : (c a b : ℕ) (ks : List Session) → update c (λ k. record k { waits = drop b k.waits }) (update c (λ k. record k { waits = drop a k.waits }) ks) ≡ update c (λ k. record k { waits = drop (a + b) k.waits }) ks
 update-twice c a b [] = refl
@@ -30,14 +27,6 @@ update-none c (k ∷ ks) = elim (cases_Bool (k.number == c)) [ inl e ↦ rw e re
 
 pub took-none : (s : Content) (c : ℕ) → advance s (Took c 0) ≡ s
 took-none s c = ap (λ ks. let x : Content = record s { sessions = ks } in x) (update-none c s.sessions)
-
--- an open connection takes at most the bytes that wait
-pub took-ok : (s : Content) (c n : ℕ) → is_some (session_of c s.sessions) ≡ true → n ≤ length (waiting_of c s.sessions) → refusal s (Took c n) ≡ None
-took-ok s c n up le = by (session_of c s.sessions) up le
-  where
-    by : (o : Option Session) → is_some o ≡ true → n ≤ length (waiting_in o) → took_refusal n o ≡ None
-    by None e lt = cc
-    by (Some k) e lt = rw (le-ltb (length k.waits) n lt) refl
 
 pub still-open : (s : Content) (c n : ℕ) → is_some (session_of c (advance s (Took c n)).sessions) ≡ is_some (session_of c s.sessions)
 still-open s c n = ap is_some (session_of-update c (λ k. record k { waits = drop n k.waits }) s.sessions (λ k. refl)) ∙ same (session_of c s.sessions)

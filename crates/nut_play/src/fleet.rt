@@ -241,7 +241,6 @@ impl Fleet {
     }
 
     /// Plays one step, and logs what its monitor tells. Returns whether the step was played; if not, it is skipped.
-    #[tactic(auto, using(crate::proofs::Fits::fits_line, crate::proofs::Fits::fits_within, crate::proofs::Fits::fits_there, crate::proofs::Fits::fits_watched))]
     fn step(&mut self, step: &Step, k: usize, log: &mut Vec<Logged>) -> Result<bool, Lack>
         requires fit { fits self.old (step_of step.now) ≡ true }
         ensures played { IfOk result (λ played. played ≡ is_played (deed_by (fleet_of self.old) (step_of step.now))) }

@@ -38,7 +38,7 @@ pub enum Step {
 }
 
 /// What a step tells.
-#[derive(Clone, Copy, Debug, PartialEq, Eq)]
+#[derive(Clone, Copy)]
 pub enum News {
     /// The step was not possible in this state, and changed nothing.
     Skipped,
@@ -49,7 +49,7 @@ pub enum News {
 }
 
 /// Something that a step tells.
-#[derive(Clone, Copy, Debug, PartialEq, Eq)]
+#[derive(Clone, Copy)]
 pub struct Logged {
     /// The number of the step, counted from 1.
     pub step: usize,
@@ -77,5 +77,5 @@ pub enum FleetFault {
 }
 
 /// Memory could not be allocated.
-#[derive(Clone, Copy, PartialEq, Eq)]
+#[derive(Clone, Copy)]
 pub(crate) struct Lack;

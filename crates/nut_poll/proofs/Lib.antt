@@ -1,1 +1,3 @@
 pub mod Late
+pub mod QueueLemmas
+pub mod TurnLemmas

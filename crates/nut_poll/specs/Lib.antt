@@ -1,2 +1,5 @@
 pub mod Hearing
 pub mod Late
+pub mod Moments
+pub mod Queue
+pub mod Turns

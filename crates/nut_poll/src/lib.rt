@@ -14,6 +14,7 @@ mod rounds;
 mod seconds;
 mod shell;
 mod text;
+mod turns;
 
 pub use lateness::note_written;
 pub use link::{Heard, Link};
@@ -26,3 +27,4 @@ pub use rounds::Rounds;
 pub use seconds::Seconds;
 pub use shell::shell_command;
 pub use text::text_of;
+pub use turns::nobody_is_passed_over;

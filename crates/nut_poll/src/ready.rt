@@ -1,26 +1,44 @@
 //! Sockets that may be ready, looked at round by round.
 
+ghost use Rattle.std.specs.Prelude.{◌≡◌, ◌∷◌, ℕ, [], IfOk, IfSome, length, nat_eq, false, slice_index_or};
+ghost use Rattle.std.specs.List.{IsDistinct};
+ghost use Rattle.nut_poll.specs.Queue.{IsTaken, Looks, begun, first_joined, is_waiting, joined, may_be_read};
+
 use circular_buffer::HeapCircularBuffer;
 use mio::Token;
 use mio::event::Event;
 use std::alloc::{AllocError, Global};
-
-/// How many words of 64 bits the set has.
-const WORDS: usize = 8;
+use std::marker::Model;
 
 /// The greatest number of sockets: their tokens are below.
-pub const SOCKETS_MAX: usize = WORDS * 64;
+pub const SOCKETS_MAX: usize = 512;
 
 /// The tokens of the sockets to look at, each once, in the order in which they were queued. Tokens of this round are
 /// taken from the front, and others are queued behind them for the next. So each socket gets its turn, however often
 /// another has more to read, and none waits for one that was queued after it.
 #[derive(Drop)]
 pub struct Ready {
-    queue: HeapCircularBuffer<Token>,
+    queue: HeapCircularBuffer<usize>,
     /// Which tokens are in the queue.
-    queued: [u64; WORDS],
+    is_queued: [bool; SOCKETS_MAX],
     /// How many of them, from the front, belong to this round.
     round: usize,
+}
+
+impl Model for Ready {
+    ghost use Rattle.std.specs.Prelude.{◌≡◌, ◌≤◌, ℕ, length, nat_eq, false, slice_index_or};
+    ghost use Rattle.std.specs.List.{IsDistinct};
+    ghost use Rattle.nut_poll.specs.declared.ready.TheConstants.{SOCKETS_MAX};
+    ghost use Rattle.nut_poll.specs.Queue.{Queue, is_waiting};
+
+    ghost Value = { Queue };
+
+    ghost view = { λ a. record { waiting = a.queue.items; round = a.round } };
+
+    ghost invariant = { λ a. (a.queue.capacity ≡ SOCKETS_MAX)
+        × (a.round ≤ length a.queue.items)
+        × IsDistinct nat_eq a.queue.items
+        × ((n : ℕ) → slice_index_or a.is_queued n false ≡ is_waiting n a.queue.items) };
 }
 
 impl Ready {
@@ -29,34 +47,42 @@ impl Ready {
     /// # Errors
     ///
     /// [`AllocError`] if memory cannot be allocated.
-    pub fn new(alloc: Global) -> Result<Ready, AllocError> {
+    pub fn new(alloc: Global) -> Result<Ready, AllocError>
+        ensures { IfOk result (λ q. q ≡ record { waiting = []; round = 0 }) }
+    {
         Ok(Ready {
             queue: HeapCircularBuffer::with_capacity(alloc, SOCKETS_MAX)?,
-            queued: [0; WORDS],
+            is_queued: none_queued(),
             round: 0,
         })
     }
 
     /// Queues a socket for the next round, unless it is queued already. A token from [`SOCKETS_MAX`] on is left out.
-    pub fn insert(&mut self, token: Token) {
+    pub fn insert(&mut self, token: Token)
+        ensures joined { self.new ≡ joined token.0 self.old }
+        ensures comes { Looks [] self.old self.new }
+    {
         let Token(n) = token;
-        let word = n / 64;
-        let bit = 1u64 << (n % 64);
-        if word < WORDS && self.queued[word] & bit == 0 {
-            self.queued[word] |= bit;
-            self.queue.push_back(token);
+        if n < SOCKETS_MAX && !self.is_queued[n] {
+            self.is_queued[n] = true;
+            self.queue.push_back(n);
         }
     }
 
     /// Queues tokens 0 to `count` - 1 for the next round.
-    pub fn insert_first(&mut self, count: usize) {
+    pub fn insert_first(&mut self, count: usize)
+        ensures joined { self.new ≡ first_joined count self.old }
+        ensures comes { Looks [] self.old self.new }
+    {
         for n in 0..count {
             self.insert(Token(n));
         }
     }
 
     /// Queues the tokens of another set for the next round, and empties that set.
-    pub fn append(&mut self, other: &mut Ready) {
+    pub fn append(&mut self, other: &mut Ready)
+        ensures { Looks [] self.old self.new }
+    {
         other.turn();
         for _ in 0..SOCKETS_MAX {
             let Some(token) = other.take() else {
@@ -67,32 +93,44 @@ impl Ready {
     }
 
     /// Takes the first socket that is left in this round.
-    pub fn take(&mut self) -> Option<Token> {
+    pub fn take(&mut self) -> Option<Token>
+        ensures taken { IsTaken result self.old self.new }
+        ensures once { IfSome result (λ token. is_waiting token.0 self.new.waiting ≡ false) }
+    {
         if self.round == 0 {
             return None;
         }
+        let n = self.queue.pop_front()?;
         self.round -= 1;
-        let token = self.queue.pop_front()?;
-        let Token(n) = token;
-        let word = n / 64;
-        if word < WORDS {
-            self.queued[word] &= !(1u64 << (n % 64));
-        }
-        Some(token)
+        self.is_queued[n] = false;
+        Some(Token(n))
     }
 
     /// Begins the next round: all queued sockets belong to it.
-    pub fn turn(&mut self) {
+    pub fn turn(&mut self)
+        ensures { self.new ≡ begun self.old }
+    {
         self.round = self.queue.len();
     }
 
     /// Whether no socket is queued, for this round or the next.
-    pub fn is_empty(&self) -> bool {
+    pub fn is_empty(&self) -> bool
+        ensures each_once { IsDistinct nat_eq self.now.waiting }
+    {
         self.queue.is_empty()
     }
 }
 
+/// Returns which tokens are in an empty queue: none.
+fn none_queued() -> [bool; SOCKETS_MAX]
+    ensures { (n : ℕ) → slice_index_or result n false ≡ false }
+{
+    [false; SOCKETS_MAX]
+}
+
 /// Whether a read may find something, if only the end of the stream.
-pub fn may_be_read(event: &Event) -> bool {
+pub fn may_be_read(event: &Event) -> bool
+    ensures { result ≡ may_be_read event.now }
+{
     event.is_readable() || event.is_read_closed() || event.is_error()
 }

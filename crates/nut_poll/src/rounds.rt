@@ -1,5 +1,10 @@
 //! Waits for many sockets.
 
+ghost use Rattle.std.specs.Prelude.{◌≡◌, [], IfOk};
+ghost use Rattle.std.specs.declared.time.Duration.{Duration};
+ghost use Rattle.nut_poll.specs.Moments.{Begins, IsTold};
+ghost use Rattle.nut_poll.specs.Queue.{Looks, begun};
+
 use crate::ready::Ready;
 use crate::seconds::Seconds;
 use mio::{Events, Poll, Registry};
@@ -66,7 +71,10 @@ impl Rounds {
     /// # Errors
     ///
     /// The error of the wait.
-    pub fn wait(&mut self) -> io::Result<()> {
+    pub fn wait(&mut self) -> io::Result<()>
+        ensures ready { self.new.ready ≡ self.old.ready }
+        ensures clock { (self.new.seconds ≡ self.old.seconds) × (self.new.fixed ≡ self.old.fixed) }
+    {
         let ahead = self.seconds.ahead();
         self.wait_for(ahead)
     }
@@ -76,7 +84,10 @@ impl Rounds {
     /// # Errors
     ///
     /// The error of the wait.
-    pub fn wait_for(&mut self, patience: Duration) -> io::Result<()> {
+    pub fn wait_for(&mut self, patience: Duration) -> io::Result<()>
+        ensures ready { self.new.ready ≡ self.old.ready }
+        ensures clock { (self.new.seconds ≡ self.old.seconds) × (self.new.fixed ≡ self.old.fixed) }
+    {
         let patience = if self.ready.is_empty() {
             patience
         } else {
@@ -90,13 +101,31 @@ impl Rounds {
     /// # Errors
     ///
     /// The error of the clock.
-    pub fn turn(&mut self, clock: &impl Clock) -> io::Result<Option<u64>> {
-        let moment = self.seconds.pass(clock)?;
+    pub fn turn(&mut self, clock: &impl Clock) -> io::Result<Option<u64>>
+        ensures begins { IfOk result (λ moment. (passed : Duration)
+            × Begins passed self.old.seconds.full self.old.fixed moment self.old.ready self.new.ready) }
+        ensures comes { IfOk result (λ _. Looks [] self.old.ready self.new.ready) }
+        ensures second { IfOk result (λ moment. IsTold moment self.old.seconds.full self.new.seconds.full) }
+        ensures events { self.new.events ≡ self.old.events }
+    {
+        let passed = self.seconds.elapsed(clock)?;
+        Ok(self.turn_at(passed))
+    }
+
+    /// Begins the next round, when so much time has passed. Returns the number of seconds, if one more is over, whoever
+    /// waits. Tokens 0 to `fixed` - 1 then have their turn in this round.
+    fn turn_at(&mut self, passed: Duration) -> Option<u64>
+        ensures begins { Begins passed self.old.seconds.full self.old.fixed result self.old.ready self.new.ready }
+        ensures comes { Looks [] self.old.ready self.new.ready }
+        ensures second { IsTold result self.old.seconds.full self.new.seconds.full }
+        ensures events { self.new.events ≡ self.old.events }
+    {
+        let moment = self.seconds.pass_at(passed);
         if moment.is_some() {
             self.ready.insert_first(self.fixed);
         }
         self.begin();
-        Ok(moment)
+        moment
     }
 
     /// Looks at the clock, and returns whether one more second is over. Tokens 0 to `fixed` - 1 are then looked at in
@@ -106,7 +135,8 @@ impl Rounds {
     ///
     /// The error of the clock.
     pub fn look_at_clock(&mut self, clock: &impl Clock) -> io::Result<bool> {
-        let is_full = self.seconds.look(clock)?;
+        let passed = self.seconds.elapsed(clock)?;
+        let is_full = self.seconds.look_at(passed);
         if is_full {
             self.ready.insert_first(self.fixed);
         }
@@ -114,7 +144,10 @@ impl Rounds {
     }
 
     /// Begins the next round.
-    pub fn begin(&mut self) {
+    pub fn begin(&mut self)
+        ensures ready { self.new.ready ≡ begun self.old.ready }
+        ensures rest { (self.new.events ≡ self.old.events) × (self.new.seconds ≡ self.old.seconds) }
+    {
         self.ready.turn();
     }
 }

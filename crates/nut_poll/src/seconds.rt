@@ -1,6 +1,7 @@
 //! Whole seconds.
 
-ghost use Rattle.std.specs.Prelude.{◌≡◌, ◌+◌, IfSome, false};
+ghost use Rattle.std.specs.Prelude.{◌≡◌, ◌+◌, IfSome, nat_lt, false, if◌then◌else◌};
+ghost use Rattle.nut_poll.specs.Moments.{IsTold, moment_at, whole_seconds};
 
 use std::io;
 use std::time::{Clock, Duration, Instant};
@@ -42,38 +43,54 @@ impl Seconds {
         })
     }
 
+    /// Returns how much time has passed since the start.
+    ///
+    /// # Errors
+    ///
+    /// The error of the clock.
+    pub fn elapsed(&self, clock: &impl Clock) -> io::Result<Duration> {
+        self.start.elapsed(clock)
+    }
+
     /// Returns how many seconds have passed, if that is more than was told before.
     ///
     /// # Errors
     ///
     /// The error of the clock.
     pub fn pass(&mut self, clock: &impl Clock) -> io::Result<Option<u64>> {
-        if !self.look(clock)? {
-            return Ok(None);
+        let passed = self.elapsed(clock)?;
+        Ok(self.pass_at(passed))
+    }
+
+    /// Returns how many seconds are over when so much time has passed, if that is more than was told before.
+    pub fn pass_at(&mut self, passed: Duration) -> Option<u64>
+        ensures moment { result ≡ moment_at self.old.full passed }
+        ensures told { IsTold result self.old.full self.new.full }
+    {
+        if !self.look_at(passed) {
+            return None;
         }
         self.untold = 0;
         self.told = self.full;
         self.is_due = false;
-        Ok(Some(self.told))
+        Some(self.full)
     }
 
-    /// Looks at the clock, and returns whether more seconds are over than when it was last looked at.
-    ///
-    /// # Errors
-    ///
-    /// The error of the clock.
-    pub fn look(&mut self, clock: &impl Clock) -> io::Result<bool> {
-        let passed = self.start.elapsed(clock)?;
+    /// Notes how much time has passed. Returns whether more seconds are over than when that was last noted.
+    pub fn look_at(&mut self, passed: Duration) -> bool
+        ensures more { result ≡ nat_lt self.old.full (whole_seconds passed) }
+        ensures full { self.new.full ≡ (if result then whole_seconds passed else self.old.full) }
+    {
         let part = Duration::from_nanos(u64::from(passed.subsec_nanos()));
         self.ahead = Duration::from_secs(1).saturating_sub(part);
         let more = passed.as_secs().saturating_sub(self.full);
         if more == 0 {
-            return Ok(false);
+            return false;
         }
         self.full = passed.as_secs();
         self.untold = self.untold.saturating_add(more);
         self.is_due = true;
-        Ok(true)
+        true
     }
 
     /// Whether `next` would return a second.

@@ -1,11 +1,11 @@
 pub mod Cursors
-pub mod PlainMeans
 pub mod Room
 pub mod Places
 pub mod Spelling
 pub mod Numbers
 pub mod Readable
 pub mod RoundTrip
+pub mod PlainMeans
 pub mod Lengths
 pub mod Digits
 pub mod Marks

@@ -1,55 +1,94 @@
--- What the words of a plain query mean.
-use Rattle.std.proofs.Common.{◌≡◌, ℕ, ◌≤◌, ◌<◌, List, [], ◌∷◌, Option, length, ap, refl, sym, ◌∙◌, arith}
-use Rattle.std.specs.Prelude.{slice_index_or, codes, find, true, if◌then◌else◌}
-use Rattle.std.specs.Option.{ok_or, option_map}
-use Rattle.std.specs.Str.{bytes_eq, str_to_ascii_lowercase}
+-- What the lines of plain queries mean.
+use Rattle.std.proofs.Common.{◌≡◌, ℕ, ◌+◌, ◌-◌, ◌≤◌, Bool, true, false, List, [], ◌∷◌, ◌++◌, Ok, length, take, drop, codes, refl, sym, ap, subst, ◌∙◌, append_assoc, length-append, arith}
+use Rattle.std.specs.Prelude.{not}
+use Rattle.std.specs.List.{IsSplitAt}
+use Rattle.std.specs.Str.{bytes_eq}
+use Rattle.std.proofs.lemmas.Bool.{not-false}
+use Rattle.std.proofs.Math.Seq.{take-append_seam}
+use Rattle.std.proofs.lemmas.List.{append-nil, take-append-drop}
 use Rattle.std.proofs.lemmas.Slice.Eq.{bytes_eq-Decides}
-use Rattle.nut_proto.specs.declared.keyword.Command.{Command}
-use Rattle.nut_proto.specs.declared.refusal.Refusal.TheVariants.{InvalidArgument}
+use Rattle.nut_words.specs.Cutter.{IsFirstLine}
+use Rattle.nut_words.specs.Quoting.{IsPrintable, stands_bare, word_text}
+use Rattle.nut_words.specs.Reader.{spelled}
+use Rattle.nut_words.specs.declared.limits.TheConstants.{LINE_MAX}
+use Rattle.nut_words.proofs.PlainLemmas.{bare_printable, bare_text, first_printable}
+use Rattle.nut_words.proofs.WrittenLine.{all-append}
 use Rattle.nut_proto.specs.declared.request.Request.{Request}
 use Rattle.nut_proto.specs.declared.request.Request.TheVariants as requests
-use Rattle.nut_proto.specs.declared.request.ListQuery.{ListQuery}
-use Rattle.nut_proto.specs.Keywords.{all_commands, command_name, command_of, is_named}
-use Rattle.nut_proto.specs.Forms.{meaning, meaning_by}
-use Rattle.nut_proto.specs.Requests.{Form, first_named, get_forms, list_forms}
+use Rattle.nut_proto.specs.declared.request.ListQuery.TheVariants as queries
+use Rattle.nut_proto.specs.Forms.{meaning}
+use Rattle.nut_proto.specs.Lines.{AreWritable, message, message_words}
+use Rattle.nut_proto.specs.Requests.{request_parts}
+use Rattle.nut_proto.specs.laws.ReadBack.{IsReadable}
+use Rattle.nut_proto.proofs.RoundTrip.{requests_are_read}
 
--- a word that names a form or a command counts as its name
-lowered : (word name : List ℕ) → true ≡ is_named word name → str_to_ascii_lowercase word ≡ str_to_ascii_lowercase name
-lowered word name is = (bytes_eq-Decides _ _).0 (sym is)
+-- ---- what a line begins with
 
-named_alike : {A : Type 0} (forms : List (Form A)) (word name : List ℕ) (words : List (List ℕ)) → str_to_ascii_lowercase word ≡ str_to_ascii_lowercase name
-    → first_named forms word words ≡ first_named forms name words
-named_alike [] word name words same = refl
-named_alike (form ∷ forms) word name words same =
-    ap (λ w. if bytes_eq w (str_to_ascii_lowercase form.0) then form.1 words else first_named forms word words) same
-    ∙ ap (λ made. if is_named name form.0 then form.1 words else made) (named_alike forms word name words same)
+-- What comes behind the words that a piece begins with.
+pub begins_with : (piece words front rest : List ℕ) {unlike : Bool} → IsSplitAt piece (length words) front rest → unlike ≡ not (bytes_eq front words) → unlike ≡ false → piece ≡ words ++ rest
+begins_with piece words front rest {unlike} split is alike =
+    let same : front ≡ words = (bytes_eq-Decides front words).0 (not-false _ (sym is ∙ alike)) in
+    sym (ap (λ w. w ++ rest) (sym same) ∙ ap (λ f. f ++ rest) split.1 ∙ ap (λ r. take (length words) piece ++ r) split.2 ∙ take-append-drop (length words) piece)
 
-command_alike : (word name : List ℕ) → true ≡ is_named word name → command_of word ≡ command_of name
-unfolding command_of
-command_alike word name is = ap (λ w. find (λ command. bytes_eq w (str_to_ascii_lowercase (command_name command))) all_commands) (lowered word name is)
+-- what the answer to GET VAR begins with
+pub get_var_front : (ups piece names rest : List ℕ) → piece ≡ codes "GET VAR " ++ names → names ≡ ups ++ 32 ∷ rest → stands_bare ups ≡ true
+    → take (length ups + 9 - 4) (drop 4 piece) ≡ codes "VAR " ++ (word_text ups ++ 32 ∷ [])
+get_var_front ups piece names rest begins first bare =
+    let count : length ups + 9 - 4 ≡ length (codes "VAR " ++ (ups ++ 32 ∷ [])) = omega (arith, length-append ups (32 ∷ [])) in
+    let here : drop 4 piece ≡ (codes "VAR " ++ (ups ++ 32 ∷ [])) ++ rest =
+    ap (drop 4) (begins ∙ ap (λ t. codes "GET VAR " ++ t) first) ∙ ap (λ t. codes "VAR " ++ t) (sym (append_assoc ups (32 ∷ []) rest)) in
+    ap (λ n. take n (drop 4 piece)) count ∙ ap (take (length (codes "VAR " ++ (ups ++ 32 ∷ [])))) here ∙ take-append_seam (codes "VAR " ++ (ups ++ 32 ∷ [])) rest
+    ∙ ap (λ u. codes "VAR " ++ (u ++ 32 ∷ [])) (sym (bare_text ups bare))
 
-pub get_means : (verb s name : List ℕ) (words : List (List ℕ)) → true ≡ is_named verb (codes "GET") → true ≡ is_named s name
-    → meaning (verb ∷ s ∷ words) ≡ ok_or (first_named get_forms name words) InvalidArgument
-unfolding meaning command_of
-get_means verb s name words gets is =
-    ap (λ (command : Option Command). meaning_by command (s ∷ words)) (command_alike verb (codes "GET") gets)
-    ∙ ap (λ (made : Option Request). ok_or made InvalidArgument) (named_alike get_forms s name words (lowered s name is))
+-- ---- what a line says
 
-pub list_means : (verb s name : List ℕ) (words : List (List ℕ)) → true ≡ is_named verb (codes "LIST") → true ≡ is_named s name
-    → meaning (verb ∷ s ∷ words) ≡ ok_or (option_map (λ query. requests.List query) (first_named list_forms name words)) InvalidArgument
-unfolding meaning command_of
-list_means verb s name words lists is =
-    ap (λ (command : Option Command). meaning_by command (s ∷ words)) (command_alike verb (codes "LIST") lists)
-    ∙ ap (λ (made : Option ListQuery). ok_or (option_map (λ query. requests.List query) made) InvalidArgument) (named_alike list_forms s name words (lowered s name is))
+-- The first line of the piece says what the request says.
+abbrev pub IsTold : List ℕ → List ℕ → Request → Type 0
+IsTold piece after request =
+    (text : List ℕ) × (words : List (List ℕ)) × IsFirstLine text piece after × (spelled text ≡ Ok words) × (meaning words ≡ Ok request)
 
--- lists of one and of two
-pub one_of : {A : Type 0} (xs : List A) (d : A) → 1 ≤ length xs → length xs < 2 → xs ≡ slice_index_or xs 0 d ∷ []
-one_of [] d some few = absurd (omega (arith, some))
-one_of (x ∷ []) d some few = refl
-one_of (x ∷ y ∷ xs) d some few = absurd (omega (arith, few))
+-- A request is written as these bytes and then a bare word.
+written : (request : Request) (front word piece after : List ℕ) → message (request_parts request) ≡ front ++ (word_text word ++ [])
+    → IsPrintable front → AreWritable (request_parts request) → IsReadable request
+    → piece ≡ front ++ (word ++ 10 ∷ after) → stands_bare word ≡ true → length piece ≤ LINE_MAX → IsTold piece after request
+written request front word piece after is printable writable readable parted bare fits =
+    let text = message (request_parts request) in
+    let so : text ≡ front ++ word = is ∙ ap (λ t. front ++ t) (append-nil (word_text word) ∙ bare_text word bare) in
+    let here : text ++ 10 ∷ after ≡ piece = ap (λ t. t ++ 10 ∷ after) so ∙ append_assoc front word (10 ∷ after) ∙ sym parted in
+    let shows : IsPrintable text = subst IsPrintable (sym so) (all-append front word printable (bare_printable word bare)) in
+    let short : length text ≤ LINE_MAX = omega (arith, fits, ap length here, length-append text (10 ∷ after)) in
+    let read = requests_are_read request writable readable in
+    (text, message_words (request_parts request), subst (λ bytes. IsFirstLine text bytes after) here (first_printable text after shows short), read.0, read.1)
 
-pub two_of : {A : Type 0} (xs : List A) (d : A) → 2 ≤ length xs → length xs < 3 → xs ≡ slice_index_or xs 0 d ∷ slice_index_or xs 1 d ∷ []
-two_of [] d some few = absurd (omega (arith, some))
-two_of (x ∷ []) d some few = absurd (omega (arith, some))
-two_of (x ∷ y ∷ []) d some few = refl
-two_of (x ∷ y ∷ z ∷ xs) d some few = absurd (omega (arith, few))
+get_printable : IsPrintable (codes "GET")
+get_printable = (refl, (refl, (refl, tt)))
+
+var_printable : IsPrintable (codes "VAR")
+var_printable = (refl, (refl, (refl, tt)))
+
+pub get_var_told : (ups variable piece names rest after : List ℕ) → piece ≡ codes "GET VAR " ++ names → names ≡ ups ++ 32 ∷ rest → rest ≡ variable ++ 10 ∷ after
+    → stands_bare ups ≡ true → stands_bare variable ≡ true → length piece ≤ LINE_MAX → IsTold piece after (requests.GetVar ups variable)
+get_var_told ups variable piece names rest after begins first second bare_ups bare fits =
+    written (requests.GetVar ups variable) (codes "GET VAR " ++ (ups ++ 32 ∷ [])) variable piece after
+    (ap (λ u. codes "GET VAR " ++ (u ++ 32 ∷ (word_text variable ++ []))) (bare_text ups bare_ups) ∙ ap (λ t. codes "GET VAR " ++ t) (sym (append_assoc ups (32 ∷ []) (word_text variable ++ []))))
+    (refl, (refl, (refl, (refl, (refl, (refl, (refl, (refl, all-append ups (32 ∷ []) (bare_printable ups bare_ups) (refl, tt)))))))))
+    (get_printable, (var_printable, (bare_printable ups bare_ups, (bare_printable variable bare, tt))))
+    tt
+    (begins ∙ ap (λ t. codes "GET VAR " ++ t) (first ∙ ap (λ t. ups ++ 32 ∷ t) second ∙ sym (append_assoc ups (32 ∷ []) (variable ++ 10 ∷ after))))
+    bare fits
+
+pub get_ups_desc_told : (ups piece names after : List ℕ) → piece ≡ codes "GET UPSDESC " ++ names → names ≡ ups ++ 10 ∷ after
+    → stands_bare ups ≡ true → length piece ≤ LINE_MAX → IsTold piece after (requests.GetUpsDesc ups)
+get_ups_desc_told ups piece names after begins first bare fits =
+    written (requests.GetUpsDesc ups) (codes "GET UPSDESC ") ups piece after refl
+    (refl, (refl, (refl, (refl, (refl, (refl, (refl, (refl, (refl, (refl, (refl, (refl, tt))))))))))))
+    (get_printable, ((refl, (refl, (refl, (refl, (refl, (refl, (refl, tt))))))), (bare_printable ups bare, tt)))
+    tt (begins ∙ ap (λ t. codes "GET UPSDESC " ++ t) first) bare fits
+
+pub list_var_told : (ups piece names after : List ℕ) → piece ≡ codes "LIST VAR " ++ names → names ≡ ups ++ 10 ∷ after
+    → stands_bare ups ≡ true → length piece ≤ LINE_MAX → IsTold piece after (requests.List (queries.Var ups))
+list_var_told ups piece names after begins first bare fits =
+    written (requests.List (queries.Var ups)) (codes "LIST VAR ") ups piece after refl
+    (refl, (refl, (refl, (refl, (refl, (refl, (refl, (refl, (refl, tt)))))))))
+    ((refl, (refl, (refl, (refl, tt)))), (var_printable, (bare_printable ups bare, tt)))
+    tt (begins ∙ ap (λ t. codes "LIST VAR " ++ t) first) bare fits

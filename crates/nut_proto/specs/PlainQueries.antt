@@ -1,5 +1,7 @@
 -- The request that each plain query is, and the UPS that it asks about.
-use Rattle.std.specs.Prelude.{ℕ, List}
+use Rattle.std.specs.Prelude.{◌≡◌, ℕ, List, [], ◌∷◌, ◌++◌, codes}
+use Rattle.nut_words.specs.Bytes.{blank}
+use Rattle.nut_words.specs.Quoting.{word_text}
 use Rattle.nut_proto.specs.declared.plain.PlainQuery.{PlainQuery}
 use Rattle.nut_proto.specs.declared.plain.PlainQuery.TheVariants.{GetVar, GetUpsDesc, ListVar}
 use Rattle.nut_proto.specs.declared.request.Request.{Request}
@@ -7,11 +9,16 @@ use Rattle.nut_proto.specs.declared.request.Request.TheVariants as requests
 use Rattle.nut_proto.specs.declared.request.ListQuery.TheVariants as queries
 
 abbrev pub request_of : PlainQuery → Request
-request_of (GetVar ups variable) = requests.GetVar ups.now variable.now
+request_of (GetVar front ups variable) = requests.GetVar ups.now variable.now
 request_of (GetUpsDesc ups) = requests.GetUpsDesc ups.now
 request_of (ListVar ups) = requests.List (queries.Var ups.now)
 
 abbrev pub ups_of : PlainQuery → List ℕ
-ups_of (GetVar ups variable) = ups.now
+ups_of (GetVar front ups variable) = ups.now
 ups_of (GetUpsDesc ups) = ups.now
 ups_of (ListVar ups) = ups.now
+
+-- GET VAR brings along what its answer begins with.
+abbrev pub HasFront : PlainQuery → Type 0
+HasFront (GetVar front ups variable) = front.now ≡ codes "VAR " ++ (word_text ups.now ++ blank ∷ [])
+HasFront query = Unit {0}

@@ -1,24 +1,30 @@
-//! Reads the queries that clients send most often, if their line is plain.
-ghost use Rattle.std.specs.Prelude.{◌≡◌, List, ℕ, ◌∷◌, Ok, IfSome};
+//! Reads the queries that clients send most often, as nearly all clients write them.
+ghost use Rattle.std.specs.Prelude.{◌≡◌, List, ℕ, ◌++◌, Ok, IfSome};
 ghost use Rattle.nut_words.specs.Cutter.{IsFirstLine};
-ghost use Rattle.nut_words.specs.Quoting.{texts};
 ghost use Rattle.nut_words.specs.Reader.{spelled};
 ghost use Rattle.nut_proto.specs.Forms.{meaning};
-ghost use Rattle.nut_proto.specs.Keywords.{is_named};
-ghost use Rattle.nut_proto.specs.PlainQueries.{request_of, ups_of};
+ghost use Rattle.nut_proto.specs.PlainQueries.{HasFront, request_of, ups_of};
 
-use crate::keyword::is_named;
-use nut_words::{PlainWords, plain_line};
+use nut_words::{LINE_MAX, bare_word};
 
 /// A query that clients send often. It borrows its words.
 #[derive(Clone, Copy)]
 pub enum PlainQuery<'a> {
-    /// `GET VAR`: the value of a variable.
-    GetVar { ups: &'a [u8], variable: &'a [u8] },
+    /// `GET VAR`: the value of a variable. `front` is what the answer begins with: VAR and the name of the UPS, with a blank
+    /// behind each, as they stand in the query.
+    GetVar {
+        front: &'a [u8],
+        ups: &'a [u8],
+        variable: &'a [u8],
+    },
     /// `GET UPSDESC`: the description of a UPS.
-    GetUpsDesc { ups: &'a [u8] },
+    GetUpsDesc {
+        ups: &'a [u8],
+    },
     /// `LIST VAR`: the variables of a UPS.
-    ListVar { ups: &'a [u8] },
+    ListVar {
+        ups: &'a [u8],
+    },
 }
 
 impl<'a> PlainQuery<'a> {
@@ -34,54 +40,47 @@ impl<'a> PlainQuery<'a> {
     }
 }
 
-/// Returns the query that the first line of a piece is, and the bytes behind that line, if the line is plain: bare words with
-/// one space between two. It is for a piece whose first byte begins a line. The query is the request that
-/// [`read`](crate::read) reads from the words of the line. Returns `None` if the piece begins with anything else, whether
-/// or not that is a request. Allocates no memory.
-pub fn read_plain<'a>(piece: &'a [u8]) -> Option<(PlainQuery<'a>, &'a [u8])>
-    ensures { IfSome result (λ found. (text : List ℕ) × (words : List (List ℕ)) × IsFirstLine text piece.now found.1.now
-        × (spelled text ≡ Ok words) × (meaning words ≡ Ok (request_of found.0))) }
+/// Returns what follows these words, if the piece begins with them.
+fn behind<'a>(piece: &'a [u8], words: &[u8]) -> Option<&'a [u8]>
+    ensures { IfSome result (λ rest. piece.now ≡ words.now ++ rest.now) }
 {
-    let mut words = PlainWords::new();
-    let after = plain_line(piece, &mut words)?;
-    let [verb, subject, rest @ ..] = words.as_slice() else {
+    let (front, rest) = piece.split_at_checked(words.len())?;
+    if front != words {
         return None;
-    };
-    let query = query_of(verb, subject, rest)?;
-    Some((query, after))
+    }
+    Some(rest)
 }
 
-/// Whether the word is `name`, which is in upper case, as nearly all clients write it.
-fn says(word: &[u8], name: &[u8]) -> bool
-    ensures { result ≡ is_named word.now name.now }
+/// Returns the query that the first line of a piece is, and the bytes behind that line, if the line is plain: the words of the
+/// query in upper case, then bare words, with one space between two. It is for a piece whose first byte begins a line. The
+/// query is the request that [`read`](crate::read) reads from the words of the line. Returns `None` if the piece begins with
+/// anything else, whether or not that is a request. Allocates no memory.
+pub fn read_plain<'a>(piece: &'a [u8]) -> Option<(PlainQuery<'a>, &'a [u8])>
+    ensures told { IfSome result (λ found. (text : List ℕ) × (words : List (List ℕ)) × IsFirstLine text piece.now found.1.now
+        × (spelled text ≡ Ok words) × (meaning words ≡ Ok (request_of found.0))) }
+    ensures front { IfSome result (λ found. HasFront found.0) }
 {
-    if word == name {
-        return true;
+    if piece.len() > LINE_MAX {
+        return None;
     }
-    is_named(word, name)
-}
-
-/// Returns the query of these words, if they have one of the forms in this table.
-fn query_of<'a>(verb: &[u8], subject: &[u8], rest: &[&'a [u8]]) -> Option<PlainQuery<'a>>
-    ensures { IfSome result (λ query. meaning (verb.now ∷ subject.now ∷ texts rest.now) ≡ Ok (request_of query)) }
-{
-    if let [ups, variable] = rest
-        && says(verb, b"GET")
-        && says(subject, b"VAR")
-    {
-        return Some(PlainQuery::GetVar { ups, variable });
+    if let Some(names) = behind(piece, b"GET VAR ") {
+        let (ups, rest) = bare_word(names, b' ')?;
+        let (variable, after) = bare_word(rest, b'\n')?;
+        let front = &piece[4..ups.len() + 9];
+        return Some((
+            PlainQuery::GetVar {
+                front,
+                ups,
+                variable,
+            },
+            after,
+        ));
     }
-    if let [ups] = rest
-        && says(verb, b"GET")
-        && says(subject, b"UPSDESC")
-    {
-        return Some(PlainQuery::GetUpsDesc { ups });
+    if let Some(names) = behind(piece, b"GET UPSDESC ") {
+        let (ups, after) = bare_word(names, b'\n')?;
+        return Some((PlainQuery::GetUpsDesc { ups }, after));
     }
-    if let [ups] = rest
-        && says(verb, b"LIST")
-        && says(subject, b"VAR")
-    {
-        return Some(PlainQuery::ListVar { ups });
-    }
-    None
+    let names = behind(piece, b"LIST VAR ")?;
+    let (ups, after) = bare_word(names, b'\n')?;
+    Some((PlainQuery::ListVar { ups }, after))
 }

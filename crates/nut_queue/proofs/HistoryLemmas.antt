@@ -1,10 +1,7 @@
 -- If a queue holds what its past calls lead to, it still does after one call more.
-use Rattle.std.proofs.Common.{◌≡◌, ℕ, ◌≤◌, List, [], ◌∷◌, ◌++◌, Result, Ok, Err, OnOk, drop, length, sym, ap, ◌∙◌, arith, length-append, length-drop}
+use Rattle.std.proofs.Common.{◌≡◌, ℕ, ◌≤◌, List, ◌∷◌, ◌++◌, Result, Ok, Err, OnOk, drop, length, sym, ap, ◌∙◌, arith, length-append, length-drop}
 use Rattle.std.proofs.lemmas.List.{drop-append-le, drop-drop}
-use Rattle.nut_queue.specs.History.{Call, Pushed, Taken, Cleared, Holds, pushed, taken}
-
-pub holds_nothing : (queue : List ℕ) → queue ≡ [] → Holds queue []
-holds_nothing queue none = record { within = omega arith; left = none }
+use Rattle.nut_queue.specs.History.{Call, Pushed, Taken, Holds, pushed, taken}
 
 pub holds_pushed : (old new bytes : List ℕ) → new ≡ old ++ bytes → (past : List Call) → Holds old past → Holds new (Pushed bytes ∷ past)
 holds_pushed old new bytes grown past h = record {
@@ -17,9 +14,6 @@ holds_taken old new n waited gone past h = record {
   within = omega (arith, h.within, waited, ap length h.left, length-drop (taken past) (pushed past));
   left = gone ∙ ap (drop n) h.left ∙ drop-drop n (taken past) (pushed past);
 }
-
-pub holds_cleared : (new : List ℕ) → new ≡ [] → (past : List Call) → Holds new (Cleared ∷ past)
-holds_cleared new none past = record { within = omega arith; left = none }
 
 -- What follows from a success holds if there was one.
 pub where_ok : {T E P Q : Type 0} → (r : Result T E) → (P → Q) → OnOk r P → OnOk r Q

@@ -1,15 +1,17 @@
 -- Rows that end in a text that is kept with their variable.
-use Rattle.std.proofs.Common.{◌≡◌, ℕ, Bool, false, List, [], ◌∷◌, ◌++◌, codes, refl, sym, ap, ◌∙◌, append_assoc}
+use Rattle.std.proofs.Common.{◌≡◌, ℕ, Bool, false, List, [], ◌∷◌, ◌++◌, Option, Some, codes, refl, sym, ap, ◌∙◌, append_assoc}
 use Rattle.std.specs.Prelude.{◌&&◌}
 use Rattle.std.specs.Str.{bytes_eq}
 use Rattle.std.proofs.lemmas.List.{append-nil}
 use Rattle.nut_words.specs.Quoting.{quoted, word_text}
 use Rattle.nut_state.specs.Row.{row_end}
-use Rattle.nut_state.specs.Table.{Entry}
+use Rattle.nut_state.specs.Table.{Entry, variable}
+use Rattle.nut_proto.specs.declared.refusal.Refusal.TheVariants as refusals
 use Rattle.nut_proto.specs.declared.reply.Reply.TheVariants as replies
 use Rattle.nut_proto.specs.Lines.{line}
 use Rattle.nut_proto.specs.Replies.{reply_line}
-use Rattle.nut_server_spec.specs.Answer.{rw_row, shown, var_row}
+use Rattle.nut_server_spec.specs.Answer.{Line, described, on_variable, require, rw_row, shown, text_of, var_row}
+use Rattle.nut_server_spec.specs.Configuration.{Ups}
 use Rattle.nut_server_spec.specs.Device.{Device}
 use Rattle.nut_server.specs.inside.Rows.{row_front}
 
@@ -20,6 +22,9 @@ in_two ups name value =
     ∙ ap (λ bytes. ups ++ 32 ∷ bytes) (append_assoc name (32 ∷ (value ++ [])) (10 ∷ []) ∙ ap (λ bytes. name ++ 32 ∷ bytes) end)
     ∙ sym (append_assoc ups (32 ∷ []) (name ++ 32 ∷ (value ++ 10 ∷ [])))
 
+described_in_two : (ups text : List ℕ) → (ups ++ 32 ∷ (text ++ [])) ++ 10 ∷ [] ≡ ups ++ 32 ∷ (text ++ 10 ∷ [])
+described_in_two ups text = append_assoc ups (32 ∷ (text ++ [])) (10 ∷ []) ∙ ap (λ bytes. ups ++ 32 ∷ (bytes ++ 10 ∷ [])) (append-nil text)
+
 var_text : (ups name value : List ℕ) → reply_line (replies.Var ups name value) ≡ row_front (codes "VAR") ups ++ row_end name value
 unfolding reply_line line
 var_text ups name value = ap (λ bytes. codes "VAR" ++ 32 ∷ bytes) (in_two (word_text ups) (word_text name) (quoted value))
@@ -27,6 +32,21 @@ var_text ups name value = ap (λ bytes. codes "VAR" ++ 32 ∷ bytes) (in_two (wo
 rw_text : (ups name value : List ℕ) → reply_line (replies.Rw ups name value) ≡ row_front (codes "RW") ups ++ row_end name value
 unfolding reply_line line
 rw_text ups name value = ap (λ bytes. codes "RW" ++ 32 ∷ bytes) (in_two (word_text ups) (word_text name) (quoted value))
+
+-- The answer to GET UPSDESC in its parts.
+pub described_text : (ups text before one two three : List ℕ) → one ≡ before ++ row_front (codes "UPSDESC") ups → two ≡ one ++ quoted text → three ≡ two ++ 10 ∷ []
+    → three ≡ before ++ reply_line (replies.UpsDesc ups text)
+unfolding reply_line line
+described_text ups text before one two three first second third =
+    third ∙ ap (λ bytes. bytes ++ 10 ∷ []) (second ∙ ap (λ bytes. bytes ++ quoted text) first) ∙ append_assoc (before ++ row_front (codes "UPSDESC") ups) (quoted text) (10 ∷ [])
+    ∙ append_assoc before (row_front (codes "UPSDESC") ups) (quoted text ++ 10 ∷ [])
+    ∙ ap (λ bytes. before ++ (codes "UPSDESC" ++ 32 ∷ bytes)) (append_assoc (word_text ups) (32 ∷ []) (quoted text ++ 10 ∷ []) ∙ sym (described_in_two (word_text ups) (quoted text)))
+
+pub described_told : (ups : List ℕ) (ups_found : Option Ups) (found : Ups) (before one two three : List ℕ) → ups_found ≡ Some found → one ≡ before ++ row_front (codes "UPSDESC") ups
+    → two ≡ one ++ quoted found.description → three ≡ two ++ 10 ∷ [] → three ≡ before ++ text_of (described ups ups_found)
+unfolding text_of
+described_told ups ups_found found before one two three is first second third =
+    described_text ups found.description before one two three first second third ∙ ap (λ (o : Option Ups). before ++ text_of (described ups o)) (sym is)
 
 -- The value is shown as it is.
 as_it_is : (d : Device) (v : Entry) → false ≡ (d.forced && bytes_eq v.name (codes "ups.status")) → shown d v ≡ v.value
@@ -41,6 +61,14 @@ pub rw_kept : (ups : List ℕ) (d : Device) (v : Entry) (front end before after 
     → front ≡ row_front (codes "RW") ups → end ≡ row_end v.name v.value → after ≡ before ++ (front ++ end) → after ≡ before ++ reply_line (rw_row ups d v)
 rw_kept ups d v front end before after plain begins ends is =
     rw (is, begins, ends) (ap (λ row. before ++ row) (sym (ap (λ value. reply_line (replies.Rw ups v.name value)) (as_it_is d v plain) ∙ rw_text ups v.name v.value)))
+
+-- The answer to GET VAR, if the row is kept.
+pub kept_told : (ups name : List ℕ) (d : Device) (v : Entry) (end : List ℕ) → variable d.table name ≡ Some v → false ≡ (d.forced && bytes_eq v.name (codes "ups.status"))
+    → end ≡ row_end v.name v.value → text_of (on_variable name d (λ v. Line (var_row ups d v))) ≡ row_front (codes "VAR") ups ++ end
+unfolding text_of
+kept_told ups name d v end is plain ends =
+    ap (λ (o : Option Entry). text_of (require refusals.VarNotSupported o (λ v. Line (var_row ups d v)))) is
+    ∙ ap (λ value. reply_line (replies.Var ups v.name value)) (as_it_is d v plain) ∙ var_text ups v.name v.value ∙ ap (λ e. row_front (codes "VAR") ups ++ e) (sym ends)
 
 pub not_forced : (result forced : Bool) → result ≡ false → result ≡ forced → false ≡ forced
 not_forced result forced is same = sym is ∙ same

@@ -16,7 +16,7 @@ does_nothing s reply line quiet = (λ k. rw (quiet.0 k.logged_out, quiet.1 (numb
 
 pub quiet_query : (s : Scene) (k : Caller) (query : PlainQuery) (line : List ℕ)
     → Does s (Asks (request_of query)) (answer s k (Asks (request_of query))) effects.Nothing line
-quiet_query s k (GetVar ups name) line =
+quiet_query s k (GetVar front ups name) line =
     does_nothing s _ line (of_variable s ups.now name.now (λ d v. Line (var_row ups.now d v)) (λ d v. (λ b. refl, λ now b. refl, refl)))
 quiet_query s k (GetUpsDesc ups) line = does_nothing s _ line (of_described ups.now (ups_named ups.now s.configuration.upses))
 quiet_query s k (ListVar ups) line = does_nothing s _ line (of_list s (queries.Var ups.now))

@@ -182,14 +182,19 @@ impl Connection {
         self.cutter.kept()
     }
 
-    /// Queues the answer to a line, and changes the connection as the line does. If memory cannot be allocated, nothing
-    /// changes.
-    pub fn answer(&mut self, text: &[u8], effect: &Effect<'_>) -> Result<(), AllocError>
+    /// Queues the answer to a line, in two parts, and changes the connection as the line does. If memory cannot be allocated,
+    /// nothing changes.
+    pub fn answer(
+        &mut self,
+        front: &[u8],
+        end: &[u8],
+        effect: &Effect<'_>,
+    ) -> Result<(), AllocError>
         ensures number { self.new.number ≡ self.old.number }
-        ensures ok { OnOk result (self.new ≡ affected effect.now (said text.now self.old)) }
+        ensures ok { OnOk result (self.new ≡ affected effect.now (said (front.now ++ end.now) self.old)) }
         ensures err { OnErr result (self.new ≡ self.old) }
     {
-        self.outbox.push(text)?;
+        self.outbox.push_both(front, end)?;
         self.apply(effect);
         Ok(())
     }

@@ -335,18 +335,24 @@ impl Connections {
         }
     }
 
-    /// Queues the answer to a line of the connection at this place, and changes the connection as the line does. If
-    /// memory cannot be allocated, nothing changes.
-    pub fn answer(&mut self, at: usize, text: &[u8], effect: &Effect<'_>) -> Result<(), AllocError>
+    /// Queues the answer to a line of the connection at this place, in two parts, and changes the connection as the line
+    /// does. If memory cannot be allocated, nothing changes.
+    pub fn answer(
+        &mut self,
+        at: usize,
+        front: &[u8],
+        end: &[u8],
+        effect: &Effect<'_>,
+    ) -> Result<(), AllocError>
         requires { at < length self.old }
         ensures numbers { numbers_of self.new ≡ numbers_of self.old }
         ensures ok { (c : ℕ) → Stands c self.old at → OnOk result (self.new
-            ≡ update c (λ k. affected effect.now (said text.now k)) self.old) }
+            ≡ update c (λ k. affected effect.now (said (front.now ++ end.now) k)) self.old) }
         ensures err { OnErr result (self.new ≡ self.old) }
     {
         let key = self.order[at];
         let connection = &mut self.slots[key.slot];
-        let answered = connection.answer(text, effect);
+        let answered = connection.answer(front, end, effect);
         let unsettled = connection.is_unsettled();
         mark(&mut self.order, &mut self.unsettled, at, unsettled);
         answered

@@ -1,6 +1,6 @@
 //! Answers the queries that clients send most often: without a decision, since they change nothing.
 
-ghost use Rattle.std.specs.Prelude.{◌≡◌, ◌++◌, List, ℕ, OnOk, map};
+ghost use Rattle.std.specs.Prelude.{◌≡◌, ◌++◌, List, ℕ, IfSome, OnOk, codes, map};
 ghost use Rattle.nut_proto.specs.PlainQueries.{request_of, ups_of};
 ghost use Rattle.nut_proto.specs.declared.request.ListQuery.TheVariants as queries;
 ghost use Rattle.nut_server_spec.specs.Answer.{Caller, Line, Listing, answer, described, on_variable, refused, text_of, var_row};
@@ -9,15 +9,17 @@ ghost use Rattle.nut_server_spec.specs.Configuration.{number_of_ups};
 ghost use Rattle.nut_server.specs.declared.effect.Effect.TheVariants as effects;
 ghost use Rattle.nut_server.specs.inside.Answers.{answer_from};
 ghost use Rattle.nut_server.specs.inside.Effects.{Does};
+ghost use Rattle.nut_server.specs.inside.Rows.{row_front};
 
 use crate::answer::{Answer, Rows};
 use crate::config::Ups;
 use crate::device::Device;
 use crate::queries::variable_of;
-use crate::row::front_of;
+use crate::row::{front_of, put_front};
 use crate::scene::Scene;
-use crate::text::{put_answer, put_variable};
+use crate::text::{put_answer, put_variable, shows_forced};
 use nut_proto::{ListQuery, PlainQuery, Refusal, Reply, Word};
+use nut_words::put_quoted;
 use std::alloc::AllocError;
 
 /// Makes `out` the text of the answer to a plain query, which is the same for every caller. The UPS that it asks about was found
@@ -34,12 +36,28 @@ pub fn write_answer(
 {
     out.clear();
     match query {
-        PlainQuery::GetVar { ups, variable } => {
+        PlainQuery::GetVar { ups, variable, .. } => {
             put_value(out, scene.device_at(place), ups, variable)
         }
         PlainQuery::GetUpsDesc { ups } => put_description(out, scene.config.ups_found(place), ups),
         PlainQuery::ListVar { ups } => put_list(out, scene.device_at(place), ups),
     }
+}
+
+/// Returns what the row of this variable ends with, if that is kept and shows the value as it is. The variable is looked for at
+/// the place `likely` first, which then is its place.
+#[tactic(auto, unfolding(nut_server_spec::specs::Answer::text_of))]
+pub fn kept_end<'a>(device: &'a Device, likely: &mut usize, name: &[u8]) -> Option<&'a [u8]>
+    ensures { (ups : List ℕ) → IfSome result (λ end.
+        text_of (on_variable name.now device.now.device (λ v. Line (var_row ups device.now.device v))) ≡ row_front (codes "VAR") ups ++ end.now) }
+{
+    let (place, variable) = device.table().find_variable(*likely, name)?;
+    *likely = place;
+    if shows_forced(device, variable) {
+        return None;
+    }
+    let end = variable.row_end()?;
+    Some(end)
 }
 
 /// Appends a refusal. If memory cannot be allocated, `out` may hold a part of it.
@@ -79,11 +97,10 @@ fn put_description(out: &mut Vec<u8>, found: Option<Ups<'_>>, ups: &[u8]) -> Res
     let Some(found) = found else {
         return put_refusal(out, Refusal::UnknownUps);
     };
-    Reply::UpsDesc {
-        ups: Word::new(ups),
-        description: Word::new(found.description),
-    }
-    .put(out)
+    put_front(out, b"UPSDESC", ups)?;
+    put_quoted(out, found.description)?;
+    out.push(b'\n')?;
+    Ok(())
 }
 
 /// Appends the variables of this UPS, or why they aren't told.

@@ -12,8 +12,8 @@ use std::alloc::AllocError;
 /// What the rows of a list of variables begin with, as `VAR su700 `. `None` if that is longer than [`FRONT_MAX`].
 pub type Front = Option<ArrayVec<u8, FRONT_MAX>>;
 
-/// Appends what a row of a variable of this UPS begins with. `word` is the word of the list, which needs no quotes.
-fn put_front<O: Out>(out: &mut O, word: &[u8], ups: &[u8]) -> Result<(), O::Fault>
+/// Appends what a row of this UPS begins with. `word` is the word of the row, which needs no quotes.
+pub fn put_front<O: Out>(out: &mut O, word: &[u8], ups: &[u8]) -> Result<(), O::Fault>
     ensures { OnOk result (O.held out.new ≡ O.held out.old ++ row_front word.now ups.now) }
 {
     out.append(word)?;

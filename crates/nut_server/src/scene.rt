@@ -1,6 +1,6 @@
 //! The scene: what the server knows when it answers a line.
 
-ghost use Rattle.std.specs.Prelude.{◌≡◌, ℕ, List, None, Some, MatchResult};
+ghost use Rattle.std.specs.Prelude.{◌≡◌, ℕ, List, None, Some, IfSome, MatchResult};
 ghost use Rattle.nut_proto.specs.declared.refusal.Refusal.TheVariants as refusals;
 ghost use Rattle.nut_server_spec.specs.Answer as definitions;
 ghost use Rattle.nut_server_spec.specs.Answer.{ups_number, device_at, on_device, refused, status_of};
@@ -100,6 +100,18 @@ impl<'a> Scene<'a> {
             (λ refusal. (next : devices.Device → definitions.Answer) → on_device self.now name next ≡ refused refusal) }
     {
         self.data_of(self.number_at(place)?)
+    }
+
+    /// Returns the number of the UPS that was found at this place of ups.conf, if its data can be relied on.
+    pub fn number_with_data(&self, place: Option<usize>) -> Option<usize>
+        ensures { (name : List ℕ) → place ≡ number_of_ups name self.now.configuration.upses → IfSome result (λ u.
+            (next : devices.Device → definitions.Answer) → on_device self.now name next ≡ next (device_at self.now u)) }
+    {
+        let u = self.number_at(place).ok()?;
+        match self.data_of(u) {
+            Ok(_) => Some(u),
+            Err(_) => None,
+        }
     }
 
     /// Returns how the tracked request with this number ended: `Unknown` if no UPS remembers it.

@@ -72,6 +72,8 @@ pub struct Server {
     line: ArrayVec<u8, ASKS_MAX>,
     /// The place in ups.conf of the UPS that was found last: the next query probably asks for the same one.
     likely: usize,
+    /// The place of the variable that was found last: the next query probably asks for the same one, or for the next.
+    likely_variable: usize,
     /// What clients did that an operator wants to know of. No answer depends on it.
     deeds: Deeds,
     alloc: Global,
@@ -91,6 +93,7 @@ impl Drop for Server {
             scratch: _scratch,
             line: _line,
             likely: _,
+            likely_variable: _,
             deeds: _deeds,
             alloc: _,
         } = self;
@@ -159,6 +162,7 @@ impl Server {
                 scratch: Vec::new(alloc),
                 line: ArrayVec::new(),
                 likely: 0,
+                likely_variable: 0,
                 deeds: Deeds::none(),
                 alloc,
             }),

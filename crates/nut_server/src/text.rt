@@ -30,7 +30,7 @@ fn is_named(variable: &Variable, name: &[u8]) -> bool
 }
 
 /// Whether clients see the value with `FSD ` before it: it is the status of a UPS whose shutdown was forced.
-fn shows_forced(device: &Device, variable: &Variable) -> bool
+pub fn shows_forced(device: &Device, variable: &Variable) -> bool
     ensures { result ≡ (device.now.device.forced && bytes_eq variable.now.name (codes "ups.status")) }
 {
     device.is_forced() && is_named(variable, b"ups.status")

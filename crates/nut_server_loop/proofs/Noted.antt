@@ -26,7 +26,7 @@ tells_given n items e o same = ap (λ a. tells_arrival a o) same
 
 may_come_next : (s : Content) (n : Next) (items : List ℕ) (e : Event) → may_come s e ≡ true → arrival_of n items ≡ Some e → MayCome n s
 may_come_next s (next.Moment t) items e may is = tt
-may_come_next s (next.Open address) items e may is = tt
+may_come_next s next.Open items e may is = tt
 may_come_next s (next.Bytes c) items e may is =
     subst (λ a. may_come s (unwrap_or a (event.Close 0)) ≡ true) (sym is) may
 may_come_next s (next.Close c) items e may is = tt

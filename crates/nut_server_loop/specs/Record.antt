@@ -36,7 +36,7 @@ tells entry o = option_map (λ entries. entry ∷ entries) o
 -- the arrival that `next` gave, if it gave one, with these bytes in the piece
 abbrev pub arrival_of : Next → List ℕ → Option Event
 arrival_of (Moment t) piece = Some (event.Moment t)
-arrival_of (Open address) piece = Some (event.Open address.items)
+arrival_of Open piece = Some (event.Open piece)
 arrival_of (Bytes c) piece = Some (event.Bytes c piece)
 arrival_of (Close c) piece = Some (event.Close c)
 arrival_of (DriverUp u) piece = Some (event.DriverUp u)

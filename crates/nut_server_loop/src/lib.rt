@@ -13,5 +13,5 @@ pub use memory::MemoryWorld;
 pub use replay::serve_memory;
 pub use serving::serve;
 pub use streams::{Stream, StreamWorld};
-pub use types::{Address, Given, Next, Note};
+pub use types::{Given, Next, Note};
 pub use world::World;

@@ -7,7 +7,7 @@ ghost use Rattle.nut_server_loop.specs.Record as entry;
 ghost use Rattle.nut_server_loop.specs.Memory.{MemoryState, log_of, entry_of, event_of_given, may_come, first_coming, GivesAt, GoesOn};
 ghost use Rattle.nut_server_loop.specs.inside.MemoryLaws.{goes_on_self, goes_on_twice};
 
-use crate::{Address, Given, Next, Note, World};
+use crate::{Given, Next, Note, World};
 use nut_io::{Fault, Piece, Written};
 use nut_server::Server;
 use std::alloc::Global;
@@ -235,7 +235,10 @@ fn show(given: &Given, piece: &mut Piece) -> Next
 {
     match given {
         Given::Moment(t) => Next::Moment(*t),
-        Given::Open(address) => Next::Open(copy_of(address)),
+        Given::Open(address) => {
+            show_bytes(address, piece);
+            Next::Open
+        }
         Given::Bytes(c, bytes) => {
             show_bytes(bytes, piece);
             Next::Bytes(*c)
@@ -258,17 +261,6 @@ fn show_bytes(bytes: &Piece, piece: &mut Piece)
     if piece.try_extend_from_slice(bytes.as_slice()).is_err() {
         unreachable!()
     }
-}
-
-/// Returns a copy of the address.
-fn copy_of(address: &Address) -> Address
-    ensures { result ≡ address.now }
-{
-    let mut copy = Address::new();
-    if copy.try_extend_from_slice(address.as_slice()).is_err() {
-        unreachable!()
-    }
-    copy
 }
 
 fn note_taken(alloc: Global, notes: &mut Vec<Note>, c: u64, bytes: &[u8]) -> Result<(), Fault>

@@ -184,7 +184,7 @@ fn settle_heard<W: World>(server: &mut Server, world: &mut W, next: &Next) -> Re
     match next {
         Next::Bytes(c) => settle(server, world, *c),
         Next::Moment(_)
-        | Next::Open(_)
+        | Next::Open
         | Next::Close(_)
         | Next::DriverUp(_)
         | Next::DriverBytes(_)
@@ -221,7 +221,7 @@ fn arrival_of<'a>(next: &'a Next, piece: &'a Piece) -> Option<Arrival<'a>>
 {
     match next {
         Next::Moment(t) => Some(Arrival::Moment(*t)),
-        Next::Open(address) => Some(Arrival::Open(address.as_slice())),
+        Next::Open => Some(Arrival::Open(piece.as_slice())),
         Next::Bytes(c) => Some(Arrival::Bytes(*c, piece.as_slice())),
         Next::Close(c) => Some(Arrival::Close(*c)),
         Next::DriverUp(u) => Some(Arrival::DriverUp(*u)),

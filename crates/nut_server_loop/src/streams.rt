@@ -8,7 +8,7 @@ ghost use Rattle.nut_server_loop.specs.Record.{tells_next, tells_write, MayCome}
 ghost use Rattle.nut_server_loop.specs.Streams.{IsRead, no_record};
 ghost use Rattle.nut_server_loop.specs.declared.streams.Stage.TheVariants.{Ended};
 
-use crate::{Address, Next, World};
+use crate::{Next, World};
 use nut_io::{Fault, Piece, Written, read_piece, write_some};
 use nut_server::Server;
 use std::io::{Read, Write};
@@ -118,7 +118,8 @@ impl<'a, R: Read, T: Write> World for StreamWorld<'a, R, T> {
     {
         if self.stage == Stage::Arriving {
             self.stage = Stage::Present;
-            return Ok(Next::Open(address()));
+            show_address(piece);
+            return Ok(Next::Open);
         }
         if self.is_over(server) {
             self.stage = Stage::Ended;
@@ -202,9 +203,8 @@ fn offer<T: Write>(output: &mut T, bytes: &[u8]) -> Result<usize, Fault>
     }
 }
 
-/// Returns the address of the one client.
-fn address() -> Address {
-    let mut address = Address::new();
-    let _ = address.try_extend_from_slice(ADDRESS);
-    address
+/// Puts the address of the one client into the piece.
+fn show_address(piece: &mut Piece) {
+    piece.clear();
+    let _ = piece.try_extend_from_slice(ADDRESS);
 }

@@ -1,12 +1,7 @@
 //! The answers of a world.
 
-use arrayvec::ArrayVec;
 use nut_io::Piece;
 use nut_server::Config;
-use nut_server_spec::ADDRESS_MAX;
-
-/// The address of a client, as the world names it: at most [`ADDRESS_MAX`] bytes.
-pub type Address = ArrayVec<u8, ADDRESS_MAX>;
 
 /// What comes next. Connections and UPSes have the numbers that the server gave them. The number of a UPS is its place in
 /// ups.conf, counted from 0, until a reload.
@@ -14,8 +9,8 @@ pub type Address = ArrayVec<u8, ADDRESS_MAX>;
 pub enum Next {
     /// This many seconds have passed since the start. A time before the latest one leaves the clock as it is.
     Moment(u64),
-    /// A client connects from this address.
-    Open(Address),
+    /// A client connects from the address in the piece.
+    Open,
     /// The connection with this number sent the bytes in the piece.
     Bytes(u64),
     /// The connection with this number was closed, by its client or by the world.
@@ -41,7 +36,7 @@ pub enum Given {
     /// This many seconds have passed since the start.
     Moment(u64),
     /// A client connects from this address.
-    Open(Address),
+    Open(Piece),
     /// The connection with this number sends these bytes.
     Bytes(u64, Piece),
     /// The connection with this number is closed.

@@ -46,7 +46,8 @@ pub trait World {
     fn faults(&self) -> u64
         ensures { result ≡ fault_count self.now };
 
-    /// Returns the next arrival. The bytes of a `Next::Bytes` or a `Next::DriverBytes` are then in the piece.
+    /// Returns the next arrival. The bytes of a `Next::Bytes` or a `Next::DriverBytes`, or the address of a `Next::Open`, are
+    /// then in the piece.
     ///
     /// The caller asks only if each connection and each driver with waiting bytes is late, and each connection that is
     /// to be closed has been. The world gives bytes only of connections that may be read. Afterwards nobody is late.

@@ -149,11 +149,13 @@ impl Clients {
         self.second = self.second.saturating_add(1);
     }
 
-    /// Returns a client that has been silent for longer than it may, if there is one. Most calls look at none.
+    /// Whether a client can have been silent for longer than it may. Most calls say no, without a look at any.
+    pub fn may_be_silent(&self) -> bool {
+        self.second > self.patient
+    }
+
+    /// Returns a client that has been silent for longer than it may, if there is one.
     pub fn find_silent(&mut self, server: &Server) -> Option<Silent> {
-        if self.second <= self.patient {
-            return None;
-        }
         let mut patient = u64::MAX;
         for (_, client) in self.sockets.iter() {
             let seconds = client.patience(server, self.second);

@@ -89,6 +89,11 @@ impl Door {
         self.guest.is_some()
     }
 
+    /// Whether the server was told of a client, and nobody has asked since what became of it.
+    pub fn has_arrival(&self) -> bool {
+        self.arrival.is_some()
+    }
+
     /// Returns the address of a client of which the server hasn't been told, and is told now. `opened` is the number of
     /// connections opened before.
     pub fn announce(&mut self, opened: u64) -> Option<IpAddr> {

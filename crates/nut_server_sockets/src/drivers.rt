@@ -88,6 +88,11 @@ impl Drivers {
         self.by_number.as_slice()
     }
 
+    /// Whether there is a driver of the UPS with this number, and it isn't connected.
+    pub fn is_unconnected(&self, u: usize) -> bool {
+        matches!(self.by_number.get(u), Some(Some(driver)) if !driver.is_connected())
+    }
+
     /// Returns the driver of the UPS with this number, if there is one.
     pub fn get_mut(&mut self, u: usize) -> Option<&mut Driver> {
         match self.by_number.get_mut(u) {

@@ -1,9 +1,15 @@
 //! All sockets of a server, watched by one poll.
 
-ghost use Rattle.std.specs.Prelude.{◌≢◌, length, IfSome, IfOk};
+ghost use Rattle.std.specs.Prelude.{◌≡◌, ◌≢◌, ℕ, [], length, IfSome, IfOk, unwrap_or, false, None};
+ghost use Rattle.std.specs.declared.time.Duration.{Duration};
+ghost use Rattle.mio.specs.Events.{items};
 ghost use Rattle.nut_io.specs.Writes.{IsWithin};
+ghost use Rattle.nut_poll.specs.Moments.{Begins, IsTold};
+ghost use Rattle.nut_poll.specs.Queue.{Looks, all_joined, reported};
 ghost use Rattle.nut_server_loop.specs.Record.{MayCome};
 ghost use Rattle.nut_server_loop.specs.declared.types.Next.TheVariants as next;
+ghost use Rattle.nut_server_sockets.specs.declared.source.Source.TheVariants as source;
+ghost use Rattle.nut_server_sockets.specs.Turns.{Comes, ComesInTurn, IsGivenBy, is_piece, moment_of, token_of};
 ghost use Rattle.nut_server_spec.specs.Content.{Content};
 
 use crate::audit::{Audit, left};
@@ -17,11 +23,11 @@ use crate::reloader::Reloader;
 use crate::report::{End, Report};
 use crate::source::Source;
 use crate::stall::Stall;
-use mio::Events;
+use mio::{Events, Token};
 use nut_io::{Piece, Written};
 use nut_poll::{Heard, LookUps, Ready, Reports, Rounds, SOCKETS_MAX, may_be_read};
 use nut_server::{Config, Server, silence_before_ping};
-use nut_server_loop::{Address, Next};
+use nut_server_loop::Next;
 use std::alloc::Global;
 use std::io;
 use std::io::{ErrorKind, Write};
@@ -106,6 +112,7 @@ impl Sockets {
     ) -> io::Result<Next>
         ensures may { IfOk result (λ n. MayCome n server.now) }
         ensures goes_on { IfOk result (λ n. n ≢ next.End) }
+        ensures turns { IfOk result (λ n. ComesInTurn n self.old.rounds self.new.rounds) }
     {
         self.audit.tell(
             server,
@@ -117,7 +124,7 @@ impl Sockets {
         if let Some(number) = self.seat(server, &mut services.reports) {
             return Ok(Next::Close(number));
         }
-        if let Some(next) = self.admit(server, &mut services.reports) {
+        if let Some(next) = self.admit(server, piece, &mut services.reports) {
             return Ok(next);
         }
         if let Some(number) = self.shed(server, &mut services.reports) {
@@ -191,7 +198,20 @@ impl Sockets {
 
     /// Keeps the socket of a connection that the server accepted, and reports that it refused one. Returns the number of a
     /// connection that the server accepted and whose socket can't be kept.
-    fn seat(&mut self, server: &Server, reports: &mut Reports<'_>) -> Option<u64> {
+    fn seat(&mut self, server: &Server, reports: &mut Reports<'_>) -> Option<u64>
+        ensures { self.new.rounds ≡ self.old.rounds }
+    {
+        if !self.door.has_arrival() {
+            return None;
+        }
+        self.seat_arrival(server, reports)
+    }
+
+    /// Does what [`seat`](Self::seat) does. It stands apart, so that no other arrival pays for the place of a guest.
+    #[inline(never)]
+    fn seat_arrival(&mut self, server: &Server, reports: &mut Reports<'_>) -> Option<u64>
+        ensures { self.new.rounds ≡ self.old.rounds }
+    {
         match self.door.admission(server)? {
             Admission::Accepted(number, guest) => self.keep(number, guest, reports),
             Admission::Refused => {
@@ -202,7 +222,9 @@ impl Sockets {
     }
 
     /// Keeps the socket of a connection. Returns its number if that is impossible.
-    fn keep(&mut self, number: u64, guest: Guest, reports: &mut Reports<'_>) -> Option<u64> {
+    fn keep(&mut self, number: u64, guest: Guest, reports: &mut Reports<'_>) -> Option<u64>
+        ensures { self.new.rounds ≡ self.old.rounds }
+    {
         match self.clients.add(self.rounds.registry(), number, guest) {
             Ok(()) => {
                 self.hindrances.end();
@@ -217,29 +239,71 @@ impl Sockets {
 
     /// Has the server told of a client that was accepted. If the server is full, one that isn't logged in is closed first,
     /// so that nobody locks the monitors out; after a reload that lowered MAXCONN, one after the other is.
-    fn admit(&mut self, server: &Server, reports: &mut Reports<'_>) -> Option<Next>
+    fn admit(
+        &mut self,
+        server: &Server,
+        piece: &mut Piece,
+        reports: &mut Reports<'_>,
+    ) -> Option<Next>
         ensures may { IfSome result (λ n. MayCome n server.now) }
         ensures goes_on { IfSome result (λ n. n ≢ next.End) }
+        ensures none { IfSome result (λ n. (is_piece n ≡ false) × (moment_of n ≡ None)) }
+        ensures given { IfSome result (λ n. (token : ℕ) → IsGivenBy token n) }
+        ensures turns { self.new.rounds ≡ self.old.rounds }
     {
-        if self.door.has_guest()
-            && let Some(number) = server.makes_way()
-        {
+        if !self.door.has_guest() {
+            return None;
+        }
+        self.admit_guest(server, piece, reports)
+    }
+
+    /// Does what [`admit`](Self::admit) does, if a client was accepted. It stands apart as [`seat_arrival`](Self::seat_arrival).
+    #[inline(never)]
+    fn admit_guest(
+        &mut self,
+        server: &Server,
+        piece: &mut Piece,
+        reports: &mut Reports<'_>,
+    ) -> Option<Next>
+        ensures may { IfSome result (λ n. MayCome n server.now) }
+        ensures goes_on { IfSome result (λ n. n ≢ next.End) }
+        ensures none { IfSome result (λ n. (is_piece n ≡ false) × (moment_of n ≡ None)) }
+        ensures given { IfSome result (λ n. (token : ℕ) → IsGivenBy token n) }
+        ensures turns { self.new.rounds ≡ self.old.rounds }
+    {
+        if let Some(number) = server.makes_way() {
             self.turn_out(server, number, reports);
             return Some(Next::Close(number));
         }
         let address = self.door.announce(server.opened())?;
-        Some(Next::Open(address_of(address)))
+        show_address(address, piece);
+        Some(Next::Open)
     }
 
     /// Closes the socket of a connection to let another client in, and reports it.
-    fn turn_out(&mut self, server: &Server, number: u64, reports: &mut Reports<'_>) {
+    fn turn_out(&mut self, server: &Server, number: u64, reports: &mut Reports<'_>)
+        ensures { self.new.rounds ≡ self.old.rounds }
+    {
         if let Some(address) = self.clients.turn_out(number) {
             self.hindrances.tell_way(address, server, reports);
         }
     }
 
     /// Closes the socket of a client that was silent for too long. Returns the number of its connection.
-    fn shed(&mut self, server: &Server, reports: &mut Reports<'_>) -> Option<u64> {
+    fn shed(&mut self, server: &Server, reports: &mut Reports<'_>) -> Option<u64>
+        ensures { self.new.rounds ≡ self.old.rounds }
+    {
+        if !self.clients.may_be_silent() {
+            return None;
+        }
+        self.shed_silent(server, reports)
+    }
+
+    /// Does what [`shed`](Self::shed) does. It stands apart as [`seat_arrival`](Self::seat_arrival).
+    #[inline(never)]
+    fn shed_silent(&mut self, server: &Server, reports: &mut Reports<'_>) -> Option<u64>
+        ensures { self.new.rounds ≡ self.old.rounds }
+    {
         let silent = self.clients.find_silent(server)?;
         reports.tell(Report::Shed(silent.address, silent.seconds));
         self.drop_client(silent.number, reports);
@@ -247,7 +311,9 @@ impl Sockets {
     }
 
     /// Closes the socket of a client that hasn't logged out, and reports that if it was logged in.
-    fn drop_client(&mut self, number: u64, reports: &mut Reports<'_>) {
+    fn drop_client(&mut self, number: u64, reports: &mut Reports<'_>)
+        ensures { self.new.rounds ≡ self.old.rounds }
+    {
         if let Some(login) = self.clients.end_login(number) {
             reports.tell(left(&login));
         }
@@ -260,7 +326,9 @@ impl Sockets {
         server: &Server,
         reloader: &mut impl Reloader,
         reports: &mut Reports<'_>,
-    ) -> Option<Box<Config>> {
+    ) -> Option<Box<Config>>
+        ensures { self.new.rounds ≡ self.old.rounds }
+    {
         if !self.asks {
             return None;
         }
@@ -277,7 +345,9 @@ impl Sockets {
         server: &Server,
         reloader: &mut impl Reloader,
         reports: &mut Reports<'_>,
-    ) {
+    )
+        ensures { Comes self.old.rounds self.new.rounds }
+    {
         if self.has_given {
             self.has_given = false;
             reloader.tell(server, reports);
@@ -287,9 +357,11 @@ impl Sockets {
     }
 
     /// Has each driver that isn't connected dialled in this round.
-    fn call_drivers(&mut self) {
-        for (u, place) in self.drivers.as_slice().iter().enumerate() {
-            if matches!(place, Some(driver) if !driver.is_connected()) {
+    fn call_drivers(&mut self)
+        ensures { Comes self.old.rounds self.new.rounds }
+    {
+        for u in 0..self.drivers.len() {
+            if self.drivers.is_unconnected(u) {
                 self.rounds.ready.insert(Source::Driver(u).token());
             }
         }
@@ -306,31 +378,34 @@ impl Sockets {
     ) -> Option<Next>
         ensures may { IfSome result (λ n. MayCome n server.now) }
         ensures goes_on { IfSome result (λ n. n ≢ next.End) }
+        ensures turns { ComesInTurn (unwrap_or result next.Again) self.old.rounds self.new.rounds }
     {
         self.end_stall();
         for _ in 0..SOCKETS_MAX {
             let token = self.rounds.ready.take()?;
-            if let Some(next) = self.look_at(server, Source::of(token), piece, net, reports) {
+            if let Some(next) = self.look_at(server, token, piece, net, reports) {
                 return Some(next);
             }
         }
         None
     }
 
-    /// Looks at one source.
+    /// Looks at the source with this token.
     fn look_at(
         &mut self,
         server: &Server,
-        source: Source,
+        token: Token,
         piece: &mut Piece,
         net: &impl Net,
         reports: &mut Reports<'_>,
     ) -> Option<Next>
         ensures may { IfSome result (λ n. MayCome n server.now) }
         ensures goes_on { IfSome result (λ n. n ≢ next.End) }
+        ensures given { IfSome result (λ n. IsGivenBy token.0 n) }
+        ensures turns { Comes self.old.rounds self.new.rounds }
     {
-        match source {
-            Source::Listener(i) => self.look_at_listener(server, i, reports),
+        match Source::of(token) {
+            Source::Listener(i) => self.look_at_listener(server, i, piece, reports),
             Source::Driver(u) => self.look_at_driver(u, piece, net, reports),
             Source::Client(key) => self.look_at_client(server, key, piece, reports),
         }
@@ -338,14 +413,18 @@ impl Sockets {
 
     /// Accepts a client. If there is no memory or no descriptor for one, that is reported, whether or not a client waits,
     /// and tried again in the next second.
+    #[inline(never)]
     fn look_at_listener(
         &mut self,
         server: &Server,
         i: usize,
+        piece: &mut Piece,
         reports: &mut Reports<'_>,
     ) -> Option<Next>
         ensures may { IfSome result (λ n. MayCome n server.now) }
         ensures goes_on { IfSome result (λ n. n ≢ next.End) }
+        ensures given { IfSome result (λ n. (token : ℕ) → IsGivenBy token n) }
+        ensures turns { Comes self.old.rounds self.new.rounds }
     {
         if !self.clients.make_room() {
             self.hindrances
@@ -355,7 +434,7 @@ impl Sockets {
         match self.door.let_in(i) {
             Ok(()) => {
                 self.rounds.ready.insert(Source::Listener(i).token());
-                self.admit(server, reports)
+                self.admit(server, piece, reports)
             }
             Err(error) => {
                 if concerns_one(&error) {
@@ -369,6 +448,7 @@ impl Sockets {
     }
 
     /// Dials a driver that isn't connected, and reads from one that is.
+    #[inline(never)]
     fn look_at_driver(
         &mut self,
         u: usize,
@@ -378,6 +458,8 @@ impl Sockets {
     ) -> Option<Next>
         ensures may { (s : Content) → IfSome result (λ n. MayCome n s) }
         ensures goes_on { IfSome result (λ n. n ≢ next.End) }
+        ensures given { IfSome result (λ n. IsGivenBy (token_of (source.Driver u)) n) }
+        ensures turns { Comes self.old.rounds self.new.rounds }
     {
         let driver = self.drivers.get_mut(u)?;
         let source = Source::Driver(u);
@@ -416,6 +498,8 @@ impl Sockets {
     ) -> Option<Next>
         ensures may { IfSome result (λ n. MayCome n server.now) }
         ensures goes_on { IfSome result (λ n. n ≢ next.End) }
+        ensures given { IfSome result (λ n. IsGivenBy (token_of (source.Client key)) n) }
+        ensures turns { Comes self.old.rounds self.new.rounds }
     {
         let token = Source::Client(key).token();
         let number = self.clients.number(key)?;
@@ -443,7 +527,12 @@ impl Sockets {
 
     /// Waits until an event comes or a second is over, or not at all if there is more to look at, and begins the next
     /// round. Returns the number of seconds since the start, if one more is over.
-    fn wait(&mut self, clock: &impl Clock) -> io::Result<Option<u64>> {
+    fn wait(&mut self, clock: &impl Clock) -> io::Result<Option<u64>>
+        ensures turns { IfOk result (λ _. Looks [] self.old.rounds.ready self.new.rounds.ready) }
+        ensures second { IfOk result (λ moment. IsTold moment self.old.rounds.seconds.full self.new.rounds.seconds.full) }
+        ensures begins { IfOk result (λ moment. (passed : Duration) × Begins passed self.old.rounds.seconds.full self.old.rounds.fixed
+            moment (all_joined (reported (items self.new.rounds.events)) self.old.rounds.ready) self.new.rounds.ready) }
+    {
         self.rounds.wait()?;
         note(
             &self.rounds.events,
@@ -457,7 +546,9 @@ impl Sockets {
     /// Begins a second: the reloader is to be asked, and the drivers that aren't connected are to be dialled. If more than
     /// one second and more than a third of MAXAGE passed at once, the drivers are sent PING now, and clients wait until
     /// they have answered, two seconds at most.
-    fn begin_second(&mut self, server: &Server, moment: u64, reports: &mut Reports<'_>) {
+    fn begin_second(&mut self, server: &Server, moment: u64, reports: &mut Reports<'_>)
+        ensures { Comes self.old.rounds self.new.rounds }
+    {
         let passed = moment.saturating_sub(self.moment);
         self.moment = moment;
         self.clients.second();
@@ -479,7 +570,9 @@ impl Sockets {
     /// Reports the UPSes whose data have become stale in the last second or are no longer stale, and what their drivers
     /// said that can't be read. What passes within a second isn't told: the data of each driver are stale from its
     /// connection to the end of its first dump, and a driver that changed its mind with every line would fill the log.
-    fn tell_changes(&mut self, server: &Server, reports: &mut Reports<'_>) {
+    fn tell_changes(&mut self, server: &Server, reports: &mut Reports<'_>)
+        ensures { self.new.rounds ≡ self.old.rounds }
+    {
         for u in 0..self.drivers.len() {
             if let Some(driver) = self.drivers.get_mut(u) {
                 tell_staleness(driver, server.is_stale(u), reports);
@@ -491,7 +584,9 @@ impl Sockets {
     }
 
     /// Lets clients be read again, once each driver has said something.
-    fn end_stall(&mut self) {
+    fn end_stall(&mut self)
+        ensures { Comes self.old.rounds self.new.rounds }
+    {
         if self.stall.is_on() && !self.drivers.are_awaited() {
             self.stall.end(&mut self.rounds.ready);
         }
@@ -527,7 +622,9 @@ fn staleness(name: &str, is_stale: bool) -> Report<'_> {
 }
 
 /// Notes the events of the sockets.
-fn note(events: &Events, ready: &mut Ready, clients: &mut Clients, drivers: &mut Drivers) {
+fn note(events: &Events, ready: &mut Ready, clients: &mut Clients, drivers: &mut Drivers)
+    ensures { ready.new ≡ all_joined (reported (items events.now)) ready.old }
+{
     for event in events.iter() {
         match Source::of(event.token()) {
             Source::Listener(_) => {}
@@ -544,9 +641,8 @@ fn note(events: &Events, ready: &mut Ready, clients: &mut Clients, drivers: &mut
     }
 }
 
-/// Returns the address of a client as the server knows it.
-fn address_of(ip: IpAddr) -> Address {
-    let mut address = Address::new();
-    let _ = write!(&mut address, "{ip}");
-    address
+/// Puts the address of a client, as the server knows it, into the piece.
+fn show_address(address: IpAddr, piece: &mut Piece) {
+    piece.clear();
+    let _ = write!(piece, "{address}");
 }

@@ -1,5 +1,7 @@
 //! The sources: what the sockets of a server are for.
 
+ghost use Rattle.std.specs.Prelude.{◌≡◌};
+
 use mio::Token;
 use nut_conf::{LISTENERS_MAX, UPSES_MAX};
 
@@ -18,8 +20,12 @@ pub enum Source {
 }
 
 impl Source {
+    ghost use Rattle.nut_server_sockets.specs.Turns.{token_of};
+
     /// Returns the source with this token.
-    pub fn of(token: Token) -> Source {
+    pub fn of(token: Token) -> Source
+        ensures { token_of result ≡ token.0 }
+    {
         let Token(n) = token;
         if n < LISTENERS_MAX {
             Source::Listener(n)

@@ -1,5 +1,8 @@
 //! What is done first after the server itself was stopped.
 
+ghost use Rattle.std.specs.Prelude.{[]};
+ghost use Rattle.nut_poll.specs.Queue.{Looks};
+
 use mio::Token;
 use nut_poll::Ready;
 use std::alloc::{AllocError, Global};
@@ -39,7 +42,9 @@ impl Stall {
     }
 
     /// Counts a second that has passed. Ends the wait when its last second is over.
-    pub fn second(&mut self, ready: &mut Ready) {
+    pub fn second(&mut self, ready: &mut Ready)
+        ensures { Looks [] ready.old ready.new }
+    {
         if self.seconds == 1 {
             self.end(ready);
         }
@@ -57,7 +62,9 @@ impl Stall {
     }
 
     /// Ends the wait: each client that waited is to be looked at.
-    pub fn end(&mut self, ready: &mut Ready) {
+    pub fn end(&mut self, ready: &mut Ready)
+        ensures { Looks [] ready.old ready.new }
+    {
         self.seconds = 0;
         ready.append(&mut self.clients);
     }

@@ -1,16 +1,15 @@
 -- How a content changes with the bytes of a connection, line by line.
-use Rattle.std.proofs.Common.{◌≡◌, ℕ, zero, suc, true, false, eqb, List, [], ◌∷◌, map, length, refl, sym, ◌∙◌, ap, inl, inr, Option, Some, None}
+use Rattle.std.proofs.Common.{◌≡◌, ℕ, true, false, eqb, List, [], ◌∷◌, map, refl, sym, ◌∙◌, ap, inl, inr, Some}
 use Rattle.std.specs.Prelude.{if◌then◌else◌, option_map}
 use Rattle.std.proofs.lemmas.Bool.{cases_Bool}
 use Rattle.nut_words.specs.Lines.{LineText, Text, joined}
 use Rattle.nut_server_spec.specs.Command.{Command, command_of}
 use Rattle.nut_server_spec.specs.Effect.{target}
 use Rattle.nut_server_spec.specs.Answer.{Answer, Silence, answer}
-use Rattle.nut_server_spec.specs.Content.{Session, Supply, Content, numbering_of}
+use Rattle.nut_server_spec.specs.Content.{Session, Content, numbering_of}
 use Rattle.nut_server_spec.specs.Acceptance.{session_of}
 use Rattle.nut_server_spec.specs.Trace.{given_then}
-use Rattle.nut_server_spec.specs.machine.Machine.{update, update_at, with_rest, with_sessions, guest_of, caller_of, scene_of, answered, answer_in, act_on, acted, after_answer, line_heard, byte_heard, bytes_heard}
-use Rattle.nut_server_spec.specs.laws.Laws.{numbers}
+use Rattle.nut_server_spec.specs.machine.Machine.{update, with_rest, with_sessions, guest_of, caller_of, scene_of, answered, answer_in, act_on, acted, after_answer, line_heard, byte_heard}
 use Rattle.nut_server_spec.proofs.Sessions.{KeepsNumber, session_of-update}
 
 -- ---- updates of one session
@@ -77,61 +76,3 @@ byte_feed c b r s k found is =
     rw is (ap (λ o. line_heard c o (with_unfinished c r s)) there
     ∙ ap (λ reply. after_answer c (command_of r) reply (with_unfinished c r s)) (answer-unfinished c r s (command_of r) k)
     ∙ after-unfinished c r s (command_of r) (answer_in s (command_of r) k))
-
--- ---- what the bytes of a connection leave as it is
-
--- the configuration, the time, the numbers of the open connections, and the number of UPSes
-pub record LeavesFrame (before later : Content) : Type 0 where
-  pub configuration : later.configuration ≡ before.configuration
-  pub clock : later.clock ≡ before.clock
-  pub opened : later.opened ≡ before.opened
-  pub numbers : numbers later ≡ numbers before
-  pub supplies : length later.supplies ≡ length before.supplies
-
-length-update_at : (u : ℕ) (change : Supply → Supply) (supplies : List Supply) → length (update_at u change supplies) ≡ length supplies
-length-update_at u change [] = refl
-length-update_at zero change (d ∷ supplies) = refl
-length-update_at (suc u) change (d ∷ supplies) = ap suc (length-update_at u change supplies)
-
-length-act_on : (o : Option ℕ) (change : Supply → Supply) (supplies : List Supply) → length (act_on o change supplies) ≡ length supplies
-length-act_on None change supplies = refl
-length-act_on (Some u) change supplies = length-update_at u change supplies
-
-pub after_answer-leaves : (c : ℕ) (command : Command) (reply : Answer) (s : Content) → LeavesFrame s (after_answer c command reply s)
-after_answer-leaves c command reply s = record {
-  configuration = refl;
-  clock = refl;
-  opened = refl;
-  numbers = update-map (λ k. k.number) c (λ k. with_rest (Text []) (answered (numbering_of s) command reply k)) s.sessions (λ k. refl);
-  supplies = length-act_on (target (numbering_of s) command) (acted command reply) s.supplies;
-}
-
-line_heard-leaves : (c : ℕ) (o : Option Session) (s : Content) → LeavesFrame s (line_heard c o s)
-line_heard-leaves c None s = record { configuration = refl; clock = refl; opened = refl; numbers = refl; supplies = refl }
-line_heard-leaves c (Some k) s = after_answer-leaves c (command_of k.rest) (answer_in s (command_of k.rest) k) s
-
-byte_heard-leaves : (c b : ℕ) (s : Content) → LeavesFrame s (byte_heard c b s)
-byte_heard-leaves c b s =
-    elim (cases_Bool (eqb b 10)) [
-      | inl e ↦ rw e (line_heard-leaves c (session_of c s.sessions) s)
-      | inr e ↦ rw e (record {
-        configuration = refl;
-        clock = refl;
-        opened = refl;
-        numbers = update-map (λ k. k.number) c (λ k. with_rest (joined k.rest (b ∷ [])) k) s.sessions (λ k. refl);
-        supplies = refl;
-      })
-    ]
-
-pub bytes_heard-leaves : (c : ℕ) (piece : List ℕ) (s : Content) → LeavesFrame s (bytes_heard c piece s)
-bytes_heard-leaves c [] s = record { configuration = refl; clock = refl; opened = refl; numbers = refl; supplies = refl }
-bytes_heard-leaves c (b ∷ piece) s =
-    let one = byte_heard-leaves c b s in
-    let more = bytes_heard-leaves c piece (byte_heard c b s) in
-    record {
-      configuration = more.configuration ∙ one.configuration;
-      clock = more.clock ∙ one.clock;
-      opened = more.opened ∙ one.opened;
-      numbers = more.numbers ∙ one.numbers;
-      supplies = more.supplies ∙ one.supplies;
-    }

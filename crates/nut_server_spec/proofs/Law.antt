@@ -59,9 +59,6 @@ takes_of h c = taken c h
 abbrev pub reports_of : List Event → ℕ → LineText
 reports_of h u = rest (driver_input u h)
 
-pub content_is : (first : Configuration) (h : List Event) → content first h ≡ content_from first (past first h) (rests_of h) (takes_of h) (reports_of h)
-content_is first h = refl
-
 -- What the machine knows when it answers a line is what the history says.
 pub scene_is : (first : Configuration) (h : List Event) → scene_of (content first h) ≡ scene first (past first h)
 scene_is first h =

@@ -3,8 +3,7 @@ use Rattle.std.proofs.Common.{◌≡◌, ℕ, ◌+◌, ◌<◌, Bool, List, [], 
 use Rattle.std.proofs.lemmas.Bool.{cases_Bool}
 use Rattle.nut_server_spec.specs.laws.Laws.{IsBelow, IsRising, IsUpTo, numbers, NumbersRise}
 use Rattle.nut_server_spec.specs.Configuration.{Configuration}
-use Rattle.nut_server_spec.specs.Content.{Session, Content, content, session, past}
-use Rattle.nut_server_spec.specs.Acceptance.{Tells}
+use Rattle.nut_server_spec.specs.Content.{Session, content, session, past}
 use Rattle.nut_server_spec.specs.Event.{Event, Step, Clock, Opened, Said, Gone, Up, Reported, Drained, Down, Reloaded}
 use Rattle.nut_server_spec.specs.Trace.{Entry, opened, open_numbers, numbers_after, opened_after}
 
@@ -89,9 +88,3 @@ pub numbers-rise : NumbersRise
 numbers-rise first h =
     let P : List ℕ → Type 0 = λ ns. IsBelow 0 ns × IsRising ns × IsUpTo (opened (past first h)) ns in
     subst P (sym (numbers_are first h)) (open_numbers_above (past first h), open_numbers_rise (past first h), numbers_up_to (past first h))
-
--- The numbers of the connections that a server holds rise, too.
-pub numbers-rise_told : (first : Configuration) (h : List Event) (s : Content) → Tells first h s → IsBelow 0 (numbers s) × IsRising (numbers s) × IsUpTo s.opened (numbers s)
-numbers-rise_told first h s told =
-    let P : Content → Type 0 = λ x. IsBelow 0 (numbers x) × IsRising (numbers x) × IsUpTo x.opened (numbers x) in
-    subst P (sym told.1) (numbers-rise first h)

@@ -8,7 +8,7 @@ use Rattle.nut_server_spec.specs.Configuration.{Configuration}
 use Rattle.nut_server_spec.specs.Event.{Event, Moment, Open, Bytes, Took, Close, WriteFailed, DriverUp, DriverBytes, DriverTook, DriverDown, Reload, Step, Said, Reported, with_lines, with_reports}
 use Rattle.nut_server_spec.specs.Trace.{configuration, connected, numbers, opened, open_numbers, trace}
 use Rattle.nut_server_spec.specs.Content.{Session, Content, past, content, session, numbering_of, down, fresh}
-use Rattle.nut_server_spec.specs.Acceptance.{refusal, Tells, session_of, supply_of, bytes_refusal, took_refusal, close_refusal, waiting_of, asks_of}
+use Rattle.nut_server_spec.specs.Acceptance.{refusal, session_of, supply_of, bytes_refusal, took_refusal, close_refusal, waiting_of, asks_of}
 use Rattle.nut_server_spec.specs.machine.Machine.{advance, bytes_reported, up, drained}
 use Rattle.nut_server_spec.specs.laws.Laws.{IsUpTo, IsOther, closes, connection_of, driver_of, OthersStay, OtherDriversStay, OpenedIsFresh, ClosedStaysClosed}
 use Rattle.nut_server_spec.specs.Numbering.{fate_of, is_to_cleared}
@@ -70,12 +70,6 @@ advance-other_driver s (Reload k) u v is differ = cc
 advance-other_driver s (DriverDown w) u v is differ = supply_of-update_other w u down s.supplies (turned w u v is differ)
 
 -- how each event changes its own UPS
-pub advance-driver_up : (s : Content) (u : ℕ) → supply_of u (advance s (DriverUp u)).supplies ≡ option_map (up s.clock) (supply_of u s.supplies)
-advance-driver_up s u = supply_of-update u (up s.clock) s.supplies
-
-pub advance-driver_bytes : (s : Content) (u : ℕ) (piece : List ℕ) → supply_of u (advance s (DriverBytes u piece)).supplies ≡ option_map (bytes_reported s.clock piece) (supply_of u s.supplies)
-advance-driver_bytes s u piece = supply_of-update u (bytes_reported s.clock piece) s.supplies
-
 pub advance-driver_took : (s : Content) (u n : ℕ) → asks_of u (advance s (DriverTook u n)).supplies ≡ drop n (asks_of u s.supplies)
 advance-driver_took s u n = asks_of-drained u n s.supplies
 
@@ -104,12 +98,6 @@ pub advance-open : (first : Configuration) (h : List Event) (address : List ℕ)
 advance-open first h address =
     let s = content first h in
     session_of-push (s.opened + 1) (fresh (s.opened + 1) address) s.sessions (none_unopened first h (s.opened + 1) (omega arith)) refl
-
-pub advance-open_told : (first : Configuration) (h : List Event) (s : Content) (address : List ℕ) → Tells first h s
-    → session_of (s.opened + 1) (advance s (Open address)).sessions ≡ Some (fresh (s.opened + 1) address)
-advance-open_told first h s address told =
-    let P : Content → Type 0 = λ x. session_of (x.opened + 1) (advance x (Open address)).sessions ≡ Some (fresh (x.opened + 1) address) in
-    subst P (sym told.1) (advance-open first h address)
 
 pub opened-fresh : OpenedIsFresh
 opened-fresh first h address accepted =

@@ -136,9 +136,6 @@ law-bytes first h c (b ∷ piece) covered drivers there =
 
 -- ---- a driver's bytes
 
-reports_other : (h : List Event) (u : ℕ) (piece : List ℕ) (d : ℕ) → eqb d u ≡ false → reports_of (DriverBytes u piece ∷ h) d ≡ reports_of h d
-reports_other h u piece d differ = rw (eqb_turn d u differ) refl
-
 reports_self : (h : List Event) (u : ℕ) (piece : List ℕ) → reports_of (DriverBytes u piece ∷ h) u ≡ rest (driver_input u h ++ piece)
 reports_self h u piece = rw (eq-eqb u u refl) refl
 

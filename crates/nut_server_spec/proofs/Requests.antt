@@ -1,5 +1,5 @@
 -- A client's request to a driver fits behind what waits for the driver.
-use Rattle.std.proofs.Common.{◌≡◌, ℕ, ◌+◌, ◌≤◌, Bool, true, false, List, refl, sym, ◌∙◌, ap, arith, subst, Option, Some, None}
+use Rattle.std.proofs.Common.{◌≡◌, ℕ, ◌+◌, ◌≤◌, Bool, true, false, List, refl, sym, ◌∙◌, ap, arith, Option, Some, None}
 use Rattle.std.specs.Prelude.{if◌then◌else◌, nat_lt}
 use Rattle.std.proofs.lemmas.Bool.{ltb-true}
 use Rattle.nut_proto.specs.declared.refusal.Refusal.{Refusal}
@@ -14,7 +14,7 @@ use Rattle.nut_server_spec.specs.Configuration.{User, user_named, may_command}
 use Rattle.nut_server_spec.specs.Command.{Command, Asks}
 use Rattle.nut_server_spec.specs.Device.{Device, trouble, fits}
 use Rattle.nut_server_spec.specs.Answer.{Answer, Silence, Scene, Caller, refused, require, check, unless, with_credentials, with_right, on_data, device_at, has_right, may_set, misfit, parameter_misfit, numbered, accepted, handed_on, set_answer, command_answer, answer, ups_number, numbering_in}
-use Rattle.nut_server_spec.specs.Effect.{number_in, target, request_of}
+use Rattle.nut_server_spec.specs.Effect.{target, request_of}
 
 -- ---- what holds of every refusal, and of the next step of a test, holds of the answer
 
@@ -111,28 +111,3 @@ asked-fits s k (Asks (requests.InstCmd a b c)) v false goal line is = command-fi
 asked-fits s k command v out goal line is = cc
 
 -- ---- a number in an answer is the next one
-
-abbrev IsFresh : Scene → Answer → Type 0
-IsFresh s reply = (number : ℕ) → number_in reply ≡ Some number → (number ≡ s.given + 1) × (number ≤ TRACKING_NUMBER_MAX)
-
-fresh-accepted : (s : Scene) (number : Option ℕ) → IsNext s number → IsFresh s (accepted number)
-fresh-accepted s None next n is = cc
-fresh-accepted s (Some number) next n is =
-    let same : number ≡ n = cc in
-    subst (λ m. (m ≡ s.given + 1) × (m ≤ TRACKING_NUMBER_MAX)) same next
-
-fresh-set : (s : Scene) (k : Caller) (ups name value : List ℕ) → IsFresh s (answer s k (Asks (requests.SetVar ups name value)))
-fresh-set s k ups name value =
-    with_right-case (IsFresh s) s k may_set ups (λ u. on_data s u (λ d. set_answer s k d name value)) (λ r n bad. cc) (λ u found.
-    unless-case (IsFresh s) (trouble s.configuration.max_age s.clock (device_at s u)) (set_answer s k (device_at s u) name value) (λ r n bad. cc)
-    (require-case (IsFresh s) refusals.VarNotSupported (variable (device_at s u).table name) _ (λ n bad. cc) (λ entry there.
-    unless-case (IsFresh s) (misfit entry value) _ (λ r n bad. cc)
-    (handed_on-case (IsFresh s) refusals.SetFailed s k (λ number. asks.Set name value number) (device_at s u) (λ n bad. cc) (λ number next holds. fresh-accepted s number next)))))
-
-fresh-command : (s : Scene) (k : Caller) (ups name : List ℕ) (parameter : Option (List ℕ)) → IsFresh s (answer s k (Asks (requests.InstCmd ups name parameter)))
-fresh-command s k ups name parameter =
-    with_right-case (IsFresh s) s k (may_command name) ups (λ u. on_data s u (λ d. command_answer s k d name parameter)) (λ r n bad. cc) (λ u found.
-    unless-case (IsFresh s) (trouble s.configuration.max_age s.clock (device_at s u)) (command_answer s k (device_at s u) name parameter) (λ r n bad. cc)
-    (check-case (IsFresh s) refusals.CmdNotSupported (has_command (device_at s u).table name) _ (λ n bad. cc) (λ there.
-    unless-case (IsFresh s) (parameter_misfit parameter) _ (λ r n bad. cc)
-    (handed_on-case (IsFresh s) refusals.InstCmdFailed s k (λ number. asks.InstCmd name parameter number) (device_at s u) (λ n bad. cc) (λ number next holds. fresh-accepted s number next)))))

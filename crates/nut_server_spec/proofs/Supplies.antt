@@ -27,14 +27,6 @@ pub bytes_reported-connected : (time : ℕ) (piece : List ℕ) (d : Supply) → 
 bytes_reported-connected time [] d = refl
 bytes_reported-connected time (b ∷ piece) d = bytes_reported-connected time piece (byte_reported time b d) ∙ byte_reported-connected time b d
 
--- A driver's lines leave what waits for it as it is.
-pub byte_reported-waits : (time b : ℕ) (d : Supply) → (byte_reported time b d).device.waits ≡ d.device.waits
-byte_reported-waits time b d = elim (cases_Bool (eqb b 10)) [ inl e ↦ rw e refl | inr e ↦ rw e refl ]
-
-pub bytes_reported-waits : (time : ℕ) (piece : List ℕ) (d : Supply) → (bytes_reported time piece d).device.waits ≡ d.device.waits
-bytes_reported-waits time [] d = refl
-bytes_reported-waits time (b ∷ piece) d = bytes_reported-waits time piece (byte_reported time b d) ∙ byte_reported-waits time b d
-
 -- what waits for a driver after n bytes were taken
 pub asks_of-drained : (u n : ℕ) (supplies : List Supply) → asks_of u (update_at u (drained n) supplies) ≡ drop n (asks_of u supplies)
 asks_of-drained u n supplies = ap asks_in (supply_of-update u (drained n) supplies) ∙ found (supply_of u supplies) where

@@ -1,5 +1,5 @@
 -- What a search by name, and an edit at its place, do to a list that ascends by name.
-use Rattle.std.proofs.Common.{◌≡◌, ℕ, zero, suc, ◌<◌, ◌≤◌, List, [], ◌∷◌, ◌++◌, Bool, Some, None, Ok, Err, Result, length, get_or, take, drop, map, refl, ap, subst, ◌∙◌, arith, add-one}
+use Rattle.std.proofs.Common.{◌≡◌, ℕ, zero, suc, ◌<◌, ◌≤◌, List, [], ◌∷◌, ◌++◌, Bool, Some, None, Ok, Err, Result, length, get_or, take, drop, map, refl, sym, ap, subst, ◌∙◌, arith, add-one}
 use Rattle.std.specs.Prelude.{filter, slice_set, MatchResult}
 use Rattle.std.specs.List.{find, AllByRecursion}
 use Rattle.std.specs.List.Sorted.{IsBinarySearchResult, IsSortedBy}
@@ -133,6 +133,11 @@ module _ {X : Type 0} (name_of : X → List ℕ) where
         replaced = λ new. (λ j. parts.0 j ++ (new ∷ parts.1 j)) ∙ set_parts xs i new l;
         removed = λ j. parts.0 j ++ parts.1 j;
       }
+
+  -- The element at this place has the name.
+  pub found_there : (name : List ℕ) (xs : List X) (i : ℕ) (x : X) → IsAscending (map name_of xs) → (i < length xs) × ((d : X) → x ≡ get_or xs i d) → name_of x ≡ name → IsFound name_of name xs i
+  found_there name xs i x up there is =
+      found name xs i up there.0 (λ d. ap (λ y. name_cmp (name_of y) name) (sym (there.1 d)) ∙ ap (λ n. name_cmp n name) is ∙ name_itself name)
 
   pub free : (name : List ℕ) (xs : List X) (i : ℕ) → i ≤ length xs
       → ((k : ℕ) (d : X) → k < i → name_cmp (name_of (get_or xs k d)) name ≡ Less)

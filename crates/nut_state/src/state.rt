@@ -16,7 +16,7 @@ ghost use Rattle.nut_words.specs.Reader.{has_backslash};
 use crate::heard::{Heard, StateFault};
 use crate::limits::{COMMANDS_MAX, VARIABLES_MAX};
 use crate::number::Range;
-use crate::sorted::{place_of_command, place_of_variable};
+use crate::sorted::{place_of_command, place_of_likely, place_of_variable};
 use crate::text::{Name, Text, is_name};
 use crate::variable::{Flags, Variable};
 use crate::verb::Verb;
@@ -385,6 +385,17 @@ impl UpsState {
     {
         match place_of_variable(&self.variables, name) {
             Ok(place) => Some(&self.variables[place]),
+            Err(_) => None,
+        }
+    }
+
+    /// Returns the variable with this name and its place, if there is one. If it is at the place `likely` or behind it, that takes
+    /// no search.
+    pub fn find_variable(&self, likely: usize, name: &[u8]) -> Option<(usize, &Variable)>
+        ensures { MatchOption result (variable self.now name.now ≡ None) (λ found. variable self.now name.now ≡ Some found.1.now) }
+    {
+        match place_of_likely(&self.variables, likely, name) {
+            Ok(place) => Some((place, &self.variables[place])),
             Err(_) => None,
         }
     }

@@ -1,5 +1,5 @@
 -- What upsmon did, with a halt in the end.
-use Rattle.std.proofs.Common.{◌≡◌, ℕ, Bool, true, false, ◌||◌, List, Option, Some, None, IfSome, if◌then◌else◌, refl, sym, subst}
+use Rattle.std.proofs.Common.{◌≡◌, ℕ, Bool, true, false, List, Option, Some, None, IfSome, if◌then◌else◌, refl, sym, subst}
 use Rattle.nut_conf.specs.declared.upsmon.UpsmonConf.{UpsmonConf}
 use Rattle.nut_conf.specs.declared.notice.NoticeFlags.{NoticeFlags}
 use Rattle.nut_conf.specs.Upsmon.{flags_of}
@@ -7,7 +7,7 @@ use Rattle.nut_monitor.specs.Texts.{text_of}
 use Rattle.nut_monitor_spec.specs.declared.Notice.{Notice}
 use Rattle.nut_monitor_spec.specs.declared.Phase.TheVariants.{Halted}
 use Rattle.nut_upsmon.specs.declared.beginning.Beginning.{Beginning}
-use Rattle.nut_upsmon.specs.Acts.{Act, TriedFlag, RanShutdown, does, printed, called, told_by, told, IsHalted, Says}
+use Rattle.nut_upsmon.specs.Acts.{Act, TriedFlag, RanShutdown, does, printed, called, is_to_call, is_to_print, told_by, told, IsHalted, Says}
 use Rattle.nut_upsmon.specs.inside.Ready.{IsReady}
 
 -- the halt of the configuration in force
@@ -22,10 +22,6 @@ halted (Some acts) log' next config false ready says same =
 
 -- ---- a notice
 
-choice_ready : (b : Bool) (x y : Option (List Act)) (next : Option Beginning) (config : UpsmonConf) → IsReady x next config → IsReady y next config → IsReady (if b then x else y) next config
-choice_ready true x y next config ready other = ready
-choice_ready false x y next config ready other = other
-
 printed_ready : (b : Bool) (text : List ℕ) (log : Option (List Act)) (next : Option Beginning) (config : UpsmonConf) → IsReady log next config → IsReady (printed b text log) next config
 printed_ready false text log next config ready = ready
 printed_ready true text None next config ready = tt
@@ -38,8 +34,7 @@ called_ready true notice text (Some acts) next config ready = ((tt, ready.0), re
 
 by_ready : (flags : NoticeFlags) (notice : Notice) (text : List ℕ) (log : Option (List Act)) (next : Option Beginning) (config : UpsmonConf) → IsReady log next config → IsReady (told_by flags notice text log) next config
 by_ready flags notice text log next config ready =
-    choice_ready flags.ignore log _ next config ready
-    (called_ready flags.exec notice text _ next config (printed_ready (flags.syslog || flags.wall) text log next config ready))
+    called_ready (is_to_call flags) notice text _ next config (printed_ready (is_to_print flags) text log next config ready)
 
 -- a notice is no part of a halt, and changes nothing of what is in force
 pub told_ready : (log log' : Option (List Act)) (next next' : Option Beginning) (config other : UpsmonConf) (notice : Notice) → log' ≡ told other notice log → next' ≡ next

@@ -1,2 +1,3 @@
 mod Lines
 pub mod Acted
+pub mod Coursing

@@ -1,5 +1,5 @@
 -- What upsmon does to its machine.
-use Rattle.std.specs.Prelude.{◌≡◌, ℕ, Bool, ◌||◌, List, [], ◌∷◌, ◌++◌, if◌then◌else◌, Option, Some, None, option_map}
+use Rattle.std.specs.Prelude.{◌≡◌, ℕ, Bool, ◌||◌, ◌&&◌, not, List, [], ◌∷◌, ◌++◌, if◌then◌else◌, Option, Some, None, option_map}
 use Rattle.std.specs.List.{AllByRecursion}
 use Rattle.nut_conf.specs.declared.notice.NoticeFlags.{NoticeFlags}
 use Rattle.nut_conf.specs.declared.upsmon.UpsmonConf.{UpsmonConf}
@@ -37,11 +37,17 @@ printed is_wanted text acts = if is_wanted then does (Printed text) acts else ac
 abbrev pub called : Bool → Notice → List ℕ → Option (List Act) → Option (List Act)
 called is_wanted notice text acts = if is_wanted then does (Called notice text) acts else acts
 
--- a history after a notice with these flags and this text: IGNORE keeps it from all; SYSLOG or WALL has it printed, and
--- EXEC has NOTIFYCMD run with it
+-- a notice with these flags is printed
+abbrev pub is_to_print : NoticeFlags → Bool
+is_to_print flags = not flags.ignore && (flags.syslog || flags.wall)
+
+-- NOTIFYCMD is run with it
+abbrev pub is_to_call : NoticeFlags → Bool
+is_to_call flags = not flags.ignore && flags.exec
+
+-- a history after a notice with these flags and this text
 abbrev pub told_by : NoticeFlags → Notice → List ℕ → Option (List Act) → Option (List Act)
-told_by flags notice text acts =
-    if flags.ignore then acts else called flags.exec notice text (printed (flags.syslog || flags.wall) text acts)
+told_by flags notice text acts = called (is_to_call flags) notice text (printed (is_to_print flags) text acts)
 
 -- a history after a notice of a monitor with this configuration
 abbrev pub told : UpsmonConf → Notice → Option (List Act) → Option (List Act)

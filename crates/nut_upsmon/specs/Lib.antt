@@ -1,3 +1,4 @@
 pub mod Stopping
 pub mod Acts
+pub mod Course
 pub mod inside

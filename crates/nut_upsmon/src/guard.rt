@@ -1,15 +1,17 @@
 //! Has an actor do what a monitor decides.
 
-ghost use Rattle.std.specs.Prelude.{◌≡◌, Some, None, IfOk, OnOk, OnErr, if◌then◌else◌};
+ghost use Rattle.std.specs.Prelude.{◌≡◌, Some, None, option_map, IfOk, OnOk, OnErr, if◌then◌else◌};
 ghost use Rattle.nut_conf.specs.declared.upsmon.UpsmonConf.{UpsmonConf};
-ghost use Rattle.nut_upsmon.specs.Acts.{does, told, Readied, Changed, TriedFlag, RanShutdown};
-ghost use Rattle.nut_upsmon.specs.inside.Ready.{IsReady};
+ghost use Rattle.nut_upsmon.specs.Acts.{does, is_to_call, is_to_print, told, Readied, Changed, Says, TriedFlag, RanShutdown};
+ghost use Rattle.nut_upsmon.specs.Course.{tellings};
+ghost use Rattle.nut_upsmon.specs.inside.Ready.{Follows, HaltsAsSaid, IsReady};
+ghost use Rattle.nut_upsmon.specs.inside.Telling.{Tells, tells_on, tells_self};
 
 use crate::actor::Actor;
 use crate::beginning::Beginning;
 use crate::halt::HaltFault;
-use nut_conf::UpsmonConf;
-use nut_monitor::{Monitor, Notice};
+use nut_conf::{NoticeFlags, UpsmonConf};
+use nut_monitor::{Monitor, Notice, Phase};
 use nut_monitor_sockets::Herald;
 use std::alloc::AllocError;
 use std::io;
@@ -21,6 +23,15 @@ pub struct Guard<A> {
     pub actor: A,
     /// What the next watch begins with, if the actor is ready for it: then this one ends.
     pub next: Option<Beginning>,
+}
+
+/// What follows a watch.
+#[derive(Drop)]
+pub enum After {
+    /// The machine was halted, or why it wasn't.
+    Halt(Result<(), HaltFault>),
+    /// Another watch, which begins with this.
+    Watch(Beginning),
 }
 
 impl<A: Actor> Guard<A> {
@@ -47,12 +58,32 @@ impl<A: Actor> Guard<A> {
         Ok(())
     }
 
+    /// Does what a watch asks for that ended in this phase: has the actor halt the machine, or halt and tell by the next
+    /// configuration.
+    ///
+    /// # Errors
+    ///
+    /// `Other` if the machine hasn't to be halted, and there is no next configuration.
+    pub fn follow(&mut self, phase: Phase) -> io::Result<After>
+        ensures ok { (config : UpsmonConf) → IsReady (A.log self.old.actor) self.old.next config → Says config phase
+            → IfOk result (Follows (A.log self.new.actor) self.new.next) }
+        ensures halts { IfOk result (HaltsAsSaid phase) }
+        ensures told { option_map tellings (A.log self.new.actor) ≡ option_map tellings (A.log self.old.actor) }
+        ensures err { OnErr result (A.log self.new.actor ≡ A.log self.old.actor) }
+    {
+        match phase {
+            Phase::Halted { flag } => Ok(After::Halt(self.halt(flag))),
+            // The watch has ended for another one.
+            Phase::Watching | Phase::Forcing | Phase::Final => Ok(After::Watch(self.change()?)),
+        }
+    }
+
     /// Has the actor halt and tell by the next configuration. Returns what its watch begins with.
     ///
     /// # Errors
     ///
     /// `Other` if there is none.
-    pub fn change(&mut self) -> io::Result<Beginning>
+    fn change(&mut self) -> io::Result<Beginning>
         ensures ok { IfOk result (λ next. (self.old.next ≡ Some next) × (A.log self.new.actor ≡ does Changed (A.log self.old.actor))) }
         ensures err { OnErr result (A.log self.new.actor ≡ A.log self.old.actor) }
         ensures next { self.new.next ≡ None }
@@ -71,7 +102,7 @@ impl<A: Actor> Guard<A> {
     /// # Errors
     ///
     /// Why the machine wasn't halted.
-    pub fn halt(&mut self, is_flagged: bool) -> Result<(), HaltFault>
+    fn halt(&mut self, is_flagged: bool) -> Result<(), HaltFault>
         ensures { A.log self.new.actor
             ≡ does RanShutdown (if is_flagged then does TriedFlag (A.log self.old.actor) else A.log self.old.actor) }
     {
@@ -83,11 +114,11 @@ impl<A: Actor> Guard<A> {
 }
 
 impl<A: Actor> Herald for Guard<A> {
-    ghost reached = { λ a b. (config : UpsmonConf) → IsReady (A.log a.actor) a.next config → IsReady (A.log b.actor) b.next config };
+    ghost told = { λ config a b given. Tells config (A.log a.actor) a.next (A.log b.actor) b.next given };
 
-    ghost reached_self = { λ g config ready. ready };
+    ghost told_self = { λ config g. tells_self config (A.log g.actor) g.next };
 
-    ghost reached_on = { λ a b c first second config ready. second config (first config ready) };
+    ghost told_on = { λ config a b c xs ys. tells_on config (A.log a.actor) (A.log b.actor) (A.log c.actor) a.next b.next c.next xs ys };
 
     fn announce(&mut self, monitor: &Monitor, notice: Notice) {
         tell(&mut self.actor, monitor, notice);
@@ -107,13 +138,24 @@ pub fn tell<A: Actor>(actor: &mut A, monitor: &Monitor, notice: Notice)
 {
     actor.note(monitor, notice);
     let flags = monitor.config().flags(notice.kind);
-    if flags.ignore {
-        return;
-    }
-    if flags.syslog || flags.wall {
+    if is_to_print(flags) {
         actor.print(monitor, notice);
     }
-    if flags.exec {
+    if is_to_call(flags) {
         actor.call(monitor, notice);
     }
+}
+
+/// Whether a notice with these flags is printed.
+fn is_to_print(flags: NoticeFlags) -> bool
+    ensures { result ≡ is_to_print flags }
+{
+    !flags.ignore && (flags.syslog || flags.wall)
+}
+
+/// Whether NOTIFYCMD is run with a notice that has these flags.
+fn is_to_call(flags: NoticeFlags) -> bool
+    ensures { result ≡ is_to_call flags }
+{
+    !flags.ignore && flags.exec
 }

@@ -1,7 +1,8 @@
 //! What the machines of a room have to set so that it stops in time.
 
-ghost use Rattle.std.specs.Prelude.{◌≡◌, ◌<◌, ◌==◌, ◌^◌, false, length};
+ghost use Rattle.std.specs.Prelude.{◌≡◌, ◌+◌, ◌<◌, ◌==◌, ◌^◌, false, length};
 ghost use Rattle.nut_monitor_spec.specs.Configuration.{configuration_of};
+ghost use Rattle.nut_in_time.specs.InTime.{seen_by};
 ghost use Rattle.nut_in_time.specs.Room.{accepted_in, forced_in, host_sync_for, other_halted_in};
 ghost use Rattle.nut_upsmon.specs.Stopping.{prompt};
 
@@ -331,10 +332,7 @@ fn host_sync_for(primary: &Machine<'_>, other: &Machine<'_>) -> u64
     ensures { result ≡ host_sync_for (configuration_of primary.now.config) (prompt primary.now.delay) false
         (configuration_of other.now.config) (prompt other.now.delay) 1 }
 {
-    accepts_within(primary)
-        + DRIFT
-        + seen_within(&other.config, other.delay)
-        + halts_within(&other.config).saturating_sub(1)
+    accepts_within(primary) + sees_within(other) + halts_within(&other.config).saturating_sub(1)
 }
 
 /// Returns the most seconds from the beginning of a primary's shutdown until FSD is accepted for each of its UPSes.
@@ -355,10 +353,15 @@ fn other_halted_within(primary: &Machine<'_>, other: &Machine<'_>) -> u64
     ensures { result ≡ other_halted_in (configuration_of primary.now.config) (prompt primary.now.delay)
         (configuration_of other.now.config) (prompt other.now.delay) 1 }
 {
-    forces_within(primary)
-        + DRIFT
-        + seen_within(&other.config, other.delay)
-        + halts_within(&other.config).max(1)
+    forces_within(primary) + sees_within(other) + halts_within(&other.config).max(1)
+}
+
+/// Returns the most seconds from OB and LB until a machine knows it, by the clock of another.
+fn sees_within(machine: &Machine<'_>) -> u64
+    ensures seconds { result ≡ 1 + seen_by (configuration_of machine.now.config) (prompt machine.now.delay) 0 }
+    ensures fits { result < 2 ^ 34 }
+{
+    DRIFT + seen_within(&machine.config, machine.delay)
 }
 
 /// Returns the most seconds from OB and LB until FSD is accepted for each UPS of a primary.

@@ -1,17 +1,21 @@
 //! Watches one configuration after the other.
 
-ghost use Rattle.std.specs.Prelude.{◌≡◌, [], None, IfOk, IfSome, OnOk, OnErr};
+ghost use Rattle.std.specs.Prelude.{◌≡◌, ◌<◌, ◌-◌, ◌^◌, List, [], None, IfOk, IfSome, OnOk, OnErr};
 ghost use Rattle.std.specs.List.{AllByRecursion};
-ghost use Rattle.nut_conf.specs.declared.upsmon.UpsmonConf.{UpsmonConf};
+ghost use Rattle.nut_monitor_spec.specs.Configuration.{configuration_of};
+ghost use Rattle.nut_monitor_spec.specs.Content.{content};
+ghost use Rattle.nut_monitor_loop.specs.Record.{Entry};
 ghost use Rattle.nut_upsmon.specs.Acts.{IsQuiet, IsHalted, Says};
+ghost use Rattle.nut_upsmon.specs.Course.{IsCourse, IsCourseToHalt};
 ghost use Rattle.nut_upsmon.specs.inside.Ready.{IsReady};
+ghost use Rattle.nut_upsmon.specs.inside.Telling.{IsWhole, TellsWatch};
 
 use crate::actor::Actor;
 use crate::beginning::Beginning;
-use crate::guard::Guard;
+use crate::guard::{After, Guard};
 use crate::halt::HaltFault;
-use nut_monitor::Phase;
-use nut_monitor_loop::watch;
+use nut_monitor::{Monitor, Phase};
+use nut_monitor_loop::{MonWorld, watch};
 use nut_monitor_sockets::MioMonWorld;
 use nut_poll::{ErrorLines, Reports};
 use std::alloc::Global;
@@ -65,7 +69,7 @@ where
 ///
 /// SHUTDOWNCMD is run if and only if the monitor of the configuration in force said that the machine has to be halted:
 /// once, as the last act, and it is that of this configuration. POWERDOWNFLAG is tried before, if and only if the
-/// monitor said so, and whatever becomes of it.
+/// monitor said so, and whatever becomes of it. What is told are the notices of one watch after the other.
 ///
 /// # Errors
 ///
@@ -82,6 +86,7 @@ where
     requires next { world.old.herald.next ≡ None }
     ensures halted { OnOk result (IfSome (A.log world.new.herald.actor) IsHalted) }
     ensures failed { OnErr result (IfSome (A.log world.new.herald.actor) (AllByRecursion IsQuiet)) }
+    ensures told { OnOk result (IsCourseToHalt (A.log world.new.herald.actor)) }
 {
     world.herald.begin(first.config())?;
     watch_all(rt, world, first)
@@ -96,27 +101,26 @@ fn watch_all<'r, 'e, R, A>(
 where
     R: Wait + Net + Clock + Processes,
     A: Actor,
-    requires { IsReady (A.log world.old.herald.actor) world.old.herald.next first.monitor.config }
+    requires ready { IsReady (A.log world.old.herald.actor) world.old.herald.next first.monitor.config }
+    requires course { IsCourse (A.log world.old.herald.actor) }
     ensures halted { OnOk result (IfSome (A.log world.new.herald.actor) IsHalted) }
     ensures failed { OnErr result (IfSome (A.log world.new.herald.actor) (AllByRecursion IsQuiet)) }
+    ensures told { OnOk result (IsCourseToHalt (A.log world.new.herald.actor)) }
 {
     let mut beginning = first;
     for _ in rt.forever() {
-        match watch_once(rt, world, beginning)? {
-            Phase::Halted { flag } => {
-                // This machine is logged out before it halts, so that no primary waits for it.
-                world.leave();
-                return Ok(world.herald.halt(flag));
-            }
-            // The watch has ended for another one.
-            Phase::Watching | Phase::Forcing | Phase::Final => beginning = world.herald.change()?,
+        let phase = watch_once(rt, world, beginning)?;
+        match world.herald.follow(phase)? {
+            After::Halt(halted) => return Ok(halted),
+            After::Watch(next) => beginning = next,
         }
     }
     unreachable!()
 }
 
 /// Makes the links of a watch, and watches until the machine has to be halted, or until another watch has its beginning.
-/// Returns what the monitor says then.
+/// Returns what the monitor says then. A machine that has to be halted is logged out before, so that no primary waits for
+/// it.
 ///
 /// # Errors
 ///
@@ -130,11 +134,30 @@ where
     R: Wait + Net + Clock + Processes,
     A: Actor,
     ensures says { IfOk result (λ phase. Says beginning.monitor.config phase) }
-    ensures ready { (config : UpsmonConf) → IsReady (A.log world.old.herald.actor) world.old.herald.next config
-        → IsReady (A.log world.new.herald.actor) world.new.herald.next config }
+    ensures ready { IsReady (A.log world.old.herald.actor) world.old.herald.next beginning.monitor.config
+        → IsReady (A.log world.new.herald.actor) world.new.herald.next beginning.monitor.config }
+    ensures told { IfOk result (λ phase. TellsWatch phase (A.log world.old.herald.actor) (A.log world.new.herald.actor)) }
 {
-    let Beginning { mut monitor, links } = beginning;
+    let Beginning { monitor, links } = beginning;
     world.begin(links)?;
+    let phase = watch_from(rt, monitor, world)?;
+    if let Phase::Halted { .. } = phase {
+        world.leave();
+    }
+    Ok(phase)
+}
+
+/// Watches with a monitor that was told nothing yet. Returns what it says in the end.
+///
+/// # Errors
+///
+/// `Other` if a call of the world failed.
+fn watch_from<W: MonWorld>(rt: &impl Wait, mut monitor: Monitor, world: &mut W) -> io::Result<Phase>
+    requires untold { monitor.content ≡ content (configuration_of monitor.config) [] }
+    requires few { W.fault_count world.old < 2 ^ 64 - 1 }
+    ensures whole { IfOk result (IsWhole monitor.config (W.did monitor.config world.old world.new)) }
+    ensures did { (entries : List Entry) × W.did monitor.config world.old world.new entries }
+{
     match watch(rt, &mut monitor, world) {
         Ok(phase) => Ok(phase),
         Err(_) => Err(io::Error::from(ErrorKind::Other)),

@@ -8,7 +8,7 @@ use Rattle.nut_words.specs.Spelling.{is_printing}
 use Rattle.nut_words.specs.Quoting.{IsPrintable, escaped, line_text, quoted, stands_bare, word_text}
 use Rattle.nut_words.proofs.LineLemmas.{goes_on, lines_of_line, rest_of_line}
 
-all-append : (xs ys : List ℕ) → IsPrintable xs → IsPrintable ys → IsPrintable (xs ++ ys)
+pub all-append : (xs ys : List ℕ) → IsPrintable xs → IsPrintable ys → IsPrintable (xs ++ ys)
 all-append [] ys h k = k
 all-append (x ∷ xs) ys h k = (h.0, all-append xs ys h.1 k)
 

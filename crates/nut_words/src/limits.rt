@@ -11,8 +11,6 @@ pub const LINE_MAX: usize = 2048;
 pub const PIECE_MAX: usize = 512;
 /// The greatest number of words of a line.
 pub const WORDS_MAX: usize = 32;
-/// The greatest number of words of a line that [`plain_line`](crate::plain_line) reads.
-pub const PLAIN_WORDS_MAX: usize = 4;
 /// The greatest length in bytes of the name of a section: of a UPS in ups.conf, and of a user in upsd.users.
 pub const UPS_NAME_MAX: usize = 32;
 /// The greatest length of the name of a variable or a command in bytes.

@@ -7,7 +7,7 @@ use super::room::{ON_LINE, UPSES, server_of};
 use failing_world::Row;
 use nut_io::Piece;
 use nut_server::Server;
-use nut_server_loop::{Address, Given, MemoryWorld, Note, serve_memory};
+use nut_server_loop::{Given, MemoryWorld, Note, serve_memory};
 use std::alloc::{AllocError, Global};
 use std::sync::Wait;
 
@@ -77,12 +77,6 @@ static SCENES: [Scene; 3] = [
     },
 ];
 
-fn address(text: &[u8]) -> Address {
-    let mut address = Address::new();
-    let _ = address.try_extend_from_slice(text);
-    address
-}
-
 fn piece(text: &[u8]) -> Piece {
     let mut piece = Piece::new();
     let _ = piece.try_extend_from_slice(text);
@@ -92,7 +86,7 @@ fn piece(text: &[u8]) -> Piece {
 fn given(row: Row) -> Given {
     match row {
         Row::Moment(t) => Given::Moment(t),
-        Row::Open(text) => Given::Open(address(text)),
+        Row::Open(text) => Given::Open(piece(text)),
         Row::Bytes(c, text) => Given::Bytes(c, piece(text)),
         Row::Close(c) => Given::Close(c),
         Row::Up(u) => Given::DriverUp(u),

@@ -1,5 +1,5 @@
 -- What some schedules tell. Each example is computed from the definitions.
-use Rattle.std.specs.Prelude.{◌≡◌, ℕ, zero, suc, List, [], ◌∷◌, ◌++◌, codes, reverse, true, false, Some, None}
+use Rattle.std.specs.Prelude.{◌≡◌, ℕ, zero, suc, List, [], ◌∷◌, ◌++◌, codes, map, reverse, true, false, Some, None}
 use Rattle.nut_words.specs.Quoting.{quoted}
 use Rattle.nut_conf.specs.declared.users.Role.TheVariants as roles
 use Rattle.nut_conf.specs.declared.notice.Notice.TheVariants as kinds
@@ -7,9 +7,11 @@ use Rattle.nut_monitor_spec.specs.declared.Phase.TheVariants.{Forcing, Final, Ha
 use Rattle.nut_monitor_spec.specs.Configuration.{Configuration}
 use Rattle.nut_monitor_spec.specs.Decision.{told, shutdown_told}
 use Rattle.nut_monitor_spec.specs.Trace.{status}
+use Rattle.nut_server_spec.specs.Configuration.{Ups}
 use Rattle.nut_server_spec.specs.Content.{past}
-use Rattle.nut_fleet.specs.Schedule.{Step, ServerClock, MonitorClock, Up, Driver, Down, Link, Out, Reach, Back, Land, CutServer, CutMonitor}
-use Rattle.nut_fleet.specs.World.{Setup, World, world, seen, to_server, to_monitor}
+use Rattle.nut_server_spec.specs.Event.{Open, Bytes, Reload}
+use Rattle.nut_fleet.specs.Schedule.{Step, ServerClock, MonitorClock, Up, Driver, Down, Link, Out, Reach, Back, Land, CutServer, CutMonitor, Other}
+use Rattle.nut_fleet.specs.World.{Setup, World, served, world, seen, to_server, to_monitor}
 use Rattle.nut_fleet.specs.Log.{Logged, News, Skipped, Noticed, Moved, log}
 use Rattle.nut_fleet.specs.Shown.{shown_status, logins}
 
@@ -59,6 +61,25 @@ says status = Driver 0 (codes "SETINFO ups.status " ++ quoted status)
 abbrev pub live : List ℕ → List Step
 live status = Up 0 ∷ says status ∷ Driver 0 (codes "DATAOK") ∷ Driver 0 (codes "DUMPDONE") ∷ []
 
+-- another client connects, and then says these lines, if its connection has this number
+abbrev pub comes : Step
+comes = Other (Open (codes "10.0.0.9"))
+
+abbrev pub says_lines : ℕ → List (List ℕ) → Step
+says_lines c lines = Other (Bytes c (joined lines))
+  where
+    joined : List (List ℕ) → List ℕ
+    joined [] = []
+    joined (line ∷ lines) = line ++ 10 ∷ joined lines
+
+-- it logs in to the UPS
+abbrev pub logs_in : ℕ → Step
+logs_in c = says_lines c (codes "USERNAME mon" ∷ codes "PASSWORD m1" ∷ codes "LOGIN su700" ∷ [])
+
+-- the server reads its files again
+abbrev pub rereads : Step
+rereads = Other (Reload (record alone.server { upses = record { name = []; driver = []; description = codes "Rack 2" } ∷ []; users = [] }))
+
 -- the world after these steps, and what they tell; here the oldest step comes first
 abbrev pub world_of : Setup → List Step → World
 world_of setup steps = world setup (reverse steps)
@@ -89,6 +110,12 @@ pub record FleetExamples : Type 0 where
       ∷ Link 0 0 ∷ Reach 0 0 9 ∷ Out 0 0 9 ∷ CutMonitor 0 0 ∷ Link 0 0 ∷ [])
       ≡ at 1 Skipped ∷ at 2 Skipped ∷ at 3 Skipped ∷ at 4 Skipped ∷ at 5 Skipped ∷ at 6 Skipped ∷ at 7 Skipped
       ∷ at 12 Skipped ∷ at 13 Skipped ∷ at 15 (Noticed 0 (told kinds.Commbad 0)) ∷ []
+  -- another client may say anything on its own connection, and nothing on that of a link
+  pub others :
+      told_by alone (comes ∷ Link 0 0 ∷ says_lines 1 (codes "FSD su700" ∷ []) ∷ says_lines 2 (codes "FSD su700" ∷ []) ∷ rereads ∷ []) ≡ at 4 Skipped ∷ []
+  -- of a reload the description counts
+  pub described : map (λ (ups : Ups). ups.description) (served alone (world_of alone (rereads ∷ []))).configuration.upses ≡ codes "Rack 2" ∷ []
+  pub named : map (λ (ups : Ups). ups.name) (served alone (world_of alone (rereads ∷ []))).configuration.upses ≡ codes "su700" ∷ []
   -- bytes that a monitor put into its pipe before its end was cut still reach the server; a new link's pipes are empty
   pub in_the_pipe : to_server alone (world_of alone (Link 0 0 ∷ Out 0 0 5 ∷ CutMonitor 0 0 ∷ [])) 0 0 ≡ codes "USERN"
   pub on_its_way : to_server alone (world_of alone (Link 0 0 ∷ Out 0 0 5 ∷ CutMonitor 0 0 ∷ Reach 0 0 3 ∷ [])) 0 0 ≡ codes "RN"
@@ -103,3 +130,5 @@ pub record FleetExamples : Type 0 where
       ≡ Some (codes "OL" ∷ codes "CHRG" ∷ [])
   pub stale : shown_status alone.server (past alone.server (world_of alone (live (codes "OL") ++ ServerClock 16 ∷ [])).server) (codes "su700") ≡ None
   pub logged_in : logins alone.server (past alone.server (world_of alone (Link 0 0 ∷ rounds 0 3)).server) (codes "su700") ≡ 1 ∷ []
+  pub both_logged_in :
+      logins alone.server (past alone.server (world_of alone (comes ∷ logs_in 1 ∷ Link 0 0 ∷ rounds 0 3)).server) (codes "su700") ≡ 1 ∷ 2 ∷ []

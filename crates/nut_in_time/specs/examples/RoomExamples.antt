@@ -4,7 +4,7 @@ use Rattle.nut_monitor_spec.specs.Trace.{clock, has_ended}
 use Rattle.nut_fleet.specs.Schedule.{Step, MonitorClock, Link}
 use Rattle.nut_fleet.specs.World.{Setup, monitor_of}
 use Rattle.nut_fleet.specs.Fleet.{IsSetup}
-use Rattle.nut_fleet.specs.examples.Examples.{pair, primary, secondary, live, rounds, says}
+use Rattle.nut_fleet.specs.examples.Examples.{pair, primary, secondary, comes, live, logs_in, rereads, rounds, says}
 use Rattle.nut_in_time.specs.Pace.{Pace, seen_at}
 use Rattle.nut_in_time.specs.InTime.{halted_in, is_stopped}
 use Rattle.nut_in_time.specs.Room.{Follows, IsReady, IsRoom, IsStopping, forced_in, host_sync_for, is_forced, other_halted_in}
@@ -21,9 +21,10 @@ room host_sync = record pair {
       ∷ record secondary { poll_freq = 1; final_delay = 1 } ∷ [];
 }
 
--- Both are logged in. The clock of the other machine is a second ahead. Then the battery is low.
+-- Both are logged in, and so is another client, which takes no answer; the server reads its files again. The clock of the
+-- other machine is a second ahead. Then the battery is low.
 abbrev pub low : List Step
-low = reverse (live (codes "OL") ++ Link 0 0 ∷ rounds 0 5 ++ MonitorClock 1 1 ∷ Link 1 0 ∷ rounds 1 4 ++ says (codes "OB LB") ∷ [])
+low = reverse (live (codes "OL") ++ comes ∷ logs_in 1 ∷ Link 0 0 ∷ rounds 0 5 ++ rereads ∷ MonitorClock 1 1 ∷ Link 1 0 ∷ rounds 1 4 ++ says (codes "OB LB") ∷ [])
 
 -- The other machine reads that, and a second later again. Then the primary reads it, whose query is older.
 abbrev pub unforced : List Step

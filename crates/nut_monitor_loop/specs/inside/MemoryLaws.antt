@@ -13,17 +13,16 @@ given_in-append (entry.WriteBroke i ∷ r) ys = given_in-append r ys
 given_in-append (entry.WasClosed i ∷ r) ys = given_in-append r ys
 given_in-append (entry.WasTold notice ∷ r) ys = given_in-append r ys
 
--- a world may become what it is
-pub goes_on_self : (a : MemoryState) → GoesOn a a
-goes_on_self a = record { more = []; grown = refl; each = refl }
+-- without a call nothing is done
+pub goes_on_self : (a : MemoryState) → GoesOn a a []
+goes_on_self a = record { grown = refl; each = refl }
 
-pub goes_on_twice : (a b c : MemoryState) → GoesOn a b → GoesOn b c → GoesOn a c
-goes_on_twice a b c first second =
+pub goes_on_twice : (a b c : MemoryState) (xs ys : List entry.Entry) → GoesOn a b xs → GoesOn b c ys → GoesOn a c (ys ++ xs)
+goes_on_twice a b c xs ys first second =
     record {
-      more = second.more ++ first.more;
-      grown = second.grown ∙ ap (λ x. second.more ++ x) first.grown ∙ sym (append_assoc second.more first.more a.log);
+      grown = second.grown ∙ ap (λ x. ys ++ x) first.grown ∙ sym (append_assoc ys xs a.log);
       each =
-          first.each ∙ ap (λ x. given_in first.more ++ x) second.each
-          ∙ sym (append_assoc (given_in first.more) (given_in second.more) (map event_of c.left))
-          ∙ ap (λ x. x ++ map event_of c.left) (sym (given_in-append second.more first.more));
+          first.each ∙ ap (λ x. given_in xs ++ x) second.each
+          ∙ sym (append_assoc (given_in xs) (given_in ys) (map event_of c.left))
+          ∙ ap (λ x. x ++ map event_of c.left) (sym (given_in-append ys xs));
     }

@@ -11,7 +11,7 @@ use Rattle.nut_monitor_spec.specs.Content as knowledge
 use Rattle.nut_monitor_spec.specs.Acceptance as monitor_tests
 use Rattle.nut_monitor_spec.specs.machine.Machine as monitor_machine
 use Rattle.nut_monitor.specs.Monitors.{MonitorValue}
-use Rattle.nut_fleet.specs.Schedule.{Step, ServerClock, MonitorClock, Up, Driver, Down, Link, Out, Reach, Back, Land, CutServer, CutMonitor}
+use Rattle.nut_fleet.specs.Schedule.{Step, ServerClock, MonitorClock, Up, Driver, Down, Link, Out, Reach, Back, Land, CutServer, CutMonitor, Other}
 use Rattle.nut_fleet.specs.World.{Deed, Skip, Rest, Tell, Inform, Join, carried, counted, moved, address_of}
 use Rattle.nut_fleet.specs.Log.{News}
 use Rattle.nut_fleet.specs.Moves.{reached, sent_off, landed, put_in}
@@ -196,6 +196,7 @@ next k (Back m i n) = back_next k m i n
 next k (Land m i n) = with_seat k m (land_seat m i n)
 next k (CutServer m i) = told_to k (arrivals.Close (link_of k m i).connection)
 next k (CutMonitor m i) = with_seat k m (hear_seat m (events.LinkLost i))
+next k (Other event) = k
 
 -- what a monitor tells at a step, if it is told anything
 abbrev pub said : Kept → Step → List News
@@ -223,3 +224,4 @@ fits k (Back m i n) = fits_link k m i
 fits k (Land m i n) = fits_link k m i
 fits k (CutServer m i) = fits_link k m i
 fits k (CutMonitor m i) = fits_link k m i
+fits k (Other event) = false

@@ -1,13 +1,14 @@
 //! Handles the lines of clients: decides on each, queues its answer and applies its effect.
 
-ghost use Rattle.std.specs.Prelude.{◌≡◌, ◌<◌, ℕ, Some, Ok, Err, false, IfErr, IsTrue, MatchOption, MatchResult, OnOk, OnErr, length, slice_get};
-ghost use Rattle.nut_proto.specs.PlainQueries.{request_of};
+ghost use Rattle.std.specs.Prelude.{◌≡◌, ◌<◌, ℕ, Some, Ok, Err, true, false, IfErr, IsTrue, MatchOption, MatchResult, OnOk, OnErr, length, slice_get};
+ghost use Rattle.nut_proto.specs.PlainQueries.{HasFront, request_of, ups_of};
 ghost use Rattle.nut_words.specs.Cutter.{line_of};
 ghost use Rattle.nut_words.specs.Reader.{with_backslash};
 ghost use Rattle.nut_words.specs.declared.words.WordFault.TheVariants.{Memory};
 ghost use Rattle.nut_server_spec.specs.Acceptance.{line_feeds, session_of};
 ghost use Rattle.nut_server_spec.specs.Answer.{answer};
 ghost use Rattle.nut_server_spec.specs.Command.{Asks, asked, command_in, command_of};
+ghost use Rattle.nut_server_spec.specs.Configuration.{number_of_ups};
 ghost use Rattle.nut_server_spec.specs.Content.{Session};
 ghost use Rattle.nut_server_spec.specs.machine.Machine.{answer_in, bytes_heard, caller_of, scene_of};
 ghost use Rattle.nut_server_spec.specs.Outcome.{is_blank, line_takes};
@@ -18,7 +19,7 @@ ghost use Rattle.nut_server.specs.inside.Place.{Stands};
 
 use crate::decision::{Decision, decide};
 use crate::effect::Effect;
-use crate::plain::write_answer;
+use crate::plain::{kept_end, write_answer};
 use crate::scene::Scene;
 use crate::server::Server;
 use crate::text::put_answer;
@@ -60,7 +61,7 @@ impl Server {
         let is_denied = answer.is_denial();
         put_answer(&mut self.scratch, &answer)?;
         self.connections
-            .answer(at, self.scratch.as_slice(), &effect)?;
+            .answer(at, self.scratch.as_slice(), &[], &effect)?;
         effect.act(&mut self.devices, self.line.as_slice());
         self.given = effect.given_after(self.given);
         self.deeds.note(
@@ -88,16 +89,69 @@ impl Server {
         self.hear_request(at, &read(words))
     }
 
-    /// Answers a query of the connection at this place. If memory cannot be allocated, nothing changes.
-    fn hear_query(&mut self, at: usize, query: PlainQuery<'_>) -> Result<(), AllocError>
-        requires { at < length self.old.sessions }
+    /// Answers `GET VAR` of the connection at this place, if the value is kept as it is shown: it goes from the table straight
+    /// into the queue. The UPS was found at this place of ups.conf, if there is one. Returns whether it answered; if not, nothing
+    /// changes.
+    fn hear_kept(
+        &mut self,
+        at: usize,
+        place: Option<usize>,
+        query: PlainQuery<'_>,
+    ) -> Result<bool, AllocError>
+        requires within { at < length self.old.sessions }
+        requires front { HasFront query }
+        requires found { place ≡ number_of_ups (ups_of query) self.old.configuration.upses }
+        ensures ok { (c : ℕ) (k : Session) → Stands c self.old.sessions at → slice_get self.old.sessions at ≡ Some k
+            → result ≡ Ok true → self.new ≡ answered_by c (Asks (request_of query.entry))
+            (answer (scene_of self.old) (caller_of k) (Asks (request_of query.entry))) self.old }
+        ensures other { result ≡ Ok false → self.new ≡ self.old }
+        ensures err { OnErr result (self.new ≡ self.old) }
+    {
+        let PlainQuery::GetVar {
+            front,
+            variable,
+            ..
+        } = query
+        else {
+            return Ok(false);
+        };
+        let scene = Scene {
+            config: &self.config,
+            numbers: self.numbers.as_slice(),
+            clock: self.clock,
+            given: self.given,
+            devices: self.devices.as_slice(),
+            connections: &self.connections,
+            likely: self.likely,
+        };
+        let Some(u) = scene.number_with_data(place) else {
+            return Ok(false);
+        };
+        let Some(device) = self.devices.get(u) else {
+            return Ok(false);
+        };
+        let Some(end) = kept_end(device, &mut self.likely_variable, variable) else {
+            return Ok(false);
+        };
+        self.connections.answer(at, front, end, &Effect::Nothing)?;
+        Ok(true)
+    }
+
+    /// Answers a query of the connection at this place. The UPS that it asks about was found at this place of ups.conf, if there
+    /// is one. If memory cannot be allocated, nothing changes.
+    fn answer_query(
+        &mut self,
+        at: usize,
+        place: Option<usize>,
+        query: PlainQuery<'_>,
+    ) -> Result<(), AllocError>
+        requires within { at < length self.old.sessions }
+        requires found { place ≡ number_of_ups (ups_of query) self.old.configuration.upses }
         ensures ok { (c : ℕ) (k : Session) → Stands c self.old.sessions at → slice_get self.old.sessions at ≡ Some k
             → OnOk result (self.new ≡ answered_by c (Asks (request_of query.entry))
             (answer (scene_of self.old) (caller_of k) (Asks (request_of query.entry))) self.old) }
         ensures err { OnErr result (self.new ≡ self.old) }
     {
-        let place = self.config.find_likely_ups(self.likely, query.ups());
-        self.likely = place.unwrap_or(0);
         let scene = Scene {
             config: &self.config,
             numbers: self.numbers.as_slice(),
@@ -109,8 +163,25 @@ impl Server {
         };
         write_answer(&mut self.scratch, &scene, place, query)?;
         self.connections
-            .answer(at, self.scratch.as_slice(), &Effect::Nothing)?;
+            .answer(at, self.scratch.as_slice(), &[], &Effect::Nothing)?;
         Ok(())
+    }
+
+    /// Answers a query of the connection at this place. If memory cannot be allocated, nothing changes.
+    fn hear_query(&mut self, at: usize, query: PlainQuery<'_>) -> Result<(), AllocError>
+        requires within { at < length self.old.sessions }
+        requires front { HasFront query }
+        ensures ok { (c : ℕ) (k : Session) → Stands c self.old.sessions at → slice_get self.old.sessions at ≡ Some k
+            → OnOk result (self.new ≡ answered_by c (Asks (request_of query.entry))
+            (answer (scene_of self.old) (caller_of k) (Asks (request_of query.entry))) self.old) }
+        ensures err { OnErr result (self.new ≡ self.old) }
+    {
+        let place = self.config.find_likely_ups(self.likely, query.ups());
+        self.likely = place.unwrap_or(0);
+        if self.hear_kept(at, place, query)? {
+            return Ok(());
+        }
+        self.answer_query(at, place, query)
     }
 
     /// Handles a line of the connection at this place. It gets no answer if the client has logged out. If memory cannot

@@ -12,3 +12,6 @@ loop-stream-preserved-in-Bytes g c = record {
 
 pub returns-clause-sends : goal.returns-clause-sends
 returns-clause-sends g c = grind (arith, common_steps)
+
+pub loop-stream-smaller-in-Bytes : goal.loop-stream-smaller-in-Bytes
+loop-stream-smaller-in-Bytes g c = grind (arith, common_steps)

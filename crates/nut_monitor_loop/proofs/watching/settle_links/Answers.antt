@@ -10,7 +10,7 @@ loop-i-preserved g c =
       as_many = search rules;
       settled = settled_to (g.W.MonWorld.late c.loop-i.world) (g.W.MonWorld.late c.flush.new.world) c.loop-i.monitor.content.watches
           c.flush.new.monitor.content.watches c.loop-i.i (search rules) (search rules) (search rules) c.loop-i.invariant.settled;
-      reached = search rules;
+      config = search rules;
     }
 
 pub returns-clause-withheld : goal.returns-clause-withheld

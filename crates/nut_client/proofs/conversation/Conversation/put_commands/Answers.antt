@@ -1,7 +1,14 @@
-use Rattle.std.proofs.Common.{◌+◌, ap, drop}
+use Rattle.std.proofs.Common.{◌+◌, ap, drop, refl}
+use Rattle.std.proofs.lemmas.List.{at_drop_all}
 use Rattle.nut_client.specs.Script.{commands}
-use Rattle.nut_client.proofs.Parts.{asked_as, drop_at, ends_at, follows}
+use Rattle.nut_client.proofs.Parts.{asked_as, drop_at, ends_at, follows, stays, turns}
 use Rattle.nut_client.proofs.conversation.Conversation.put_commands.Goals as goal
+
+pub loop-row-init : goal.loop-row-init
+loop-row-init g c = stays refl
+
+pub returns : goal.returns
+returns g c = turns c.loop-row.invariant (at_drop_all (commands c.args.ups.now c.loop-row.text.items) c.args.rows.now c.loop-row.row-index c.loop-row-test.false)
 
 pub returns-in_err-put_command : goal.returns-in_err-put_command
 returns-in_err-put_command g c =

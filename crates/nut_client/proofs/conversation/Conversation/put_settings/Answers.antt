@@ -1,7 +1,14 @@
-use Rattle.std.proofs.Common.{◌+◌, ap, drop}
+use Rattle.std.proofs.Common.{◌+◌, ap, drop, refl}
+use Rattle.std.proofs.lemmas.List.{at_drop_all}
 use Rattle.nut_client.specs.Script.{settings}
-use Rattle.nut_client.proofs.Parts.{asked_as, drop_at, ends_at, follows}
+use Rattle.nut_client.proofs.Parts.{asked_as, drop_at, ends_at, follows, stays, turns}
 use Rattle.nut_client.proofs.conversation.Conversation.put_settings.Goals as goal
+
+pub loop-row-init : goal.loop-row-init
+loop-row-init g c = stays refl
+
+pub returns : goal.returns
+returns g c = turns c.loop-row.invariant (at_drop_all (settings c.args.ups.now c.loop-row.text.items) c.args.rows.now c.loop-row.row-index c.loop-row-test.false)
 
 pub returns-in_err-put_setting : goal.returns-in_err-put_setting
 returns-in_err-put_setting g c =

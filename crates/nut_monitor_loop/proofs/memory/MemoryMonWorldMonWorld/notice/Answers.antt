@@ -4,7 +4,7 @@ use Rattle.nut_monitor_loop.specs.Memory.{log_of}
 use Rattle.nut_monitor_loop.proofs.Noted.{goes_on_more}
 use Rattle.nut_monitor_loop.proofs.memory.MemoryMonWorldMonWorld.notice.Goals as goal
 
-pub returns-in-Ok-clause-reached : goal.returns-in-Ok-clause-reached
-returns-in-Ok-clause-reached c =
+pub returns-in-Ok-clause-ok : goal.returns-in-Ok-clause-ok
+returns-in-Ok-clause-ok c =
     rw (← c.self.view_is) (goes_on_more (record { left = c.self.inside.left.items; log = log_of c.self.inside.notes.items; faults = c.self.inside.faults })
     (record { left = c.self.inside.left.items; log = log_of c.note.new.notes.items; faults = c.self.inside.faults }) (WasTold c.args.notice) refl c.in-Ok.ensures.ok refl)

@@ -1,4 +1,4 @@
-use Rattle.std.proofs.Common.{arith, refl, ap, ◌∙◌, slice_set}
+use Rattle.std.proofs.Common.{arith, refl, ap, ◌∙◌, ◌++◌, slice_set}
 use Rattle.std.proofs.lemmas.List.{set-get_or}
 use Rattle.slab.specs.Slab.{with_value}
 use Rattle.nut_server.specs.inside.Effects.{affected, said}
@@ -41,7 +41,7 @@ returns-clause-ok c =
     let after : Inside = record { slots = with_value c.self.inside.slots c.index-key.result.now.slot c.answer-answered.new.self; order = c.mark.new.order; unsettled = c.mark.new.count } in
     let change = entry_changed c.self.inside after c.args.at c.index-key.result.now c.index_mut-connection.result.now c.answer-answered.new.self
     c.self.invariant read c.index_mut-connection.ensures.value (c.answer-answered.ensures.number) (marked_so c.self.inside after c.args.at c.index-key.result.now c.answer-answered.new.self c.is_unsettled-unsettled.result read refl c.is_unsettled-unsettled.ensures c.mark.ensures.items c.mark.ensures.counted c.mark.ensures.capacity) in
-    rw (← c.self.view_is) (λ c' stands. on_ok c.answer-answered.result _ _ (λ is. change.written ∙ written c' (λ k. affected c.args.effect.now (said c.args.text.now k)) (sessions_of c.self.inside.slots c.self.inside.order.items) c.args.at c.index_mut-connection.result.now c.answer-answered.new.self stands change.read is) c.answer-answered.ensures.ok)
+    rw (← c.self.view_is) (λ c' stands. on_ok c.answer-answered.result _ _ (λ is. change.written ∙ written c' (λ k. affected c.args.effect.now (said (c.args.front.now ++ c.args.end.now) k)) (sessions_of c.self.inside.slots c.self.inside.order.items) c.args.at c.index_mut-connection.result.now c.answer-answered.new.self stands change.read is) c.answer-answered.ensures.ok)
 
 pub returns-clause-numbers : goal.returns-clause-numbers
 returns-clause-numbers c =

@@ -1,4 +1,4 @@
-use Rattle.std.proofs.Common.{◌≡◌, ℕ, ◌++◌, ◌<◌, List, Some, ap, arith, length, sym, subst, ◌∙◌, map}
+use Rattle.std.proofs.Common.{◌≡◌, ℕ, ◌++◌, ◌<◌, List, [], Some, ap, arith, length, sym, subst, ◌∙◌, map}
 use Rattle.nut_server_spec.specs.Answer.{Answer, answer, text_of}
 use Rattle.nut_server_spec.specs.Command.{asked}
 use Rattle.nut_server_spec.specs.Content.{Session, Supply}
@@ -10,6 +10,7 @@ use Rattle.nut_server.specs.inside.Decisions.{AreThere}
 use Rattle.nut_server.proofs.Numbered.{are_there}
 use Rattle.nut_server.proofs.Saying.{answered_all}
 use Rattle.std.specs.List.{AllByRecursion}
+use Rattle.std.proofs.lemmas.List.{append-nil}
 use Rattle.std.proofs.lemmas.Result.{err_from_is_err_and}
 use Rattle.nut_server_spec.specs.laws.Laws.{IsUpTo}
 use Rattle.nut_server.proofs.server.Server.hear_request.Goals as goal
@@ -29,7 +30,7 @@ returns-clause-ok c =
     let text = c.as_slice-3.ensures.value ∙ c.in_ok-put_answer.ensures ∙ ap (λ front. front ++ text_of (given c.decide-answer.result.answer)) c.clear.ensures.items ∙ ap text_of (c.decide-answer.ensures.0 ∙ is) in
     let done = subst (λ reply. Does (record (scene_of v) { numbers = c.as_slice.result.now }) command reply effect line) is c.decide-answer.ensures.1 in
     let does = subst (λ ns. Does (record (scene_of v) { numbers = ns }) command (R v.numbers v.supplies k) effect line) c.as_slice.ensures.value done in
-    answered_all v c.answer.new.self c.act.new.devices.items c.given_after-self-inside.result c' command (R v.numbers v.supplies k) effect line c.as_slice-3.result.now text does
+    answered_all v c.answer.new.self c.act.new.devices.items c.given_after-self-inside.result c' command (R v.numbers v.supplies k) effect line (c.as_slice-3.result.now ++ []) (append-nil c.as_slice-3.result.now ∙ text) does
     (c.in_ok-answer.ensures.ok c' stands) (c.act.ensures.value ∙ ap (λ l. acting effect l v.supplies) c.as_slice-4.ensures.value) c.given_after-self-inside.ensures)
 
 pub decide-answer-requires-clause-there : goal.decide-answer-requires-clause-there

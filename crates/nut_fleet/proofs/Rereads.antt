@@ -1,0 +1,260 @@
+-- A reload in a schedule leaves a fleet's server its UPSes, with their drivers and numbers, its users and its MAXAGE.
+use Rattle.std.proofs.Common.{◌≡◌, ℕ, zero, suc, ◌+◌, ◌<◌, ◌++◌, ◌&&◌, ◌||◌, true, not, min, max, eqb, ltb, List, [], ◌∷◌, length, take, refl, sym, ◌∙◌, ap, subst, arith, Option, Some, None, is_none}
+use Rattle.std.specs.Prelude.{if◌then◌else◌, option_map, position, slice_get}
+use Rattle.std.specs.List.{position_or_len}
+use Rattle.std.specs.Option.{option_and_then}
+use Rattle.std.specs.Str.{bytes_eq}
+use Rattle.std.proofs.lemmas.Bool.{eq-eqb, lt-ltb, ne_eqb}
+use Rattle.std.proofs.lemmas.List.{map-id}
+use Rattle.std.proofs.lemmas.List.Quantifiers.{position-Some}
+use Rattle.std.proofs.lemmas.Slice.Eq.{bytes_eq-Decides}
+use Rattle.nut_words.specs.Lines.{LineText}
+use Rattle.nut_words.specs.declared.limits.TheConstants.{PIECE_MAX}
+use Rattle.nut_server_spec.specs.Configuration.{Configuration, Ups, number_of_ups}
+use Rattle.nut_server_spec.specs.Content.{past}
+use Rattle.nut_server_spec.specs.Event.{Step, Clock, Opened, Said, Gone, Up, Reported, Drained, Down, Reloaded, steps, with_lines, with_reports, brought, input, driver_input}
+use Rattle.nut_server_spec.specs.Event as arrivals
+use Rattle.nut_server_spec.specs.Acceptance as server_tests
+use Rattle.nut_server_spec.specs.Numbering.{Kept, Numbering, below, fate_between, first_numbers, number_of, renumbered, ups_with, with_numbers}
+use Rattle.nut_server_spec.specs.Trace.{Entry, trace, configuration, fate_at, numbers, numbering, places}
+use Rattle.nut_server_spec.proofs.Places.{IsCount, below-length, below_counts, get_below}
+use Rattle.nut_monitor_spec.specs.Event as events
+use Rattle.nut_monitor_spec.specs.Acceptance as monitor_tests
+use Rattle.nut_fleet.specs.Schedule as schedules
+use Rattle.nut_fleet.specs.World.{Setup, World, Tell, Inform, Join, served, known, is_open, is_linked, to_server, to_monitor, server_waits, monitor_waits, tell, inform, carried, counted, moved, address_of, deed_of, described, heeded, is_fit, is_other, kept_from, may_tell, after, world}
+use Rattle.nut_fleet.proofs.Deeds.{if-played, if-carried, if-counted}
+
+-- ---- a server whose reloads keep its UPSes
+
+-- each reload among the steps keeps the UPSes, with their drivers and numbers, the users and MAXAGE
+abbrev pub KeepsRoom : Configuration → List Step → Type 0
+KeepsRoom first [] = Unit {0}
+KeepsRoom first (Reloaded k ∷ s) =
+    (new : Configuration) × (k ≡ kept_from first new) × (renumbered k.upses (numbering first (trace first s)) ≡ numbers first (trace first s)) × KeepsRoom first s
+KeepsRoom first (step ∷ s) = KeepsRoom first s
+
+-- the name of a UPS and of its driver
+abbrev shape : Option Ups → Option (List ℕ × List ℕ)
+shape o = option_map (λ (x : Ups). (x.name, x.driver)) o
+
+-- What stays of this configuration, these numbers of UPSes, and how many numbers there are, as a server starts with them.
+pub record AreFirst (first now : Configuration) (given : List ℕ) (count : ℕ) : Type 0 where
+  pub users : now.users ≡ first.users
+  pub max_age : now.max_age ≡ first.max_age
+  pub as_many : length now.upses ≡ length first.upses
+  pub named : (name : List ℕ) → number_of_ups name now.upses ≡ number_of_ups name first.upses
+  pub alike : (u : ℕ) → shape (slice_get now.upses u) ≡ shape (slice_get first.upses u)
+  pub numbered : given ≡ first_numbers first.upses
+  pub counted : count ≡ length first.upses
+
+-- After this past that is so.
+abbrev pub IsAsMade : Configuration → List Entry → Type 0
+IsAsMade first t = AreFirst first (configuration first t) (numbers first t) (places first t)
+
+-- ---- UPSes with other descriptions
+
+described-length : (upses new : List Ups) → length (described upses new) ≡ length upses
+described-length [] new = refl
+described-length (x ∷ upses) [] = refl
+described-length (x ∷ upses) (y ∷ new) = ap suc (described-length upses new)
+
+described-place : (name : List ℕ) (upses new : List Ups) →
+    position_or_len (λ (x : Ups). bytes_eq x.name name) (described upses new) ≡ position_or_len (λ (x : Ups). bytes_eq x.name name) upses
+described-place name [] new = refl
+described-place name (x ∷ upses) [] = refl
+described-place name (x ∷ upses) (y ∷ new) = ap (λ n. if not (bytes_eq x.name name) then 1 + n else 0) (described-place name upses new)
+
+described-number : (name : List ℕ) (upses new : List Ups) → number_of_ups name (described upses new) ≡ number_of_ups name upses
+described-number name upses new =
+    ap (λ n. if ltb n (length (described upses new)) then Some n else None) (described-place name upses new)
+    ∙ ap (λ m. if ltb (position_or_len (λ (x : Ups). bytes_eq x.name name) upses) m then Some (position_or_len (λ (x : Ups). bytes_eq x.name name) upses) else None) (described-length upses new)
+
+described-alike : (u : ℕ) (upses new : List Ups) → shape (slice_get (described upses new) u) ≡ shape (slice_get upses u)
+described-alike u [] new = refl
+described-alike u (x ∷ upses) [] = refl
+described-alike zero (x ∷ upses) (y ∷ new) = refl
+described-alike (suc u) (x ∷ upses) (y ∷ new) = described-alike u upses new
+
+kept-first : (first new : Configuration) (given : List ℕ) (count : ℕ) → given ≡ first_numbers first.upses → count ≡ length first.upses → AreFirst first (kept_from first new) given count
+kept-first first new given count numbered counted = record {
+  users = refl;
+  max_age = refl;
+  as_many = described-length first.upses new.upses;
+  named = λ name. described-number name first.upses new.upses;
+  alike = λ u. described-alike u first.upses new.upses;
+  numbered = numbered;
+  counted = counted;
+}
+
+pub as-made : (first : Configuration) (s : List Step) → KeepsRoom first s → IsAsMade first (trace first s)
+as-made first [] kept = record { users = refl; max_age = refl; as_many = refl; named = λ name. refl; alike = λ u. refl; numbered = refl; counted = refl }
+as-made first (Clock t ∷ s) kept = as-made first s kept
+as-made first (Opened address ∷ s) kept = as-made first s kept
+as-made first (Said c line ∷ s) kept = as-made first s kept
+as-made first (Gone c ∷ s) kept = as-made first s kept
+as-made first (Up u ∷ s) kept = as-made first s kept
+as-made first (Reported u line ∷ s) kept = as-made first s kept
+as-made first (Drained u n ∷ s) kept = as-made first s kept
+as-made first (Down u ∷ s) kept = as-made first s kept
+as-made first (Reloaded k ∷ s) kept =
+    let before = as-made first s kept.3 in
+    let count = before.counted in
+    let many : length k.upses ≡ length first.upses = ap (λ (x : Configuration). length x.upses) kept.1 ∙ described-length first.upses kept.0.upses in
+    subst (λ (x : Configuration). AreFirst first x (renumbered k.upses (numbering first (trace first s))) (max (places first (trace first s)) (length k.upses))) (sym kept.1)
+    (kept-first first kept.0 (renumbered k.upses (numbering first (trace first s))) (max (places first (trace first s)) (length k.upses)) (kept.2 ∙ before.numbered)
+    (omega (arith, count, many)))
+
+-- ---- the numbers of its UPSes
+
+pub number-within : (name : List ℕ) (upses : List Ups) (u : ℕ) → number_of_ups name upses ≡ Some u → u < length upses
+number-within name upses u is = (position-Some (λ (x : Ups). bytes_eq x.name name) upses u (record { name = []; driver = []; description = [] }) is).0
+
+-- the UPSes and their numbers when a server is made
+abbrev pub first_numbering : Configuration → Numbering
+first_numbering first = record { upses = first.upses; numbers = first_numbers first.upses }
+
+-- the number of a UPS is its place in the file
+number-first : (first : Configuration) (name : List ℕ) → number_of name (first_numbering first) ≡ number_of_ups name first.upses
+number-first first name = by (number_of_ups name first.upses) (number-within name first.upses)
+  where
+    by : (o : Option ℕ) → ((u : ℕ) → o ≡ Some u → u < length first.upses) → option_and_then (slice_get (below (length first.upses))) o ≡ o
+    by None within = refl
+    by (Some u) within =
+        sym (ap (λ ns. slice_get ns u) (map-id (below (length first.upses)))) ∙ get_below u (length first.upses) (λ n. n) (within u refl)
+
+pub number-stays : (first : Configuration) (t : List Entry) (name : List ℕ) → IsAsMade first t →
+    number_of name (numbering first t) ≡ number_of_ups name first.upses
+number-stays first t name made =
+    ap (option_and_then (slice_get (numbers first t))) (made.named name)
+    ∙ ap (λ ns. option_and_then (slice_get ns) (number_of_ups name first.upses)) made.numbered ∙ number-first first name
+
+-- ---- what becomes of its UPSes
+
+position-here : (w n : ℕ) (ns : List ℕ) → n ≡ w → position (λ m. eqb m w) (n ∷ ns) ≡ Some 0
+position-here w n ns same = rw (eq-eqb n w same, lt-ltb 0 (suc (length ns)) (omega arith)) refl
+
+position-next : (w n : ℕ) (ns : List ℕ) (u : ℕ) → (n ≡ w → ⊥) → position_or_len (λ m. eqb m w) ns ≡ u → u < length ns → position (λ m. eqb m w) (n ∷ ns) ≡ Some (suc u)
+position-next w n ns u differ at less =
+    rw (ne_eqb n w differ) (rw at (rw (lt-ltb (1 + u) (suc (length ns)) (omega (arith, less))) (ap (λ x. Some x) (let e : 1 + u ≡ suc u = omega arith in e))))
+
+-- among numbers that count up, each has its place
+place-counted : (u w k : ℕ) (ns : List ℕ) → IsCount k ns → w ≡ u + k → u < length ns → position_or_len (λ m. eqb m w) ns ≡ u
+place-counted u w k [] counts is less = absurd (omega (arith, less))
+place-counted zero w k (n ∷ ns) counts is less = let e : n ≡ w = omega (arith, counts.0, is) in rw (eq-eqb n w e) refl
+place-counted (suc u) w k (n ∷ ns) counts is less =
+    let rest = place-counted u w (suc k) ns counts.1 (omega (arith, is)) (omega (arith, less)) in
+    rw (ne_eqb n w (λ e. omega (arith, e, counts.0, is))) (omega (arith, rest))
+
+position-below : (n u : ℕ) → u < n → position (λ m. eqb m u) (below n) ≡ Some u
+position-below n u less =
+    let long = below-length n in
+    ap (λ x. if ltb x (length (below n)) then Some x else None) (place-counted u u 0 (below n) (below_counts n) (omega arith) (omega (arith, less, long)))
+    ∙ rw (lt-ltb u (length (below n)) (omega (arith, less, long))) refl
+
+-- the UPS with a number is at that place
+with-number : (first : Configuration) (upses : List Ups) (ns : List ℕ) (u : ℕ) → ns ≡ first_numbers first.upses → u < length first.upses → ups_with u (with_numbers upses ns) ≡ slice_get upses u
+with-number first upses ns u is less =
+    ap (λ x. option_and_then (slice_get upses) (position (λ m. eqb m u) x)) is ∙ ap (option_and_then (slice_get upses)) (position-below (length first.upses) u less)
+
+get-some : (upses : List Ups) (u : ℕ) → u < length upses → (x : Ups) × (slice_get upses u ≡ Some x)
+get-some [] u less = absurd (omega (arith, less))
+get-some (x ∷ upses) zero less = (x, refl)
+get-some (x ∷ upses) (suc u) less = get-some upses u (omega (arith, less))
+
+fate-kept : (o other : Option Ups) (x : Ups) → shape o ≡ shape (Some x) → shape other ≡ shape (Some x) → fate_between o other ≡ Kept
+fate-kept None other x old new = cc
+fate-kept (Some y) None x old new = cc
+fate-kept (Some y) (Some z) x old new =
+    let both : (let p : List ℕ × List ℕ = (y.name, y.driver) in p) ≡ (let p : List ℕ × List ℕ = (z.name, z.driver) in p) = cc in
+    let name : y.name ≡ z.name = ap (λ (p : List ℕ × List ℕ). p.0) both in
+    let driver : y.driver ≡ z.driver = ap (λ (p : List ℕ × List ℕ). p.1) both in
+    rw ((bytes_eq-Decides y.name z.name).1 name, (bytes_eq-Decides y.driver z.driver).1 driver) refl
+
+pub stays-kept : (first : Configuration) (s : List Step) (k : Configuration) (u : ℕ) → KeepsRoom first (Reloaded k ∷ s) → u < length first.upses → fate_at first (trace first s) (Reloaded k) u ≡ Kept
+stays-kept first s k u kept less =
+    let before = as-made first s kept.3 in
+    let t = trace first s in
+    let x = get-some first.upses u less in
+    let old : shape (ups_with u (numbering first t)) ≡ shape (Some x.0) =
+    ap shape (with-number first (configuration first t).upses (numbers first t) u before.numbered less) ∙ before.alike u ∙ ap shape x.1 in
+    let new : shape (ups_with u (with_numbers k.upses (renumbered k.upses (numbering first t)))) ≡ shape (Some x.0) =
+    ap shape (with-number first k.upses (renumbered k.upses (numbering first t)) u (kept.2 ∙ before.numbered) less)
+    ∙ ap (λ (c : Configuration). shape (slice_get c.upses u)) kept.1 ∙ described-alike u first.upses kept.0.upses ∙ ap shape x.1 in
+    fate-kept (ups_with u (numbering first t)) (ups_with u (with_numbers k.upses (renumbered k.upses (numbering first t)))) x.0 old new
+
+-- ---- the server of a fleet
+
+lines-keep : (first : Configuration) (c : ℕ) (ls : List LineText) (s : List Step) → KeepsRoom first s → KeepsRoom first (with_lines c ls s)
+lines-keep first c [] s kept = kept
+lines-keep first c (l ∷ ls) s kept = lines-keep first c ls (Said c l ∷ s) kept
+
+reports-keep : (first : Configuration) (u : ℕ) (ls : List LineText) (s : List Step) → KeepsRoom first s → KeepsRoom first (with_reports u ls s)
+reports-keep first u [] s kept = kept
+reports-keep first u (l ∷ ls) s kept = reports-keep first u ls (Reported u l ∷ s) kept
+
+module _ (setup : Setup) (w : World) (kept : KeepsRoom setup.server (steps w.server)) where
+  abbrev IsKept : World → Type 0
+  IsKept v = KeepsRoom setup.server (steps v.server)
+
+  told : (e : arrivals.Event) → KeepsRoom setup.server (steps (e ∷ w.server)) → IsKept (after setup w (tell setup w e))
+  told e next = if-played IsKept setup w (is_none (server_tests.refusal (served setup w) e)) (Tell e) kept (λ ok. next)
+
+  others-keep : (e : arrivals.Event) → may_tell setup w (heeded setup.server e) ≡ true → KeepsRoom setup.server (steps (heeded setup.server e ∷ w.server))
+  others-keep (arrivals.Bytes c piece) may = lines-keep setup.server c (brought (input c w.server) piece) (steps w.server) kept
+  others-keep (arrivals.DriverBytes u piece) may = reports-keep setup.server u (brought (driver_input u w.server) piece) (steps w.server) kept
+  others-keep (arrivals.Moment t) may = kept
+  others-keep (arrivals.Open address) may = kept
+  others-keep (arrivals.Took c n) may = kept
+  others-keep (arrivals.Close c) may = kept
+  others-keep (arrivals.WriteFailed c) may = kept
+  others-keep (arrivals.DriverUp u) may = kept
+  others-keep (arrivals.DriverTook u n) may = kept
+  others-keep (arrivals.DriverDown u) may = kept
+  others-keep (arrivals.Reload k) may =
+      let new = kept_from setup.server k in
+      (k, refl, (bytes_eq-Decides (renumbered new.upses (numbering setup.server (past setup.server w.server))) (numbers setup.server (past setup.server w.server))).0 may, kept)
+
+  heard : (m : ℕ) (event : events.Event) → IsKept (after setup w (inform setup w m event))
+  heard m event = if-played IsKept setup w (is_none (monitor_tests.refusal (known setup w m) event)) (Inform m event) kept (λ ok. kept)
+
+  after-deed : (step : schedules.Step) → IsKept (after setup w (deed_of setup w step))
+  after-deed (schedules.ServerClock t) = told (arrivals.Moment t) kept
+  after-deed (schedules.MonitorClock m t) = heard m (events.Moment t)
+  after-deed (schedules.Up u) = told (arrivals.DriverUp u) kept
+  after-deed (schedules.Driver u line) =
+      told (arrivals.DriverBytes u (line ++ 10 ∷ [])) (reports-keep setup.server u (brought (driver_input u w.server) (line ++ 10 ∷ [])) (steps w.server) kept)
+  after-deed (schedules.Down u) = told (arrivals.DriverDown u) kept
+  after-deed (schedules.Link m i) =
+      if-played IsKept setup w
+      (not (is_open setup w m i) && not (is_linked setup w m i) && is_none (server_tests.refusal (served setup w) (arrivals.Open (address_of m))))
+      (Join m i) kept (λ ok. kept)
+  after-deed (schedules.Out m i n) =
+      if-played IsKept setup w (is_linked setup w m i) (counted (moved n (monitor_waits setup w m i)) (λ k. inform setup w m (events.LinkTook i k))) kept
+      (λ up. if-counted IsKept setup w (moved n (monitor_waits setup w m i)) (λ k. inform setup w m (events.LinkTook i k)) kept
+      (heard m (events.LinkTook i (moved n (monitor_waits setup w m i)))))
+  after-deed (schedules.Reach m i n) =
+      let c = w.connection m i in
+      let piece = take (min n PIECE_MAX) (to_server setup w m i) in
+      if-played IsKept setup w (is_open setup w m i) (carried piece (λ x. tell setup w (arrivals.Bytes c x))) kept
+      (λ up. if-carried IsKept setup w piece (λ x. tell setup w (arrivals.Bytes c x)) kept
+      (told (arrivals.Bytes c piece) (lines-keep setup.server c (brought (input c w.server) piece) (steps w.server) kept)))
+  after-deed (schedules.Back m i n) =
+      let c = w.connection m i in
+      if-played IsKept setup w (is_open setup w m i) (counted (moved n (server_waits setup w m i)) (λ k. tell setup w (arrivals.Took c k))) kept
+      (λ up. if-counted IsKept setup w (moved n (server_waits setup w m i)) (λ k. tell setup w (arrivals.Took c k)) kept
+      (told (arrivals.Took c (moved n (server_waits setup w m i))) kept))
+  after-deed (schedules.Land m i n) =
+      let piece = take (min n PIECE_MAX) (to_monitor setup w m i) in
+      if-played IsKept setup w (is_linked setup w m i) (carried piece (λ x. inform setup w m (events.LinkBytes i x))) kept
+      (λ up. if-carried IsKept setup w piece (λ x. inform setup w m (events.LinkBytes i x)) kept (heard m (events.LinkBytes i piece)))
+  after-deed (schedules.CutServer m i) = told (arrivals.Close (w.connection m i)) kept
+  after-deed (schedules.CutMonitor m i) = heard m (events.LinkLost i)
+  after-deed (schedules.Other e) = if-played IsKept setup w (may_tell setup w (heeded setup.server e)) (tell setup w (heeded setup.server e)) kept (λ may. told (heeded setup.server e) (others-keep e may))
+
+-- Every reload of a schedule keeps the room.
+pub room-stays : (setup : Setup) (schedule : List schedules.Step) → KeepsRoom setup.server (steps (world setup schedule).server)
+room-stays setup [] = tt
+room-stays setup (step ∷ earlier) =
+    let w = world setup earlier in
+    let kept = room-stays setup earlier in
+    if-played (λ v. KeepsRoom setup.server (steps v.server)) setup w (is_other step || is_fit setup step) (deed_of setup w step) kept (λ ok. after-deed setup w kept step)

@@ -1,0 +1,174 @@
+-- A machine whose UPSes may be at several servers stops by what it reads.
+use Rattle.std.proofs.Common.{◌≡◌, ℕ, suc, ◌+◌, ◌≤◌, inl, List, [], ◌∷◌, ◌++◌, length, Bool, true, refl, ◌∙◌, ap, arith}
+use Rattle.nut_monitor_spec.specs.declared.Phase.TheVariants.{Halted}
+use Rattle.nut_monitor_spec.specs.Acceptance.{IsAccepted}
+use Rattle.nut_monitor_spec.specs.Configuration.{Configuration, has_primary}
+use Rattle.nut_monitor_spec.specs.Event.{Event}
+use Rattle.nut_monitor_spec.specs.Trace.{Entry, begun, clock, critical, entry_of, has_begun, is_any, is_over_at, is_short, linked, phase, status, trace}
+use Rattle.nut_in_time.specs.AnyServers.{Always, EachGiven, IsEven, IsTold, MachinesStopAsTold}
+use Rattle.nut_in_time.specs.Pace.{Pace, IsPolled, IsPrompt, Says}
+use Rattle.nut_in_time.specs.InTime.{BeginsBy, IsKnown, has_fsd, is_low, secondary_by, seen_by, to_halted, turn}
+use Rattle.nut_in_time.proofs.Beginning.{Urgent, fsd-critical, lasts-know, low-critical, urgent-begin, urgent-next}
+use Rattle.nut_in_time.proofs.Calming.{Secondaries, calm-at, calm-first, late-begun, secondaries-next, seen-first}
+use Rattle.nut_in_time.proofs.Ending.{EndsInTime, earliest-sooner, earliest-stays, ends-next, halted-then}
+use Rattle.nut_in_time.proofs.Lasting.{AllGood, Chosen, Lasts}
+use Rattle.nut_in_time.proofs.Starting.{old-first}
+
+always-now : (configuration : Configuration) (Holds : List Entry → Type 0) (first newest : List Event) → Always configuration Holds first newest →
+    Holds (trace configuration (newest ++ first))
+always-now configuration Holds first [] h = h
+always-now configuration Holds first (event ∷ newest) h = h.0
+
+-- Final began in time, as long as the clock goes evenly.
+ends-even : (configuration : Configuration) (pace : Pace) (t0 : ℕ) (first newest : List Event) → IsEven configuration pace first newest →
+    EndsInTime configuration pace.skip t0 (trace configuration first) → EndsInTime configuration pace.skip t0 (trace configuration (newest ++ first))
+ends-even configuration pace t0 first [] even before = before
+ends-even configuration pace t0 first (event ∷ newest) even before =
+    let past = trace configuration (newest ++ first) in
+    ends-next configuration pace.skip t0 (entry_of configuration past event) past even.0 (ends-even configuration pace t0 first newest even.1 before)
+
+-- A shutdown that has begun keeps its beginning.
+begun-on : (configuration : Configuration) (told later : List Event) → has_begun configuration (trace configuration told) ≡ true →
+    begun configuration (trace configuration (later ++ told)) ≡ begun configuration (trace configuration told)
+begun-on configuration told [] any = refl
+begun-on configuration told (event ∷ later) any =
+    let past = trace configuration (later ++ told) in
+    let same = begun-on configuration told later any in
+    earliest-stays (is_short configuration) (entry_of configuration past event) past (ap is_any same ∙ any) ∙ same
+
+module _ (configuration : Configuration) (pace : Pace) (Words : List (List ℕ) → Bool) (low : ℕ → Bool) (first : List Event) where
+  abbrev Keeps : List Event → Type 0
+  Keeps newest = Chosen configuration low (λ i. Always configuration (λ past. (linked i past ≡ true) × IsPrompt pace i past) first newest)
+
+  abbrev Given : List Event → Type 0
+  Given newest = Chosen configuration low (λ i. EachGiven i (length first) Words (trace configuration (newest ++ first)))
+
+  good : (newest : List Event) → IsAccepted configuration (newest ++ first) → Keeps newest → Given newest → AllGood configuration (length first) pace Words low (newest ++ first)
+  good newest accepted keeps says i less is =
+      let now = always-now configuration (λ past. (linked i past ≡ true) × IsPrompt pace i past) first newest (keeps i less is) in
+      record { accepted = accepted; there = now.0; prompt = now.1; given = says i less is }
+
+  -- event by event
+  since : (P : List Event → Type 0) → P first → ((told : List Event) (event : Event) → AllGood configuration (length first) pace Words low told →
+      AllGood configuration (length first) pace Words low (event ∷ told) → clock (trace configuration (event ∷ told)) ≤ clock (trace configuration told) + suc pace.skip → P told → P (event ∷ told)) →
+      (newest : List Event) → IsAccepted configuration (newest ++ first) → IsEven configuration pace first newest → Keeps newest → Given newest → P (newest ++ first)
+  since P base on [] accepted even keeps says = base
+  since P base on (event ∷ newest) accepted even keeps says =
+      let keeps' : Keeps newest = λ i less is. (keeps i less is).1 in
+      let says' : Given newest = λ i less is. (says i less is).1 in
+      on (newest ++ first) event (good newest accepted.0 keeps' says') (good (event ∷ newest) accepted keeps says) even.0 (since P base on newest accepted.0 even.1 keeps' says')
+
+  -- at the beginning
+  lasts-at : (turn : ℕ) → AllGood configuration (length first) pace Words low first → Chosen configuration low (λ i. IsPolled i (trace configuration first)) →
+      Lasts configuration (length first) (clock (trace configuration first)) turn pace Words low first
+  lasts-at turn good_first polled = record {
+    long = omega arith;
+    polls = λ not_begun i less is.
+        let g = good_first i less is in
+        inl (old-first configuration i first (length first) turn pace Words g.accepted g.there not_begun (polled i less is));
+  }
+
+-- the links of a machine that is told so, at the beginning and at the end
+module _ (configuration : Configuration) (pace : Pace) (Words : List (List ℕ) → Bool) (low : ℕ → Bool) (first newest : List Event) (is : IsTold configuration pace Words low first newest) where
+  all-keep : Keeps configuration pace Words low first newest
+  all-keep i less l = (is.lines i less l).1
+
+  all-given : Given configuration pace Words low first newest
+  all-given i less l = (is.lines i less l).2
+
+  good-now : AllGood configuration (length first) pace Words low (newest ++ first)
+  good-now = good configuration pace Words low first newest is.accepted all-keep all-given
+
+  good-first : AllGood configuration (length first) pace Words low first
+  good-first = by newest is.accepted is.even all-keep all-given
+    where
+      by : (newest : List Event) → IsAccepted configuration (newest ++ first) → IsEven configuration pace first newest → Keeps configuration pace Words low first newest →
+          Given configuration pace Words low first newest → AllGood configuration (length first) pace Words low first
+      by [] accepted even keeps says = good configuration pace Words low first [] accepted keeps says
+      by (event ∷ newest) accepted even keeps says = by newest accepted.0 even.1 (λ i less l. (keeps i less l).1) (λ i less l. (says i less l).1)
+
+  lasts-first : (turn : ℕ) → Lasts configuration (length first) (clock (trace configuration first)) turn pace Words low first
+  lasts-first turn = lasts-at configuration pace Words low first turn good-first (λ i less l. (is.lines i less l).0)
+
+  -- the shutdown continues to Halted
+  halts : (latest : ℕ) → clock (trace configuration first) ≤ latest → (later : List Event) → has_begun configuration (trace configuration (newest ++ first)) ≡ true →
+      clock (begun configuration (trace configuration (newest ++ first))) ≤ latest → IsEven configuration pace (newest ++ first) later →
+      latest + to_halted configuration pace ≤ clock (trace configuration (later ++ (newest ++ first))) →
+      phase configuration (trace configuration (later ++ (newest ++ first))) ≡ Halted (has_primary configuration.lines)
+  halts latest sooner_first later began le even late =
+      let same = begun-on configuration (newest ++ first) later began in
+      let at = ap clock same in
+      let sooner = earliest-sooner (is_over_at configuration) (trace configuration first) in
+      let t0 = clock (trace configuration first) in
+      halted-then configuration pace (trace configuration (later ++ (newest ++ first))) t0 latest
+      (ends-even configuration pace t0 (newest ++ first) later even (ends-even configuration pace t0 first newest is.even (λ any. inl sooner))) sooner_first
+      (ap is_any same ∙ began) (omega (arith, at, le)) late
+
+  -- lines whose words are critical at once
+  at-once : ((past : List Entry) → Chosen configuration low (λ i. Says Words (status i past) → critical configuration i past ≡ true)) →
+      BeginsBy configuration (seen_by configuration pace (clock (trace configuration first))) (seen_by configuration pace (clock (trace configuration first)) + 0) (trace configuration (newest ++ first))
+  at-once urgent =
+      let n0 = length first in
+      let t0 = clock (trace configuration first) in
+      let most = turn configuration pace in
+      let State = Lasts configuration n0 t0 most pace Words low in
+      let knows = lasts-know configuration n0 t0 most pace Words low (omega arith) (omega arith) in
+      let sooner = earliest-sooner (is_short configuration) (trace configuration first) in
+      let p : Urgent configuration n0 t0 most pace Words low is.needs urgent State knows (newest ++ first) =
+      since configuration pace Words low first (Urgent configuration n0 t0 most pace Words low is.needs urgent State knows)
+      (record { state = lasts-first most; began = λ any. omega (arith, sooner) })
+      (urgent-next configuration n0 t0 most pace Words low is.needs urgent State knows) newest is.accepted is.even all-keep all-given in
+      record {
+        begins = urgent-begin configuration n0 t0 most pace Words low is.needs urgent State knows (newest ++ first) good-now p;
+        began = λ any. let le = p.began any in omega (arith, le);
+      }
+
+-- in any case, on a low battery
+slowly : (configuration : Configuration) (pace : Pace) (low : ℕ → Bool) (first newest : List Event) (is : IsTold configuration pace is_low low first newest) (known : Bool) →
+    Chosen configuration low (λ i. IsKnown known (trace configuration first) i) →
+    BeginsBy configuration (secondary_by configuration pace known (clock (trace configuration first))) (secondary_by configuration pace known (clock (trace configuration first)) + suc pace.skip)
+    (trace configuration (newest ++ first))
+slowly configuration pace low first newest is known has_status =
+    let n0 = length first in
+    let t0 = clock (trace configuration first) in
+    let most = turn configuration pace in
+    let latest_by = secondary_by configuration pace known t0 in
+    let turned : configuration.poll_freq + pace.skip ≤ most = omega arith in
+    let soon : pace.delay ≤ most = omega arith in
+    let seen_first = seen-first configuration pace known t0 in
+    let calm_first = calm-first configuration pace known t0 in
+    let sooner = earliest-sooner (is_short configuration) (trace configuration first) in
+    let P = Secondaries configuration n0 t0 most latest_by pace low known turned soon is.needs.one is.needs.there is.needs.passes is.needs.short seen_first calm_first in
+    let p : P (newest ++ first) =
+    since configuration pace is_low low first P
+    (record {
+      lasts = lasts-first configuration pace is_low low first newest is most;
+      calms = λ not_begun i less l. calm-at configuration i n0 most pace known (trace configuration first) (has_status i less l);
+      began = λ any. omega (arith, sooner, seen_first);
+    })
+    (secondaries-next configuration n0 t0 most latest_by pace low known turned soon is.needs.one is.needs.there is.needs.passes is.needs.short seen_first calm_first)
+    newest is.accepted is.even (all-keep configuration pace is_low low first newest is) (all-given configuration pace is_low low first newest is) in
+    record {
+      begins =
+          late-begun configuration n0 t0 most latest_by pace low known turned soon is.needs.one is.needs.there is.needs.passes is.needs.short seen_first calm_first
+          (newest ++ first) (good-now configuration pace is_low low first newest is) p;
+      began = p.began;
+    }
+
+pub machines-stop : (configuration : Configuration) (pace : Pace) (low : ℕ → Bool) → MachinesStopAsTold configuration pace low
+machines-stop configuration pace low = record {
+  primaries = λ first newest later is primary.
+      let b = at-once configuration pace is_low low first newest is (λ past i less l says. low-critical configuration i past says (inl (primary i less l))) in
+      (b, λ began even late. halts configuration pace is_low low first newest is (seen_by configuration pace (clock (trace configuration first)) + 0) (omega arith) later began (b.began began) even late);
+  secondaries = λ known first newest later is has_status.
+      let b = slowly configuration pace low first newest is known has_status in
+      let seen = seen-first configuration pace known (clock (trace configuration first)) in (
+        b,
+        λ began even late.
+            halts configuration pace is_low low first newest is (secondary_by configuration pace known (clock (trace configuration first)) + suc pace.skip)
+            (omega (arith, seen)) later began (b.began began) even late,
+      );
+  forced = λ first newest later is none.
+      let b = at-once configuration pace has_fsd low first newest is (λ past i less l says. fsd-critical configuration i past says) in
+      (b, λ began even late. halts configuration pace has_fsd low first newest is (seen_by configuration pace (clock (trace configuration first)) + 0) (omega arith) later began (b.began began) even late);
+}

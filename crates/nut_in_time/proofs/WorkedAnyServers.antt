@@ -1,0 +1,169 @@
+-- The worked machine with UPSes at two servers.
+use Rattle.std.proofs.Common.{◌≡◌, ℕ, zero, suc, ◌+◌, ◌<◌, ◌&&◌, ◌||◌, ◌==◌, nat_le, not, List, [], ◌∷◌, ◌++◌, length, Bool, true, Option, Some, None, is_none, refl, ◌∙◌, ap, subst, arith}
+use Rattle.std.specs.Prelude.{nat_lt}
+use Rattle.std.proofs.lemmas.Bool.{and_parts, eq-eqb, leb-true, lt-ltb}
+use Rattle.nut_words.specs.Reader.{read}
+use Rattle.nut_proto.specs.Answers.{answer_of}
+use Rattle.nut_proto.specs.Lines.{line}
+use Rattle.nut_proto.specs.Requests.{request_line}
+use Rattle.nut_monitor_spec.specs.declared.Query.TheVariants.{Status}
+use Rattle.nut_monitor_spec.specs.Acceptance.{IsAccepted, IsGiven as Happens, is_busy, refusal}
+use Rattle.nut_monitor_spec.specs.Configuration.{Configuration}
+use Rattle.nut_monitor_spec.specs.Content.{Content, content}
+use Rattle.nut_monitor_spec.specs.Event.{Event, Moment, Linked, LinkBytes, LinkLost, LinkTook, OutOfMemory, NoticeTaken}
+use Rattle.nut_monitor_spec.specs.Query.{status_in}
+use Rattle.nut_monitor_spec.specs.Trace.{Answer, Entry, clock, entry_of, last_query, linked, outstanding, trace}
+use Rattle.nut_monitor_spec.specs.examples.Examples.{two_primaries}
+use Rattle.nut_fleet.proofs.Steps.{is_none-true}
+use Rattle.nut_in_time.specs.AnyServers.{Always, EachGiven, IsEven, IsTold}
+use Rattle.nut_in_time.specs.examples.AnyServersExamples.{AnyServersExamples, both_are_low, both_read, since_then}
+use Rattle.nut_in_time.specs.examples.Examples.{all, pace}
+use Rattle.nut_in_time.specs.InTime.{is_low}
+use Rattle.nut_in_time.specs.Pace.{IsPolled, IsPrompt, Pace, Says}
+use Rattle.nut_in_time.specs.Tests.{is_polled, is_prompt, is_status, says}
+use Rattle.nut_in_time.proofs.Testing.{polled-holds, prompt-holds, says-holds}
+
+-- ---- tests of the premises, and that they prove them
+
+abbrev happens : Content → Event → Bool
+happens s NoticeTaken = is_busy s
+happens s event = true
+
+happens-holds : (s : Content) (event : Event) → happens s event ≡ true → Happens s event
+happens-holds s NoticeTaken is = is
+happens-holds s (Moment t) is = tt
+happens-holds s (Linked i) is = tt
+happens-holds s (LinkBytes i piece) is = tt
+happens-holds s (LinkLost i) is = tt
+happens-holds s (LinkTook i n) is = tt
+happens-holds s (OutOfMemory i piece k) is = tt
+
+abbrev were_accepted : Configuration → List Event → Bool
+were_accepted configuration [] = true
+were_accepted configuration (event ∷ told) =
+    were_accepted configuration told && (is_none (refusal (content configuration told) event) && happens (content configuration told) event)
+
+accepted-holds : (configuration : Configuration) (told : List Event) → were_accepted configuration told ≡ true → IsAccepted configuration told
+accepted-holds configuration [] is = tt
+accepted-holds configuration (event ∷ told) is =
+    let s = content configuration told in
+    let parts = and_parts (were_accepted configuration told) (is_none (refusal s event) && happens s event) is in
+    let both = and_parts (is_none (refusal s event)) (happens s event) parts.1 in
+    (accepted-holds configuration told parts.0, (is_none-true (refusal s event) both.0, happens-holds s event both.1))
+
+abbrev is_even : Configuration → Pace → List Event → List Event → Bool
+is_even configuration pace first [] = true
+is_even configuration pace first (event ∷ newest) =
+    nat_le (clock (trace configuration (event ∷ (newest ++ first)))) (clock (trace configuration (newest ++ first)) + suc pace.skip) && is_even configuration pace first newest
+
+even-holds : (configuration : Configuration) (pace : Pace) (first newest : List Event) → is_even configuration pace first newest ≡ true → IsEven configuration pace first newest
+even-holds configuration pace first [] is = tt
+even-holds configuration pace first (event ∷ newest) is =
+    let now = clock (trace configuration (event ∷ (newest ++ first))) in
+    let most = clock (trace configuration (newest ++ first)) + suc pace.skip in
+    let parts = and_parts (nat_le now most) (is_even configuration pace first newest) is in
+    (leb-true now most parts.0, even-holds configuration pace first newest parts.1)
+
+abbrev keeps : Pace → ℕ → List Entry → Bool
+keeps pace i past = linked i past && is_prompt pace.delay (clock past) (outstanding i past)
+
+keeps-holds : (pace : Pace) (i : ℕ) (past : List Entry) → keeps pace i past ≡ true → (linked i past ≡ true) × IsPrompt pace i past
+keeps-holds pace i past is =
+    let parts = and_parts (linked i past) (is_prompt pace.delay (clock past) (outstanding i past)) is in
+    (parts.0, λ asked waits. prompt-holds pace.delay (clock past) (outstanding i past) parts.1 asked waits)
+
+abbrev always : Configuration → (List Entry → Bool) → List Event → List Event → Bool
+always configuration test first [] = test (trace configuration first)
+always configuration test first (event ∷ newest) = test (trace configuration (event ∷ (newest ++ first))) && always configuration test first newest
+
+always-holds : (configuration : Configuration) (pace : Pace) (i : ℕ) (first newest : List Event) → always configuration (keeps pace i) first newest ≡ true →
+    Always configuration (λ past. (linked i past ≡ true) × IsPrompt pace i past) first newest
+always-holds configuration pace i first [] is = keeps-holds pace i (trace configuration first) is
+always-holds configuration pace i first (event ∷ newest) is =
+    let past = trace configuration (event ∷ (newest ++ first)) in
+    let parts = and_parts (keeps pace i past) (always configuration (keeps pace i) first newest) is in
+    (keeps-holds pace i past parts.0, always-holds configuration pace i first newest parts.1)
+
+abbrev is_given : ℕ → ℕ → (List (List ℕ) → Bool) → Option Answer → Bool
+is_given i n Words None = true
+is_given i n Words (Some a) = not (a.link == i && (is_status a.asked.query && nat_lt n a.asked.event)) || says Words (status_in a.asked.query a.outcome)
+
+given-holds : (i n : ℕ) (Words : List (List ℕ) → Bool) (answer : Option Answer) → is_given i n Words answer ≡ true →
+    (a : Answer) → answer ≡ Some a → a.link ≡ i → a.asked.query ≡ Status → n < a.asked.event → Says Words (status_in a.asked.query a.outcome)
+given-holds i n Words None is a e link status late = cc
+given-holds i n Words (Some b) is a e link status late =
+    let same : b ≡ a = cc in
+    let e1 : (b.link == i) ≡ true = eq-eqb b.link i (ap (λ (x : Answer). x.link) same ∙ link) in
+    let e2 : is_status b.asked.query ≡ true = ap (λ (x : Answer). is_status x.asked.query) same ∙ ap is_status status in
+    let e3 : nat_lt n b.asked.event ≡ true = ap (λ (x : Answer). nat_lt n x.asked.event) same ∙ lt-ltb n a.asked.event late in
+    let told : says Words (status_in b.asked.query b.outcome) ≡ true = rw (e1, e2, e3) at is in
+    subst (λ (x : Answer). Says Words (status_in x.asked.query x.outcome)) same (says-holds Words (status_in b.asked.query b.outcome) told)
+
+abbrev each_given : ℕ → ℕ → (List (List ℕ) → Bool) → List Entry → Bool
+each_given i n Words [] = true
+each_given i n Words (entry ∷ past) = is_given i n Words entry.answer && each_given i n Words past
+
+each_given-holds : (i n : ℕ) (Words : List (List ℕ) → Bool) (past : List Entry) → each_given i n Words past ≡ true → EachGiven i n Words past
+each_given-holds i n Words [] is = tt
+each_given-holds i n Words (entry ∷ past) is =
+    let parts = and_parts (is_given i n Words entry.answer) (each_given i n Words past) is in
+    (given-holds i n Words entry.answer parts.0, each_given-holds i n Words past parts.1)
+
+-- ---- what is computed
+
+accepted-is : were_accepted two_primaries (since_then both_are_low ++ both_read) ≡ true
+unfolding read answer_of line request_line entry_of
+accepted-is = refl
+
+even-is : is_even two_primaries pace both_read (since_then both_are_low) ≡ true
+unfolding read answer_of line request_line entry_of
+even-is = refl
+
+polled-is : (is_polled (last_query 0 (trace two_primaries both_read)) && is_polled (last_query 1 (trace two_primaries both_read))) ≡ true
+unfolding read answer_of line request_line entry_of
+polled-is = refl
+
+keeps-is : (always two_primaries (keeps pace 0) both_read (since_then both_are_low) && always two_primaries (keeps pace 1) both_read (since_then both_are_low)) ≡ true
+unfolding read answer_of line request_line entry_of
+keeps-is = refl
+
+given-is : (each_given 0 (length both_read) is_low (trace two_primaries (since_then both_are_low ++ both_read))
+    && each_given 1 (length both_read) is_low (trace two_primaries (since_then both_are_low ++ both_read))) ≡ true
+unfolding read answer_of line request_line entry_of
+given-is = refl
+
+is-told : IsTold two_primaries pace is_low all both_read (since_then both_are_low)
+is-told = record {
+  accepted = accepted-holds two_primaries (since_then both_are_low ++ both_read) accepted-is;
+  even = even-holds two_primaries pace both_read (since_then both_are_low) even-is;
+  needs = record { one = 0; there = omega arith; passes = refl; short = omega arith };
+  lines = λ i less is. (polled i less is, kept i less is, given i less is);
+}
+  where
+    polled : (i : ℕ) → i < 2 → all i ≡ true → IsPolled i (trace two_primaries both_read)
+    polled zero less is = polled-holds (last_query 0 (trace two_primaries both_read)) (and_parts _ _ polled-is).0
+    polled (suc zero) less is = polled-holds (last_query 1 (trace two_primaries both_read)) (and_parts _ _ polled-is).1
+    polled (suc (suc i)) less is = absurd (omega (arith, less))
+
+    kept : (i : ℕ) → i < 2 → all i ≡ true → Always two_primaries (λ past. (linked i past ≡ true) × IsPrompt pace i past) both_read (since_then both_are_low)
+    kept zero less is = always-holds two_primaries pace 0 both_read (since_then both_are_low) (and_parts _ _ keeps-is).0
+    kept (suc zero) less is = always-holds two_primaries pace 1 both_read (since_then both_are_low) (and_parts _ _ keeps-is).1
+    kept (suc (suc i)) less is = absurd (omega (arith, less))
+
+    given : (i : ℕ) → i < 2 → all i ≡ true → EachGiven i (length both_read) is_low (trace two_primaries (since_then both_are_low ++ both_read))
+    given zero less is = each_given-holds 0 (length both_read) is_low (trace two_primaries (since_then both_are_low ++ both_read)) (and_parts _ _ given-is).0
+    given (suc zero) less is = each_given-holds 1 (length both_read) is_low (trace two_primaries (since_then both_are_low ++ both_read)) (and_parts _ _ given-is).1
+    given (suc (suc i)) less is = absurd (omega (arith, less))
+
+pub any_servers-examples : AnyServersExamples
+unfolding read answer_of line request_line entry_of
+any_servers-examples = record {
+  told = is-told;
+  known_by = refl;
+  at_last = refl;
+  not_yet = refl;
+  begun_at = refl;
+  to_the_end = refl;
+  still_up = refl;
+  halted = refl;
+}

@@ -1,0 +1,12 @@
+//! Laws of the looks at sources.
+
+ghost use Rattle.nut_poll.specs.Turns.{EachHasItsTurn, LooksGoOn, NobodyIsPassedOver, OthersComeOnce};
+
+/// States laws and does nothing when called: however sources are looked at that wait in a queue, none is passed over.
+/// Between two looks at one, each other that waited was looked at, and a source waits for each other at most once.
+pub fn nobody_is_passed_over()
+    ensures goes_on { LooksGoOn }
+    ensures between { NobodyIsPassedOver }
+    ensures turn { EachHasItsTurn }
+    ensures once { OthersComeOnce }
+{}
