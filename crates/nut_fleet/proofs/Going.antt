@@ -24,7 +24,7 @@ use Rattle.nut_monitor_spec.specs.Trace as monitor
 use Rattle.nut_monitor_spec.proofs.Kept as monitor_kept
 use Rattle.nut_monitor_spec.proofs.Lists.{get_at}
 use Rattle.nut_fleet.specs.Schedule.{Step, ServerClock, MonitorClock, Up, Driver, Down, Link, Out, Reach, Back, Land, CutServer, CutMonitor, Other}
-use Rattle.nut_fleet.specs.World.{Setup, World, Deed, Skip, Tell, Inform, Join, monitor_of, seen, served, known, is_open, is_linked, to_server, to_monitor, server_waits, monitor_waits, tell, inform, carried, counted, moved, address_of, has_link, is_fit, deed_of, all_taken, informed, for_monitor, after, world}
+use Rattle.nut_fleet.specs.World.{Setup, World, Deed, Skip, Tell, Inform, Join, monitor_of, seen, served, known, is_open, is_linked, to_server, to_monitor, server_waits, monitor_waits, tell, inform, carried, counted, moved, address_of, has_link, is_fit, deed, deed_of, all_taken, informed, for_monitor, after, world}
 use Rattle.nut_fleet.specs.Fleet.{IsSetup}
 use Rattle.nut_fleet.specs.Log.{Noticed, turned, news, news_of}
 use Rattle.nut_fleet.specs.Moves.{reached, sent_off, landed, put_in, makes, ContentsTell}
@@ -555,6 +555,12 @@ module _ (setup : Setup) (earlier : List Step) (s : Sound setup earlier (world s
   pub tells-so : (step : Step) → is_fit setup step ≡ true → news_seen f step ≡ news setup w step
   tells-so step ok = ap (news_by f) (same-deed step ok) ∙ (goes step ok).1 ∙ sym (ap (news_of setup w) (played-is setup w step ok))
 
+  pub does-so : (step : Step) → is_fit setup step ≡ true → deed_by f step ≡ deed setup w step
+  does-so step ok = same-deed step ok ∙ sym (played-is setup w step ok)
+
+  pub ends-so : (m i : ℕ) → has_link setup m i ≡ true → (open_seen f m i ≡ is_open setup w m i) × (linked_seen f m i ≡ is_linked setup w m i)
+  ends-so m i there = (same-open m i there, same-linked m i there)
+
   if-same : (a b : Bool) (x y : List ℕ) → a ≡ b → (b ≡ true → x ≡ y) → (if a then x else []) ≡ (if b then y else [])
   if-same true true x y e same = same refl
   if-same true false x y e same = cc
@@ -604,6 +610,8 @@ fleets-go_on setup law fine schedule =
     record {
       goes_on = λ f step ok keeps. goes-on setup schedule s tells f keeps step ok;
       tells = λ f step ok keeps. tells-so setup schedule s tells f keeps step ok;
+      does = λ f step ok keeps. does-so setup schedule s tells f keeps step ok;
+      ends = λ f keeps m i there. ends-so setup schedule s tells f keeps m i there;
       counts = λ f keeps. counts-so setup schedule s tells f keeps;
       kept = λ f stands. kept-so setup (world setup schedule) tells f stands;
     }

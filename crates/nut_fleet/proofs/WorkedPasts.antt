@@ -132,7 +132,7 @@ not-calm (inr c) =
 
 no-supply : HasSupply alone (reverse (live (codes "OB LB"))) 0 says_on_line → ⊥
 no-supply has_supply =
-    let enough : 1 ≤ 0 = has_supply (λ i. not (i == 0)) (omega arith) refl by in
+    let enough : 1 ≤ 0 = has_supply (λ i. not (i == 0)) (λ none. cc) refl by in
     absurd (omega (arith, enough))
   where
     by : (i : ℕ) → IsCalmLine alone (reverse (live (codes "OB LB"))) 0 i says_on_line → not (i == 0) ≡ true

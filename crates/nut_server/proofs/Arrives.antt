@@ -15,9 +15,9 @@ use Rattle.nut_server_spec.specs.Outcome.{IsAnswer, after}
 use Rattle.nut_server_spec.specs.machine.MachineOutcome.{Answers, content_after}
 use Rattle.nut_server_spec.proofs.Tells.{answers-told, tells-after}
 use Rattle.nut_server_spec.specs.declared.limits.TheConstants.{OPENED_MAX}
-use Rattle.nut_server.specs.declared.server.Server.TheInside.{Inside}
+use Rattle.nut_server.specs.declared.server.Parts.TheInside.{Inside}
 use Rattle.nut_server.specs.inside.Inside.{numbers_of}
-use Rattle.nut_server.specs.inside.Server.{IsOrderly}
+use Rattle.nut_server.specs.inside.Parts.{IsOrderly}
 use Rattle.nut_server.specs.Settling.{is_unsettled, IsNextUnsettled}
 use Rattle.nut_server.proofs.Orderly.{IsUpTo-without}
 

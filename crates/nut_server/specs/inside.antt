@@ -6,6 +6,7 @@ pub mod Entries
 pub mod Fates
 pub mod Inside
 pub mod Lines
+pub mod Parts
 pub mod Place
 pub mod Rows
 pub mod Server

@@ -10,7 +10,7 @@ ghost use Rattle.nut_server_spec.specs.Content.{content, unheard};
 ghost use Rattle.nut_server_spec.specs.Numbering.{below};
 ghost use Rattle.nut_server_spec.specs.Acceptance.{Tells, refusal, session_of, supply_of, waiting_of, asks_of, may_read, leaves, kept, is_connected, has_login};
 ghost use Rattle.nut_server_spec.specs.laws.Laws.{HasFewConnections};
-ghost use Rattle.nut_server_spec.specs.laws.Limits.{AreWithin, IsWithin, most_waits};
+ghost use Rattle.nut_server_spec.specs.laws.Limits.{IsWithin, most_waits};
 ghost use Rattle.nut_server_spec.specs.Outcome.{IsAnswer, after};
 ghost use Rattle.nut_server_spec.specs.machine.MachineOutcome.{Answers, content_after};
 ghost use Rattle.nut_server.specs.Arrival.{event_of};
@@ -23,6 +23,7 @@ use crate::config::Config;
 use crate::connections::Connections;
 use crate::deeds::{Deed, Deeds};
 use crate::device::Device;
+use crate::limits::ANSWER_LINE_MAX;
 use crate::numbering::{Numbers, first_numbers};
 use crate::unread::Unread;
 use arrayvec::ArrayVec;
@@ -55,8 +56,9 @@ impl From<AllocError> for ServerFault {
     }
 }
 
-/// A server: its configuration, the time, the UPSes, and the open connections, with room for as many as may be open.
-pub struct Server {
+/// What a server keeps: its configuration, the time, the UPSes, and the open connections, with room for as many as may be
+/// open. Between two lines of a piece it is the content of no history, so it stands apart.
+struct Parts {
     config: Config,
     /// The numbers of the UPSes, in the order of ups.conf.
     numbers: Numbers,
@@ -66,7 +68,7 @@ pub struct Server {
     given: u32,
     devices: Vec<Device>,
     connections: Connections,
-    /// The answer to a request, while it is being handled.
+    /// The answer to a request, while it is being handled. From the start it has room for any answer of one line.
     scratch: Vec<u8>,
     /// The request to a driver that a client's request leads to, while it is being handled.
     line: ArrayVec<u8, ASKS_MAX>,
@@ -80,9 +82,9 @@ pub struct Server {
 }
 
 // A derived drop would be proved again in each crate that drops a value, with those of its parts.
-impl Drop for Server {
+impl Drop for Parts {
     fn drop(self) {
-        let Server {
+        let Parts {
             config: _config,
             numbers: _numbers,
             clock: _,
@@ -100,9 +102,9 @@ impl Drop for Server {
     }
 }
 
-impl Model for Server {
+impl Model for Parts {
     ghost use Rattle.nut_server_spec.specs.Content.{Content};
-    ghost use Rattle.nut_server.specs.inside.Server.{IsOrderly};
+    ghost use Rattle.nut_server.specs.inside.Parts.{IsOrderly};
 
     ghost Value = { Content };
 
@@ -119,6 +121,23 @@ impl Model for Server {
     ghost invariant = { IsOrderly };
 }
 
+/// A server: it was told a history of accepted arrivals, and has the content of this history.
+#[derive(Drop)]
+pub struct Server {
+    parts: Parts,
+}
+
+impl Model for Server {
+    ghost use Rattle.nut_server_spec.specs.Content.{Content};
+    ghost use Rattle.nut_server.specs.inside.Server.{IsTold};
+
+    ghost Value = { Content };
+
+    ghost view = { λ a. a.parts };
+
+    ghost invariant = { λ a. IsTold a.parts };
+}
+
 /// Returns `count` UPSes whose drivers were never connected.
 fn untold(alloc: Global, count: usize) -> Result<Vec<Device>, AllocError>
     ensures { IfOk result (λ devices. devices.items ≡ map (λ u. unheard) (below count)) }
@@ -130,28 +149,24 @@ fn untold(alloc: Global, count: usize) -> Result<Vec<Device>, AllocError>
     Ok(devices)
 }
 
-/// Returns `count` UPSes whose drivers were never connected, and room for all connections.
-fn room_for(alloc: Global, count: usize) -> Result<(Vec<Device>, Connections), AllocError>
+/// Returns `count` UPSes whose drivers were never connected, room for all connections, and room for an answer of one line.
+fn room_for(alloc: Global, count: usize) -> Result<(Vec<Device>, Connections, Vec<u8>), AllocError>
     ensures { IfOk result (λ room. (room.0.items ≡ map (λ u. unheard) (below count)) × (room.1 ≡ [])) }
 {
+    let scratch = Vec::with_capacity(alloc, ANSWER_LINE_MAX)?;
     let devices = untold(alloc, count)?;
-    Ok((devices, Connections::with_room(alloc)?))
+    Ok((devices, Connections::with_room(alloc)?, scratch))
 }
 
-impl Server {
-    /// Returns a server that has been told nothing. Allocates the memory for as many connections as may be open at once
-    /// and for the requests that wait for the drivers, so none is needed when a client or a driver connects.
-    ///
-    /// # Errors
-    ///
-    /// `Memory` if that memory cannot be allocated.
-    pub fn new(alloc: Global, config: Config) -> Result<Server, ServerFault>
-        ensures { IfOk result (λ server. server ≡ content config []) }
+impl Parts {
+    /// Returns what a server keeps that has been told nothing.
+    fn new(alloc: Global, config: Config) -> Result<Parts, ServerFault>
+        ensures { IfOk result (λ parts. parts ≡ content config []) }
     {
         config.is_within_limits();
         let count = config.number_of_upses();
         match room_for(alloc, count) {
-            Ok((devices, connections)) => Ok(Server {
+            Ok((devices, connections, scratch)) => Ok(Parts {
                 config,
                 numbers: first_numbers(count),
                 clock: 0,
@@ -159,7 +174,7 @@ impl Server {
                 given: 0,
                 devices,
                 connections,
-                scratch: Vec::new(alloc),
+                scratch,
                 line: ArrayVec::new(),
                 likely: 0,
                 likely_variable: 0,
@@ -173,12 +188,8 @@ impl Server {
         }
     }
 
-    /// Takes one arrival: `arrive` with its contract in terms of the machine, for proofs that have no history at hand.
-    ///
-    /// # Errors
-    ///
-    /// Those of `arrive`.
-    pub fn step(&mut self, arrival: Arrival<'_>) -> Result<(), Refused>
+    /// Takes one arrival, as a server does.
+    fn step(&mut self, arrival: Arrival<'_>) -> Result<(), Refused>
         ensures answered { Answers self.old (event_of arrival.entry) result }
         ensures content { self.new ≡ content_after result self.old (event_of arrival.entry) }
     {
@@ -197,6 +208,40 @@ impl Server {
             Arrival::DriverDown(u) => self.driver_down(u),
             Arrival::Reload(config) => self.reload_boxed(config),
         }
+    }
+}
+
+impl Server {
+    /// Returns a server that has been told nothing. Allocates the memory for as many connections as may be open at once
+    /// and for the requests that wait for the drivers, so none is needed when a client or a driver connects. Also for an
+    /// answer of one line: such an answer needs none if it has room behind those that wait for its client.
+    ///
+    /// # Errors
+    ///
+    /// `Memory` if that memory cannot be allocated.
+    pub fn new(alloc: Global, config: Config) -> Result<Server, ServerFault>
+        ensures { IfOk result (λ server. server ≡ content config []) }
+    {
+        config.is_within_limits();
+        match Parts::new(alloc, config) {
+            Ok(parts) => Ok(Server { parts }),
+            Err(fault) => Err(fault),
+        }
+    }
+
+    /// Takes one arrival: `arrive` with its contract in terms of the machine, for proofs that have no history at hand.
+    ///
+    /// # Errors
+    ///
+    /// Those of `arrive`.
+    pub fn step(&mut self, arrival: Arrival<'_>) -> Result<(), Refused>
+        ensures answered { Answers self.old (event_of arrival.entry) result }
+        ensures content { self.new ≡ content_after result self.old (event_of arrival.entry) }
+    {
+        let answer = self.parts.step(arrival);
+        // brings into the proof that the configuration is within the limits of its files
+        let _config = &self.parts.config;
+        answer
     }
 
     /// Handles one arrival. After `Ok` the history includes the arrival. After a refusal it is as it was, except for
@@ -248,7 +293,7 @@ impl Server {
     fn has_few_connections(&self)
         ensures { HasFewConnections CONNECTIONS_MAX self.now }
     {
-        let _connections = &self.connections;
+        let _connections = &self.parts.connections;
     }
 
     /// How many connections were opened: the number of the newest, at most [`OPENED_MAX`].
@@ -256,7 +301,7 @@ impl Server {
         ensures value { result ≡ self.now.opened }
         ensures few { result ≤ OPENED_MAX }
     {
-        self.opened
+        self.parts.opened
     }
 
     /// Returns the configuration in force.
@@ -264,7 +309,7 @@ impl Server {
         ensures value { result.now ≡ self.now.configuration }
         ensures limits { IsWithin self.now.configuration }
     {
-        &self.config
+        &self.parts.config
     }
 
     /// How many UPSes there are, at most [`UPSES_MAX`].
@@ -272,7 +317,7 @@ impl Server {
         ensures len { result ≡ length self.now.configuration.upses }
         ensures few { result ≤ UPSES_MAX }
     {
-        self.config.number_of_upses()
+        self.parts.config.number_of_upses()
     }
 
     /// How many places for UPSes there are, at most [`UPSES_MAX`]: as many as the greatest configuration so far had UPSes.
@@ -281,23 +326,20 @@ impl Server {
         ensures len { result ≡ length self.now.supplies }
         ensures few { result ≤ UPSES_MAX }
     {
-        self.devices.len()
+        self.parts.devices.len()
     }
 
     /// Returns how many bytes wait for a connection: at most 148,005,376, and 0 if it isn't open.
     pub fn waits(&self, c: u64) -> usize
         ensures value { result ≡ length (waiting_of c self.now.sessions) }
-
-        // The bound holds after every history of accepted arrivals whose configurations are within the limits of their
-        // files, as each `Config` is.
-        ensures bounded { (first : Configuration) (h : List Event) → AreWithin first h → Tells first h self.now → result ≤ most_waits }
+        ensures few { result ≤ most_waits }
     {
         // Brings the bound `WaitsAreBounded` into the proof, and does nothing when called.
         waits_are_bounded();
-        if self.connections.are_settled() {
+        if self.parts.connections.are_settled() {
             return 0;
         }
-        match self.connections.get(c) {
+        match self.parts.connections.get(c) {
             Some(connection) => connection.waits(),
             None => 0,
         }
@@ -307,7 +349,7 @@ impl Server {
     pub fn waiting(&self, c: u64) -> &[u8]
         ensures { result.now ≡ waiting_of c self.now.sessions }
     {
-        match self.connections.get(c) {
+        match self.parts.connections.get(c) {
             Some(connection) => connection.waiting(),
             None => &[],
         }
@@ -317,7 +359,7 @@ impl Server {
     pub fn may_read(&self, c: u64) -> bool
         ensures { result ≡ may_read (session_of c self.now.sessions) }
     {
-        match self.connections.get(c) {
+        match self.parts.connections.get(c) {
             Some(connection) => connection.may_read(),
             None => false,
         }
@@ -327,10 +369,10 @@ impl Server {
     pub fn leaves(&self, c: u64) -> bool
         ensures { result ≡ leaves (session_of c self.now.sessions) }
     {
-        if self.connections.are_settled() {
+        if self.parts.connections.are_settled() {
             return false;
         }
-        match self.connections.get(c) {
+        match self.parts.connections.get(c) {
             Some(connection) => connection.leaves(),
             None => false,
         }
@@ -340,7 +382,7 @@ impl Server {
     pub fn is_logged_in(&self, c: u64) -> bool
         ensures { result ≡ has_login (session_of c self.now.sessions) }
     {
-        match self.connections.get(c) {
+        match self.parts.connections.get(c) {
             Some(connection) => connection.login().is_some(),
             None => false,
         }
@@ -351,7 +393,7 @@ impl Server {
         ensures value { result ≡ kept (session_of c self.now.sessions) }
         ensures within { result ≤ LINE_MAX }
     {
-        match self.connections.get(c) {
+        match self.parts.connections.get(c) {
             Some(connection) => connection.kept(),
             None => 0,
         }
@@ -361,7 +403,7 @@ impl Server {
     pub fn is_connected(&self, u: usize) -> bool
         ensures { result ≡ is_connected (supply_of u self.now.supplies) }
     {
-        match self.devices.get(u) {
+        match self.parts.devices.get(u) {
             Some(device) => device.is_connected(),
             None => false,
         }
@@ -372,8 +414,10 @@ impl Server {
     pub fn is_stale(&self, u: usize) -> bool
         ensures { result ≡ option_map_or (λ s. is_stale self.now.configuration.max_age self.now.clock s.device) (supply_of u self.now.supplies) false }
     {
-        match self.devices.get(u) {
-            Some(device) => device.is_stale(u64::from(self.config.max_age()), self.clock),
+        match self.parts.devices.get(u) {
+            Some(device) => {
+                device.is_stale(u64::from(self.parts.config.max_age()), self.parts.clock)
+            }
             None => false,
         }
     }
@@ -383,7 +427,7 @@ impl Server {
     pub fn is_forced(&self, u: usize) -> bool
         ensures { result ≡ option_map_or (λ s. s.device.forced) (supply_of u self.now.supplies) false }
     {
-        match self.devices.get(u) {
+        match self.parts.devices.get(u) {
             Some(device) => device.is_forced(),
             None => false,
         }
@@ -392,7 +436,7 @@ impl Server {
     /// Returns which variables the driver of a UPS has said something about that couldn't be read, if there is such a place:
     /// since the server was made, or since a reload gave the place another UPS or driver.
     pub fn unread(&self, u: usize) -> Option<&Unread> {
-        match self.devices.get(u) {
+        match self.parts.devices.get(u) {
             Some(device) => Some(device.unread()),
             None => None,
         }
@@ -401,12 +445,12 @@ impl Server {
     /// How many deeds of clients there were: requests that were handed on to a driver, LOGIN, LOGOUT and FSD that were
     /// granted, and answers ACCESS-DENIED.
     pub fn deeds(&self) -> u64 {
-        self.deeds.count()
+        self.parts.deeds.count()
     }
 
     /// Returns the last deed of a client, if there was one.
     pub fn last_deed(&self) -> Option<&Deed> {
-        self.deeds.last()
+        self.parts.deeds.last()
     }
 
     /// How many bytes wait for the driver of a UPS, at most [`ASKS_MAX`]: 0 where there is no such UPS.
@@ -414,7 +458,7 @@ impl Server {
         ensures value { result ≡ length (asks_of u self.now.supplies) }
         ensures within { result ≤ ASKS_MAX }
     {
-        match self.devices.get(u) {
+        match self.parts.devices.get(u) {
             Some(device) => device.waits(),
             None => 0,
         }
@@ -424,7 +468,7 @@ impl Server {
     pub fn waiting_for_driver(&self, u: usize) -> &[u8]
         ensures { IsFrontPart result.now (asks_of u self.now.supplies) }
     {
-        match self.devices.get(u) {
+        match self.parts.devices.get(u) {
             Some(device) => device.waiting(),
             None => &[],
         }
@@ -435,7 +479,7 @@ impl Server {
         ensures next { IsNextUnsettled self.now.sessions least result }
         ensures fits { IfSome result (λ c. c < u64.MAX) }
     {
-        self.connections.first_unsettled(least)
+        self.parts.connections.first_unsettled(least)
     }
 
     /// Returns the number of the connection that is to be closed if a client calls: of those whose clients aren't logged in
@@ -445,10 +489,14 @@ impl Server {
         ensures value { result ≡ makes_way self.now }
         ensures not_logged_in { IfSome result (λ c. has_login (session_of c self.now.sessions) ≡ false) }
     {
-        if self.connections.len() < self.config.most_connections() || self.opened >= OPENED_MAX {
+        if self.parts.connections.len() < self.parts.config.most_connections()
+            || self.parts.opened >= OPENED_MAX
+        {
             return None;
         }
-        self.connections.longest_without_login(&self.config)
+        self.parts
+            .connections
+            .longest_without_login(&self.parts.config)
     }
 
     /// Returns the least number, from `least` on, of a UPS for whose driver bytes wait.
@@ -456,8 +504,8 @@ impl Server {
         ensures next { IsNextWaiting self.now.supplies least result }
         ensures fits { IfSome result (λ u. u < usize.MAX) }
     {
-        for u in least..self.devices.len() {
-            if self.devices[u].waits() > 0 {
+        for u in least..self.parts.devices.len() {
+            if self.parts.devices[u].waits() > 0 {
                 return Some(u);
             }
         }

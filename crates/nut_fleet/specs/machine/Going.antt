@@ -8,7 +8,7 @@ use Rattle.nut_monitor_spec.specs.Content as knowledge
 use Rattle.nut_monitor_spec.specs.Acceptance as monitor_tests
 use Rattle.nut_monitor_spec.specs.machine.Machine as monitor_machine
 use Rattle.nut_fleet.specs.Schedule.{Step, Out, Reach, Back, Land}
-use Rattle.nut_fleet.specs.World.{Setup, Deed, Skip, Rest, Tell, Inform, Join, address_of, is_fit, for_monitor, world}
+use Rattle.nut_fleet.specs.World.{Setup, Deed, Skip, Rest, Tell, Inform, Join, address_of, has_link, is_open, is_linked, is_fit, deed, for_monitor, world}
 use Rattle.nut_fleet.specs.Log.{News, Skipped, Noticed, turned, news}
 use Rattle.nut_fleet.specs.Moves.{reached, sent_off, landed, put_in}
 use Rattle.nut_fleet.specs.Seen.{Ends, Fleet, Stands, Keeps, open_seen, linked_seen, deed_by}
@@ -102,11 +102,16 @@ news_seen f step = news_by f (deed_by f step)
 
 -- ---- the laws
 
--- A fleet that is that of a world continues to that of the world after the step, and tells what the step tells there.
+-- A fleet that is that of a world continues to that of the world after the step, tells what the step tells there, and does
+-- what the step does there.
 pub record FleetsGoOn (setup : Setup) (schedule : List Step) : Type 0 where
   pub goes_on : (f : Fleet) (step : Step) → is_fit setup step ≡ true → Keeps setup (world setup schedule) f →
       Keeps setup (world setup (step ∷ schedule)) (moved_on f step)
   pub tells : (f : Fleet) (step : Step) → is_fit setup step ≡ true → Keeps setup (world setup schedule) f →
       news_seen f step ≡ news setup (world setup schedule) step
+  pub does : (f : Fleet) (step : Step) → is_fit setup step ≡ true → Keeps setup (world setup schedule) f →
+      deed_by f step ≡ deed setup (world setup schedule) step
+  pub ends : (f : Fleet) → Keeps setup (world setup schedule) f → (m i : ℕ) → has_link setup m i ≡ true →
+      (open_seen f m i ≡ is_open setup (world setup schedule) m i) × (linked_seen f m i ≡ is_linked setup (world setup schedule) m i)
   pub counts : (f : Fleet) → Keeps setup (world setup schedule) f → Stands setup (world setup schedule) (what_counts f)
   pub kept : (f : Fleet) → Stands setup (world setup schedule) (what_counts f) → Keeps setup (world setup schedule) f

@@ -8,7 +8,7 @@ ghost use Rattle.nut_server_spec.specs.machine.MachineOutcome.{Answers, content_
 use crate::address::address_of;
 use crate::connection::Connection;
 use crate::device::Device;
-use crate::server::Server;
+use crate::server::Parts;
 use nut_server_spec::{OPENED_MAX, Place, Refused};
 use nut_words::PIECE_MAX;
 
@@ -21,7 +21,7 @@ fn tick_all(devices: &mut [Device], max_age: u64, time: u64)
     }
 }
 
-impl Server {
+impl Parts {
     /// Notes that at least `t` seconds have passed since the start. Allocates no memory.
     pub(super) fn moment(&mut self, t: u64)
         ensures { self.new ≡ advance self.old (Moment t) }

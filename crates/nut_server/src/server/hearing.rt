@@ -21,13 +21,13 @@ use crate::decision::{Decision, decide};
 use crate::effect::Effect;
 use crate::plain::{kept_end, write_answer};
 use crate::scene::Scene;
-use crate::server::Server;
+use crate::server::Parts;
 use crate::text::put_answer;
 use nut_proto::{PlainQuery, Refusal, Request, read, read_plain};
 use nut_words::{HearLine, Line, WordFault, Words, first_line, hear_lines, split};
 use std::alloc::{AllocError, Global};
 
-impl Server {
+impl Parts {
     /// Answers a request of the connection at this place, or refuses a line that isn't one, and applies what was
     /// decided. If memory cannot be allocated, nothing changes.
     fn hear_request(
@@ -213,7 +213,7 @@ impl Server {
     }
 }
 
-impl Server {
+impl Parts {
     /// Handles the first line of these bytes of the connection at this place, if nothing of a line is kept and the line is
     /// whole, and returns the bytes behind it. Returns `None` otherwise. If memory cannot be allocated, nothing changes.
     ///
@@ -303,7 +303,7 @@ impl Server {
 /// line reaches the server but by an arrival.
 #[derive(Drop)]
 struct Hearer<'a> {
-    server: &'a mut Server,
+    server: &'a mut Parts,
     c: u64,
     at: usize,
 }

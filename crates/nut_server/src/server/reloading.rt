@@ -15,7 +15,7 @@ use crate::connections::CLOSED_MAX;
 use crate::device::Device;
 use crate::numbering::Numbering;
 use crate::reloading::Reloading;
-use crate::server::{Server, untold};
+use crate::server::{Parts, Server, untold};
 use arrayvec::ArrayVec;
 use nut_conf::UPSES_MAX;
 use nut_server_spec::{Place, Refused};
@@ -54,7 +54,7 @@ fn meet_fates(devices: &mut [Device], reloading: &Reloading<'_>)
     }
 }
 
-impl Server {
+impl Parts {
     /// Returns the UPSes and their numbers.
     fn numbering(&self) -> Numbering<'_>
         ensures { result ≡ numbering_of self.now }
@@ -126,12 +126,14 @@ impl Server {
         self.numbers = numbers;
         drop(mem::replace(&mut self.config, config));
     }
+}
 
+impl Server {
     /// Returns the name of the UPS with this number, if there is one.
     pub fn ups_name(&self, u: usize) -> Option<&[u8]>
         ensures { option_map (λ name. name.now) result ≡ option_map (λ ups. ups.name) (ups_with u (numbering_of self.now)) }
     {
-        match self.numbering().ups_with(u) {
+        match self.parts.numbering().ups_with(u) {
             Some(ups) => Some(ups.name),
             None => None,
         }
@@ -142,17 +144,17 @@ impl Server {
         ensures drivers { result.drivers.items ≡ drivers_ended config.now self.now }
         ensures connections { result.connections.items ≡ connections_ended config.now self.now }
     {
-        let numbers = self.numbering().renumbered(config);
+        let numbers = self.parts.numbering().renumbered(config);
         let reloading = Reloading {
-            before: self.numbering(),
+            before: self.parts.numbering(),
             after: Numbering {
                 config,
                 numbers: numbers.as_slice(),
             },
         };
         Ended {
-            drivers: drivers_that_end(self.devices.as_slice(), &reloading),
-            connections: self.connections.cleared(&reloading),
+            drivers: drivers_that_end(self.parts.devices.as_slice(), &reloading),
+            connections: self.parts.connections.cleared(&reloading),
         }
     }
 }
