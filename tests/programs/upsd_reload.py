@@ -629,10 +629,13 @@ class Tests(Shimmed):
             room.serve(env=env)
             room.until(STATUS, ONLINE)
             with room.client() as client:
-                expect(client.ask(STATUS), ONLINE, "before")
+                # answers that wait together leave room for each of those below
+                client.send(4 * STATUS)
+                expect([client.line() for _ in range(4)], 4 * [ONLINE], "before")
                 open(once, "w").close()
                 room.reload(TWO, "upsd: not reloaded: out of memory")
                 expect(client.ask(STATUS), ONLINE, "without memory")
+                expect(client.ask(b"GET UPSDESC su700\n"), b'UPSDESC su700 "Server room"\n', "an answer that is written the first time")
                 expect(client.ask(status_of(b"old")), b"ERR UNKNOWN-UPS\n", "what couldn't be read")
                 os.remove(once)
                 room.reload(None, "upsd: reloaded: UPS old added")

@@ -23,6 +23,7 @@ use crate::config::Config;
 use crate::connections::Connections;
 use crate::deeds::{Deed, Deeds};
 use crate::device::Device;
+use crate::limits::ANSWER_LINE_MAX;
 use crate::numbering::{Numbers, first_numbers};
 use crate::unread::Unread;
 use arrayvec::ArrayVec;
@@ -66,7 +67,7 @@ pub struct Server {
     given: u32,
     devices: Vec<Device>,
     connections: Connections,
-    /// The answer to a request, while it is being handled.
+    /// The answer to a request, while it is being handled. From the start it has room for any answer of one line.
     scratch: Vec<u8>,
     /// The request to a driver that a client's request leads to, while it is being handled.
     line: ArrayVec<u8, ASKS_MAX>,
@@ -130,17 +131,19 @@ fn untold(alloc: Global, count: usize) -> Result<Vec<Device>, AllocError>
     Ok(devices)
 }
 
-/// Returns `count` UPSes whose drivers were never connected, and room for all connections.
-fn room_for(alloc: Global, count: usize) -> Result<(Vec<Device>, Connections), AllocError>
+/// Returns `count` UPSes whose drivers were never connected, room for all connections, and room for an answer of one line.
+fn room_for(alloc: Global, count: usize) -> Result<(Vec<Device>, Connections, Vec<u8>), AllocError>
     ensures { IfOk result (λ room. (room.0.items ≡ map (λ u. unheard) (below count)) × (room.1 ≡ [])) }
 {
+    let scratch = Vec::with_capacity(alloc, ANSWER_LINE_MAX)?;
     let devices = untold(alloc, count)?;
-    Ok((devices, Connections::with_room(alloc)?))
+    Ok((devices, Connections::with_room(alloc)?, scratch))
 }
 
 impl Server {
     /// Returns a server that has been told nothing. Allocates the memory for as many connections as may be open at once
-    /// and for the requests that wait for the drivers, so none is needed when a client or a driver connects.
+    /// and for the requests that wait for the drivers, so none is needed when a client or a driver connects. Also for an
+    /// answer of one line: such an answer needs none if it has room behind those that wait for its client.
     ///
     /// # Errors
     ///
@@ -151,7 +154,7 @@ impl Server {
         config.is_within_limits();
         let count = config.number_of_upses();
         match room_for(alloc, count) {
-            Ok((devices, connections)) => Ok(Server {
+            Ok((devices, connections, scratch)) => Ok(Server {
                 config,
                 numbers: first_numbers(count),
                 clock: 0,
@@ -159,7 +162,7 @@ impl Server {
                 given: 0,
                 devices,
                 connections,
-                scratch: Vec::new(alloc),
+                scratch,
                 line: ArrayVec::new(),
                 likely: 0,
                 likely_variable: 0,
