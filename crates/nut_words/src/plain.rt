@@ -6,13 +6,23 @@ ghost use Rattle.nut_words.specs.Spelling.{is_bare};
 
 use crate::quoting::is_bare_byte;
 
-/// Returns how many bytes of a bare word these bytes begin with. In its callers its loop would carry their values along.
+/// Returns how many bytes of a bare word these bytes begin with. Four at a time are looked at, as long as there are as many. In
+/// its callers its loops would carry their values along.
 #[inline(never)]
-fn bare_len(bytes: &[u8]) -> usize
+#[tactic(auto, using(crate::proofs::PlainLemmas::one_more_bare, crate::proofs::PlainLemmas::four_more_bare))]
+pub(crate) fn bare_len(bytes: &[u8]) -> usize
     ensures within { result ≤ length bytes.now }
     ensures bare { list_all is_bare (take result bytes.now) ≡ true }
 {
     let mut len = 0;
+    while len + 3 < bytes.len()
+        && is_bare_byte(bytes[len])
+        && is_bare_byte(bytes[len + 1])
+        && is_bare_byte(bytes[len + 2])
+        && is_bare_byte(bytes[len + 3])
+    {
+        len += 4;
+    }
     while len < bytes.len() && is_bare_byte(bytes[len]) {
         len += 1;
     }

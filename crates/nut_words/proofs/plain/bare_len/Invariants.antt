@@ -11,3 +11,12 @@ invariant-loop-len l = record {
 
 abbrev pub decreases-loop-len : goal.decreases-loop-len
 decreases-loop-len l = length l.bytes - l.len
+
+abbrev pub invariant-loop-len-2 : goal.invariant-loop-len-2
+invariant-loop-len-2 l = record {
+  within : l.len ≤ length l.bytes;
+  bare : list_all is_bare (take l.len l.bytes) ≡ true;
+}
+
+abbrev pub decreases-loop-len-2 : goal.decreases-loop-len-2
+decreases-loop-len-2 l = length l.bytes - l.len

@@ -1,13 +1,9 @@
-use Rattle.std.proofs.Common.{◌∙◌, arith}
-use Rattle.nut_words.specs.inside.Reading.{line_of}
-use Rattle.nut_words.proofs.ReadLemmas.{read_more}
+use Rattle.std.proofs.lemmas.List.{take_rest}
+use Rattle.nut_words.specs.inside.Reading.{words_read}
+use Rattle.nut_words.proofs.ReadLemmas.{skips_bare}
 use Rattle.nut_words.proofs.reader.Reader.skip.Goals as goal
-use Rattle.nut_words.specs.declared.limits.TheConstants.{WORDS_MAX}
 
-pub loop-end-preserved : goal.loop-end-preserved
-loop-end-preserved c = record {
-  reading = c.goes_on.ensures.reading c.if-goes_on.true;
-  onward = omega (arith, c.loop-end.invariant.onward);
-  within = omega arith;
-  same = c.loop-end.invariant.same ∙ read_more WORDS_MAX _ _ (line_of c.args.self.now) c.loop-end.end (omega arith) (c.goes_on.ensures.state c.if-goes_on.true);
-}
+pub returns-clause-same : goal.returns-clause-same
+returns-clause-same c =
+    let self = c.args.self.now in
+    skips_bare self.draft self.mode (words_read self) c.args.at c.bare_len.result c.in-Bare.is c.in-None.is c.requires.reading.begun _ (take_rest self.draft.line.now c.args.at) c.bare_len.ensures.bare
