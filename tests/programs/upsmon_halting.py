@@ -21,9 +21,9 @@ import sys
 import tempfile
 import time
 
-from tests.support.harness import FullPipe, apart, cannot_read, ensure, expect, ROOT, Shimmed
+from tests.support.harness import FullPipe, apart, cannot_read, ensure, expect, patience, ROOT, Shimmed
 from tests.support.monitored import FLAG, ON_BATTERY, QUICK, SHUTDOWN, Upstream, Watch, children_of, play, put_program
-from tests.support.room import ONLINE, STATUS, Lines, Room, heed_modes, state_of, stopped, until
+from tests.support.room import ONLINE, SOON, STATUS, Lines, Room, heed_modes, state_of, stopped, until
 
 WORD = FLAG.strip()
 HALTED = 'SHUTDOWNCMD "touch FOLDER/halted"\n'
@@ -122,7 +122,7 @@ class Tests(Shimmed):
             dummy = room.start(words, preexec_fn=stack(STACK))
             upsd = room.upsd(preexec_fn=stack(STACK))
             lines = Lines(upsd)
-            room.until(STATUS, ONLINE)
+            room.until(STATUS, ONLINE, patience(SOON))
             with room.client() as client:
                 client.log_in()
                 expect(len(client.list(b"LIST VAR su700\n")), 403, "a list")
