@@ -66,8 +66,8 @@ class Tests:
 
     def set_status(self, room, status):
         words = ["-s", f"ups.status={status}", "-u", "admin", "-p", "pw", "ROOM"]
-        # soon after its start NUT's driver accepts no SET
-        until(lambda: room.tool("upsrw", *words)[0] == 0, f"the status is set to {status}")
+        # NUT's driver accepts no SET soon after its start, or after it stood still
+        until(lambda: room.tool("upsrw", *words)[0] == 0, f"the status is set to {status}", 30)
 
     # From here on, each method whose name begins with 'test_' is a test.
 
@@ -170,9 +170,11 @@ class Tests:
                     self.begin_server(room)
                     told = f"upsmon: warning: UPS {target}: {waits}"
                     until(lambda: told in watch.lines("err"), "the warning", 20)
-                    # NUT's server refuses the status from the fifteenth second on; if it was slow to start, there was a loss before
-                    before = watch.lines().count(LOST % target)
-                    until(lambda: watch.lines().count(LOST % target) > before, "the loss of what the server refuses", 30)
+                    # NUT's server refuses the status from the fifteenth second on; there were losses before, of the one that was killed
+                    # and perhaps of one that is slow
+                    refused = f"upsmon: UPS {target}: status refused: "
+                    until(lambda: any(line.startswith(refused) for line in watch.lines("err")), "the server refuses the status", 40)
+                    expect(watch.lines()[-1], LOST % target, "the loss of what the server refuses")
                     time.sleep(8)
                     expect((watch.process.poll(), watch.lines("err").count(told)), (None, 1), "it goes on, and tells it once")
                 self.set_status(room, "OB LB")

@@ -21,7 +21,8 @@ import tempfile
 import time
 
 from tests.support.harness import build_library, cannot_read, ensure, expect, needs_proved_build, patience, processor_time, run_tests
-from tests.support.room import NOT_CONNECTED, ONLINE, SOON, STATUS, VERSION, Client, Lines, Room, accepted, said, stopped, until
+from tests.support.room import NOT_CONNECTED, ONLINE, SOON, STATUS, VERSION, Client, Lines, Room
+from tests.support.room import accepted, descriptors, said, stopped, until
 
 # the default of MAXCONN
 MOST = 256
@@ -43,11 +44,6 @@ def resident(pid):
     """Returns the resident memory of a process in KiB."""
     with open(f"/proc/{pid}/status") as status:
         return next(int(line.split()[1]) for line in status if line.startswith("VmRSS:"))
-
-
-def descriptors(pid):
-    """Returns how many descriptors a process has open."""
-    return len(os.listdir(f"/proc/{pid}/fd"))
 
 
 def probed(port):
@@ -267,10 +263,19 @@ class Tests:
         with self.room(conf=b"MAXAGE 86400\n") as room:
             room.dummy()
             upsd = self.hastened(room, 50)
-            room.until(STATUS, ONLINE)
             begun = time.monotonic()
-            # the second connects later, since one that hasn't logged in is closed after little more than a second
-            with self.logged_in(room) as silent, self.logged_in(room) as speaker:
+
+            def called():
+                # one that hasn't logged in is closed after little more than a second, so it asks before it is let in
+                with stopped(upsd):
+                    client = room.client()
+                    client.send(LOG_IN)
+                return client
+
+            with called() as silent, called() as speaker:
+                for client in (silent, speaker):
+                    expect([client.line() for _ in range(3)], [b"OK\n"] * 3, "a login")
+                until(lambda: speaker.ask(b"GET NUMLOGINS su700\n") == b"NUMLOGINS su700 2\n", "both count")
                 while True:
                     counted = speaker.ask(b"GET NUMLOGINS su700\n")
                     if self.has_ended(silent):

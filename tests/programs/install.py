@@ -17,6 +17,7 @@ import tempfile
 import time
 
 from tests.support.harness import apart, ensure, expect, Failed, Missing, needed, ROOT, run_tests
+from tests.support.room import free_port, until
 
 SERVERS = ("upsd", "upsmon")
 DRIVERS = ("dummy-ups",)
@@ -840,10 +841,11 @@ class Tests:
         prefix = self.installed("hangup")
         room = os.path.join(self.folder, "hung up")
         shutil.copytree(os.path.join(ROOT, "examples"), room)
+        port = free_port()
         with open(os.path.join(room, "upsd.conf"), "w") as file:
-            file.write("LISTEN 127.0.0.1 24932\n")
+            file.write(f"LISTEN 127.0.0.1 {port}\n")
         with open(os.path.join(room, "upsmon.conf"), "w") as file:
-            file.write('MONITOR su700@127.0.0.1:24932 1 monuser m1 primary\nSHUTDOWNCMD "echo halted"\n')
+            file.write(f'MONITOR su700@127.0.0.1:{port} 1 monuser m1 primary\nSHUTDOWNCMD "echo halted"\n')
             file.write("FINALDELAY 0\nHOSTSYNC 0\nPOLLFREQ 1\n")
         with open(os.path.join(room, "su700.dev"), "w") as file:
             file.write("ups.status: OL\n")
@@ -851,6 +853,7 @@ class Tests:
         try:
             for program in UNITS:
                 (running[program],) = self.run_by_unit(prefix, program, "ExecStart", room)
+                until(lambda: os.path.basename(os.readlink(f"/proc/{running[program].pid}/exe")) == program, f"{program} has begun")
                 time.sleep(1)
             for process in running.values():
                 os.killpg(process.pid, signal.SIGHUP)

@@ -20,6 +20,7 @@ from concurrent import futures
 
 from tests.support.harness import NUTS_OPTIONS, VERSION_SHOWN, Failed, build_shim, ensure, expect, refusals, run_tests
 from tests.support.model import LINE_MAX
+from tests.support.room import free_port
 
 # every byte that a value may have
 EVERY = bytes(range(0x20, 0x7F))
@@ -401,8 +402,7 @@ class Tests:
         expect(self.run("upsc", ["su700@AT"]), (0, VARIABLES, b""), "bytes behind the answer")
 
     def test_nobody_listens(self):
-        with socket.create_server(("127.0.0.1", 0)) as unused:
-            port = unused.getsockname()[1]
+        port = free_port()
         refused, unknown = "Connection refused (os error 111)\n", "failed to lookup address information: "
         for host, why in (("127.0.0.1", refused), ("localhost", refused), ("nowhere.invalid", unknown)):
             for tool, words in (("upsc", []), ("upsrw", []), ("upscmd", ["-l"])):

@@ -18,13 +18,15 @@ from concurrent import futures
 
 from tests.support.harness import apart, ensure, expect, Failed, fewer, Missing, needed, patience, processor_time, refusal, run_tests, Shimmed
 from tests.support.room import Client, DEVICE, Lines, NOT_CONNECTED, ONLINE, Room, SOON, STATUS, USERS, VERSION
-from tests.support.room import accepted, first_lines, stopped, until
+from tests.support.room import accepted, descriptors, first_lines, stopped, until
 
 ONE = b'[su700]\ndesc = "Server room"\n'
 TWO = ONE + b"[old]\n"
 MONITOR = b"[mon]\npassword = m1\nupsmon primary\n"
 NOTHING = "upsd: reloaded: nothing changed"
 ORDER = "upsd: reloaded: order of UPSes"
+# for drivers that the test plays: they are asked for no sign of life
+SILENT = b"MAXAGE 86400\n"
 # a moment in which upsd looks for the file at least twice, in seconds
 LOOKS = 2.5
 # how many allocations in turn no reload has met before the rest are taken to come after it
@@ -57,13 +59,14 @@ class Poller:
                     return
             time.sleep(self.pause)
 
-    def stop(self):
-        """Ends it. Returns how often it asked."""
+    def stop(self, least):
+        """Ends it once it was answered so often, and each of its requests once more."""
+        least = max(least, self.asked + len(self.requests))
+        until(lambda: self.asked > least or self.wrong, f"a client that asks all the time is answered {least} times", 60)
         self.goes_on = False
         self.thread.join(SOON)
         self.client.close()
         expect(self.wrong, [], f"answers that are wrong, of {self.asked}")
-        return self.asked
 
 
 class Reloaded(Room):
@@ -111,13 +114,20 @@ class Reloaded(Room):
         with self.client() as client:
             return [row.split()[1].decode() for row in client.list(b"LIST UPS\n")[1:-1]]
 
-    def serves_all(self, upses):
-        """Whether the drivers of these UPSes are connected, as a new client sees it."""
+    def serves_all(self, count, online_ones):
+        """Whether so many UPSes are served, and the drivers of these are connected, as a new client sees it."""
         try:
             with self.client() as client:
-                return all(client.ask(status_of(ups)) == online(ups) for ups in upses)
+                are_online = all(client.ask(status_of(ups)) == online(ups) for ups in online_ones)
+                return are_online and len(client.list(b"LIST UPS\n")) == count + 2
         except ConnectionError:
             return False
+
+    def settled(self, upsd):
+        """Returns how many descriptors upsd has open once all earlier clients are gone: it hears of their ends in turn."""
+        with self.client() as last:
+            expect((last.ask(b"LOGOUT\n"), last.is_closed()), (b"OK Goodbye\n", True), "the last client leaves")
+        return descriptors(upsd.pid)
 
 
 def play_driver(listener, status=b"OL"):
@@ -203,7 +213,7 @@ class Tests(Shimmed):
                 expect(room.upses(), names, said)
 
     def test_same_link_to_a_driver_that_stays(self):
-        with self.room(ups=TWO) as room, room.driver() as listener:
+        with self.room(ups=TWO, conf=SILENT) as room, room.driver() as listener:
             room.serve()
             with play_driver(listener) as link:
                 room.until(STATUS, ONLINE)
@@ -218,7 +228,7 @@ class Tests(Shimmed):
                 raise Failed("a driver that stays is dialled again")
 
     def test_other_driver(self):
-        with self.room(ups=ONE) as room, room.driver() as listener, room.listener("other-su700") as other:
+        with self.room(ups=ONE, conf=SILENT) as room, room.driver() as listener, room.listener("other-su700") as other:
             room.serve()
             with play_driver(listener) as link, room.client() as client:
                 room.until(STATUS, ONLINE)
@@ -250,12 +260,7 @@ class Tests(Shimmed):
             room.lines = Lines(upsd)
             room.until(STATUS, ONLINE)
 
-            def open_files():
-                return len(os.listdir(f"/proc/{upsd.pid}/fd"))
-
-            # the client of until() may not have been noticed to have gone
-            time.sleep(0.5)
-            at_first = open_files()
+            at_first = room.settled(upsd)
             for _ in range(3):
                 room.reload(upses(b"a", 31) + ONE)
                 for i in range(31):
@@ -266,7 +271,7 @@ class Tests(Shimmed):
                     room.until(status_of(b"b%d" % i), online(b"b%d" % i))
                 room.reload(ONE)
                 room.until(STATUS, ONLINE)
-                until(lambda: open_files() == at_first, f"as many open files as {at_first}")
+                until(lambda: descriptors(upsd.pid) == at_first, f"as many open files as {at_first}")
 
     def test_fault_keeps_the_old(self):
         with self.room(ups=TWO) as room:
@@ -325,7 +330,7 @@ class Tests(Shimmed):
                 expect(logged_in.ask(b"GET NUMLOGINS su700\n"), b"NUMLOGINS su700 1\n", "a client that is logged in")
                 for i in range(20_000):
                     expect(busy.line(), ONLINE, f"answer {i} of many")
-            ensure(poller.stop() > fewer(100), "a client that asks all the time was hardly served")
+            poller.stop(fewer(100))
 
     def test_reloads_under_load(self):
         with self.room(ups=TWO) as room:
@@ -338,7 +343,7 @@ class Tests(Shimmed):
             for turn in range(10):
                 room.reload(TWO if turn % 2 else ONE, f"upsd: reloaded: UPS old {'added' if turn % 2 else 'removed'}")
             for poller in pollers:
-                ensure(poller.stop() > fewer(100), "a client was hardly served")
+                poller.stop(fewer(100))
 
     def test_tools_of_nut_under_load(self):
         upsc = needed("upsc", "nut-client")
@@ -665,17 +670,21 @@ class Tests(Shimmed):
         """It is told, of clients at most once a second, and of those that leave by themselves never."""
         once = os.path.join(self.folder, "parched")
         driver_told, client_told = "upsd: UPS su700: driver disconnected: out of memory", "upsd: client 127.0.0.1 closed: out of memory"
-        with self.room() as room, room.driver() as listener:
-            lines = room.serve(env=self.refusing_memory(once))
+        with self.room(conf=SILENT) as room, room.driver() as listener:
+            lines, (upsd,) = room.serve(env=self.refusing_memory(once)), room.running
             with play_driver(listener) as link, contextlib.ExitStack() as closing:
                 room.until(STATUS, ONLINE)
+                before = room.settled(upsd)
                 first, *others = [closing.enter_context(room.client()) for _ in range(20)]
+                until(lambda: descriptors(upsd.pid) == before + 20, "all are let in")
                 expect(first.ask(b"VER\n"), VERSION, "before")
                 open(once, "w").close()
+                begun = time.monotonic()
                 for client in others:
                     client.send(b"VER\n")
                 for client in others:
                     ensure(client.is_closed(), "a client whose answer finds no memory")
+                took = time.monotonic() - begun
                 lines.next(client_told)
                 expect(first.ask(b"LOGOUT\n"), b"OK Goodbye\n", "a client that needs none")
                 # more variables than there is room for
@@ -685,7 +694,7 @@ class Tests(Shimmed):
             with play_driver(listener):
                 room.until(STATUS, ONLINE)
             lines.next("upsd: UPS su700: driver lost")
-            ensure(lines.count(client_told) <= 2, "clients are told too often")
+            ensure(lines.count(client_told) <= took + 2, "clients are told too often")
             expect(lines.count(driver_told), 1, "drivers that are disconnected")
 
     def test_dummy_without_memory(self):
@@ -758,8 +767,7 @@ class Tests(Shimmed):
             if met:
                 expect(found, "upsd: not reloaded: out of memory", f"allocation {at}")
                 ensure(room.reload().startswith("upsd: reloaded: UPS u0 added"), f"allocation {at}: the second reload")
-            until(lambda: room.serves_all([b"su700", b"u7"]), f"allocation {at}: drivers are dialled")
-            expect(len(room.upses()), 9, f"allocation {at}: UPSes")
+            until(lambda: room.serves_all(9, [b"su700", b"u7"]), f"allocation {at}: UPSes are served, and drivers dialled")
             return met
 
 

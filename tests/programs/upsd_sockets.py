@@ -13,13 +13,13 @@ import socket
 import subprocess
 import sys
 import tempfile
-import threading
 import time
+from concurrent import futures
 
 from tests.support.harness import Failed, Missing, apart, built_without_proof, cannot_read, expect, patience, processor_time, run_tests
 from tests.support.room import Client, DEVICE, Lines, NOT_CONNECTED, ONLINE, Room, SOON, STATUS, VERSION
 from tests.support.room import accepted, connected, family_of, first_lines, free_port, give_address, has_ipv6, heed_modes, raise_loopback
-from tests.support.room import said, until
+from tests.support.room import said, stopped, until
 
 # the setting of a network that keeps IPv4 out of a socket of IPv6
 ONLY_IPV6 = "/proc/sys/net/ipv6/bindv6only"
@@ -208,11 +208,11 @@ class Tests:
                 expect(room.ask(b"GET VAR su700 ups.id\n"), b'VAR su700 ups.id "new"\n', "a value before its success is told")
                 expect(client.ask(b"INSTCMD su700 load.off now\n"), b"OK TRACKING 2\n", "INSTCMD with a parameter")
                 room.until(b"GET TRACKING 2\n", b"TRACKING 2 SUCCESS\n")
-                driver.send_signal(signal.SIGSTOP)
-                expect(client.ask(b"INSTCMD su700 load.on\n"), b"OK TRACKING 3\n", "a driver that is stopped")
-                expect(client.ask(b"GET TRACKING 3\n"), b"TRACKING 3 PENDING\n", "a driver that is stopped")
-                driver.kill()
-                room.until(b"GET TRACKING 3\n", b"TRACKING 3 FAILED\n")
+                with stopped(driver):
+                    expect(client.ask(b"INSTCMD su700 load.on\n"), b"OK TRACKING 3\n", "a driver that is stopped")
+                    expect(client.ask(b"GET TRACKING 3\n"), b"TRACKING 3 PENDING\n", "a driver that is stopped")
+                    driver.kill()
+                    room.until(b"GET TRACKING 3\n", b"TRACKING 3 FAILED\n")
                 expect(client.ask(b"GET TRACKING 2\n"), b"TRACKING 2 SUCCESS\n", "what was told before")
 
     def test_tools_that_wait(self):
@@ -225,9 +225,12 @@ class Tests:
             expect(room.ask(b"GET VAR su700 ups.id\n"), b'VAR su700 ups.id "new"\n', "what upsrw -w set")
             expect(self.run(self.upscmd, "-w", *login, "load.off", "now"), (0, b"SUCCESS\n", b""), "upscmd -w")
             expect(self.run(self.upscmd, *login, "load.off"), (0, b"OK\n", b""), "upscmd")
-            driver.send_signal(signal.SIGSTOP)
-            threading.Timer(1.5, driver.kill).start()
-            expect(self.run(self.upscmd, "-w", *login, "load.on"), (1, b"", b"Error: FAILED\n"), "a driver that is killed")
+            with stopped(driver), futures.ThreadPoolExecutor(1) as pool:
+                found = pool.submit(self.run, self.upscmd, "-w", *login, "load.on")
+                # the third that is tracked
+                room.until(b"GET TRACKING 3\n", b"TRACKING 3 PENDING\n")
+                driver.kill()
+                expect(found.result(), (1, b"", b"Error: FAILED\n"), "a driver that is killed")
             refused = (1, b"", b"Error: DRIVER-NOT-CONNECTED\n")
             expect(self.run(self.upscmd, "-w", *login, "load.on"), refused, "a request without a driver")
 
@@ -657,7 +660,7 @@ class Tests:
     def test_notices(self):
         with self.room() as room:
             driver = room.dummy()
-            until(lambda: os.path.exists(room.path("dummy-ups-su700")), "a driver listens")
+            Client(room.path("dummy-ups-su700")).close()
             told = Lines(room.upsd())
             room.until(STATUS, ONLINE)
             driver.kill()
@@ -702,8 +705,13 @@ class Tests:
         with self.room(conf=b"MAXAGE 2\n") as room, room.driver() as listener:
             lines = Lines(room.upsd())
             with accepted(listener) as driver:
-                driver.sendall(b'SETINFO ups.status "OL"\nDATAOK\nDUMPDONE\n')
-                room.until(STATUS, ONLINE)
+
+                def is_heard():
+                    # what it told stays fresh for two seconds only
+                    driver.sendall(b'SETINFO ups.status "OL"\nDATAOK\nDUMPDONE\n')
+                    return room.ask(STATUS) == ONLINE
+
+                until(is_heard, "the driver is heard")
                 # the driver says so
                 driver.sendall(b"DATASTALE\n")
                 lines.next(stale)
@@ -716,7 +724,7 @@ class Tests:
                 lines.next(fresh)
             lines.next("upsd: UPS su700: driver lost")
             told = [line for line in lines.lines if ": data is " in line]
-            expect(told, [stale, fresh] * (len(told) // 2), "each change is told once")
+            expect(told, ([stale, fresh] * len(told))[: len(told)], "each change is told once")
 
     def test_a_forced_shutdown_is_told(self):
         forced = "upsd: UPS su700: shutdown is forced (FSD) by mon@127.0.0.1"

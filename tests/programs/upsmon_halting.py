@@ -21,9 +21,9 @@ import sys
 import tempfile
 import time
 
-from tests.support.harness import FullPipe, apart, cannot_read, ensure, expect, ROOT, Shimmed
+from tests.support.harness import FullPipe, apart, cannot_read, ensure, expect, patience, ROOT, Shimmed
 from tests.support.monitored import FLAG, ON_BATTERY, QUICK, SHUTDOWN, Upstream, Watch, children_of, play, put_program
-from tests.support.room import ONLINE, STATUS, Lines, Room, heed_modes, state_of, until
+from tests.support.room import ONLINE, SOON, STATUS, Lines, Room, heed_modes, state_of, stopped, until
 
 WORD = FLAG.strip()
 HALTED = 'SHUTDOWNCMD "touch FOLDER/halted"\n'
@@ -79,9 +79,9 @@ class Tests(Shimmed):
         return Watch(self.upsmon, self.folder, conf, *words, **options)
 
     @contextlib.contextmanager
-    def halting(self, conf, *words, delay=0, program=None, **options):
-        """Starts an upsmon, or this program, that halts soon, as the primary of a UPS with a forced shutdown."""
-        with Upstream(status=b"FSD") as server:
+    def halting(self, conf, *words, delay=0, program=None, status=b"FSD", **options):
+        """Starts an upsmon, or this program, that halts soon, as the primary of a UPS with a forced shutdown or this status."""
+        with Upstream(status=status) as server:
             times = f"POLLFREQ 1\nHOSTSYNC 1\nFINALDELAY {delay}\n"
             conf = f"MONITOR {server.target} 1 mon m1 primary\n{times}{conf}"
             with Watch(program or self.upsmon, self.folder, conf, *words, **options) as watch:
@@ -122,7 +122,7 @@ class Tests(Shimmed):
             dummy = room.start(words, preexec_fn=stack(STACK))
             upsd = room.upsd(preexec_fn=stack(STACK))
             lines = Lines(upsd)
-            room.until(STATUS, ONLINE)
+            room.until(STATUS, ONLINE, patience(SOON))
             with room.client() as client:
                 client.log_in()
                 expect(len(client.list(b"LIST VAR su700\n")), 403, "a list")
@@ -296,11 +296,12 @@ class Tests(Shimmed):
         for change in (lambda new: None, os.remove, self.file_of(b"upsm"), self.pipe_at):
             with tempfile.TemporaryDirectory(dir=self.folder) as folder:
                 flag = os.path.join(folder, "flag")
-                with self.halting(f"POWERDOWNFLAG {flag}\n{HALTED}", "-q", delay=1) as (_, watch):
+                with self.halting(f"POWERDOWNFLAG {flag}\n{HALTED}", "-q", delay=2) as (_, watch):
                     watch.until_printed(SHUTDOWN)
-                    expect(set(self.look(folder)), {"flag.new"}, "what lies there before the halt")
-                    expect(self.key(watch.folder)[0], 1, "the flag isn't set")
-                    change(flag + ".new")
+                    with stopped(watch.process):
+                        expect(set(self.look(folder)), {"flag.new"}, "what lies there before the halt")
+                        expect(self.key(watch.folder)[0], 1, "the flag isn't set")
+                        change(flag + ".new")
                     expect((watch.status(), watch.told()), (0, []), "the halt")
                 with open(flag, "rb") as file:
                     expect(file.read(), FLAG, "what the flag holds")
@@ -317,11 +318,12 @@ class Tests(Shimmed):
         # room for its folder and two files
         mount = f'mount -t tmpfs -o nr_inodes=3 tmpfs {disk} && exec "$0" "$@"'
         program = self.wrapped("on-a-full-disk", [*apart("--mount", "sh", "-c", mount), self.upsmon])
-        conf = f'NOTIFYFLAG FSD EXEC\nNOTIFYCMD "touch {disk}/a; touch {disk}/b 2> FOLDER/full; true"\n'
+        conf = f'NOTIFYFLAG ONBATT EXEC\nNOTIFYCMD "touch {disk}/a; touch {disk}/b 2> FOLDER/full; true"\n'
         conf += f'POWERDOWNFLAG {disk}/flag\nSHUTDOWNCMD "cat {disk}/flag > FOLDER/halted"\n'
-        with self.halting(conf, "-q", delay=2, program=program) as (_, watch):
+        with self.halting(conf, "-q", program=program, status=b"OB") as (server, watch):
+            until(lambda: b"No space left" in (watch.read("full") or b""), "the disk is full")
+            server.statuses[b"su700"] = b"FSD"
             expect((watch.status(), watch.told()), (0, []), "the halt")
-            ensure(b"No space left" in watch.read("full"), "the disk is full")
             expect(watch.read("halted"), FLAG, "what the flag holds")
 
     def test_flag_that_cannot_be_written(self):
@@ -511,14 +513,13 @@ class Tests(Shimmed):
                 expect(file.read(), "30\n", "how often it waits for a second")
 
     @contextlib.contextmanager
-    def halting_without_memory(self, before=lambda watch: None, command=HALTED, **streams):
+    def halting_without_memory(self, command=HALTED, **streams):
         """Starts an upsmon whose shutdown has begun, and for which no allocation succeeds any more, not even the C
         library's. Returns the file that causes that."""
         gone = os.path.join(self.folder, "gone")
         env = self.refusing_memory(gone)
         with self.halting(f"POWERDOWNFLAG FOLDER/flag\n{command}", "-q", delay=3, env=env, **streams) as (_, watch):
             watch.until_printed(SHUTDOWN)
-            before(watch)
             self.file_of(b"")(gone)
             try:
                 yield watch, gone
@@ -538,7 +539,8 @@ class Tests(Shimmed):
 
     def test_halt_without_memory_and_shell(self):
         """If the waiting shell was killed, the machine is halted as soon as memory is available again."""
-        with self.halting_without_memory(self.end_shell) as (watch, gone):
+        with self.halting_without_memory() as (watch, gone):
+            self.end_shell(watch)
             until(lambda: any(it.startswith(NOT_YET) for it in watch.lines("err")), "the start is tried again", 20)
             expect((watch.read("flag"), watch.read("halted")), (FLAG, None), "what is done without memory")
             os.remove(gone)
@@ -580,11 +582,13 @@ class Tests(Shimmed):
     def test_commands_that_use_the_terminal(self):
         """They stop neither themselves nor upsmon, which runs in the background of that terminal."""
         command = [sys.executable, os.path.join(ROOT, "tests/support/on_terminal.py"), self.upsmon]
-        conf = 'NOTIFYFLAG FSD EXEC\nNOTIFYCMD "stty -echo < /dev/tty; touch FOLDER/noted; true"\n'
+        conf = 'NOTIFYFLAG ONBATT EXEC\nNOTIFYCMD "stty -echo < /dev/tty; touch FOLDER/noted; true"\n'
         conf += 'SHUTDOWNCMD "stty echo < /dev/tty && touch FOLDER/halted"\n'
-        # a delay, since stty fails if another one changes the terminal meanwhile
-        with self.halting(conf, "-q", delay=1, program=self.wrapped("on-terminal", command)) as (_, watch):
-            expect((watch.status(), watch.read("halted"), watch.read("noted")), (0, b"", b""), "the halt")
+        with self.halting(conf, "-q", program=self.wrapped("on-terminal", command), status=b"OB") as (server, watch):
+            # stty fails if another one changes the terminal meanwhile
+            until(lambda: watch.read("noted") == b"", "NOTIFYCMD is run")
+            server.statuses[b"su700"] = b"FSD"
+            expect((watch.status(), watch.read("halted")), (0, b""), "the halt")
 
     def wrapped(self, name, command):
         """Returns the path of a program that runs this command with its own arguments behind."""
@@ -606,8 +610,8 @@ class Tests(Shimmed):
             until(lambda: STATUS in server.asked, "the status is asked for")
             (ended,) = children_of(watch.process.pid)
             self.end_shell(watch)
-            until(lambda: children_of(watch.process.pid) not in ([ended], []), "another shell waits")
-            expect(watch.told(), [REPLACED], "what is told")
+            until(lambda: watch.told() == [REPLACED], "that another shell waits")
+            until(lambda: children_of(watch.process.pid) not in ([ended], []), "it waits")
             server.statuses[b"su700"] = b"FSD"
             expect((watch.status(), watch.read("halted")), (0, b""), "the halt")
 

@@ -6,13 +6,14 @@ shutdown is under way, and what is run at the halt after it.
 
 The last line is 'N passed, M failed'."""
 
+import contextlib
 import os
 import sys
 import time
 
 from tests.support.harness import expect, Shimmed
 from tests.support.monitored import FLAG, ON_BATTERY, QUICK, SHUTDOWN, Upstream, Watch, children_of, play, put_program
-from tests.support.room import ONLINE, Room, SOON, STATUS, USERS, until
+from tests.support.room import ONLINE, Room, SOON, STATUS, USERS, descriptors, until
 
 OLD = 'SHUTDOWNCMD "touch FOLDER/old"\n'
 NEW = 'SHUTDOWNCMD "touch FOLDER/new"\n'
@@ -205,10 +206,10 @@ class Tests(Shimmed):
     def test_lost_on_battery(self):
         """A UPS that was last heard of on battery isn't forgotten for a reload: its machine is halted."""
         server = Upstream(status=b"OB")
-        with self.watch(line_of(server) + QUICK + "DEADTIME 3\n" + OLD) as watch:
+        with self.watch(line_of(server) + QUICK + "DEADTIME 6\n" + OLD) as watch:
             watch.until_printed(ON_BATTERY % server.target)
             server.close()
-            watch.reload(line_of(server) + QUICK + "DEADTIME 3\n" + NEW)
+            watch.reload(line_of(server) + QUICK + "DEADTIME 6\n" + NEW)
             watch.until_told(f"upsmon: not reloaded yet: UPS {server.target} is on battery")
             expect(watch.status(20), 0, "status")
             expect((watch.read("old"), watch.read("new")), (b"", None), "the halt")
@@ -238,7 +239,8 @@ class Tests(Shimmed):
         """A server that is gone holds up no reload if its UPS was on line."""
         server = Upstream()
         with Upstream() as other, self.watch(line_of(server) + line_of(other) + QUICK + OLD) as watch:
-            until_asked(server)
+            # twice, so that the first answer was heard
+            until_asked(server, 2)
             server.close()
             watch.until_printed(f"Communications with UPS {server.target} lost")
             watch.reload(line_of(other) + QUICK + OLD)
@@ -305,9 +307,9 @@ class Tests(Shimmed):
             with watch.stopped():
                 time.sleep(5)
                 watch.ask()
-            time.sleep(0.5)
-            expect(watch.read("reload"), b"", "the file, for upsd")
+            # at the second look
             watch.until_reloaded("nothing changed")
+            expect(watch.read("reload"), b"", "the file, for upsd")
             until(lambda: watch.read("reload") is None, "the file is removed")
 
     def test_file_that_is_gone(self):
@@ -316,15 +318,19 @@ class Tests(Shimmed):
             until_asked(server)
             with watch.open("upsd.conf"):
                 pass
+            changed, took = "upsmon: reloaded: SHUTDOWNCMD changed", False
             for _ in range(5):
-                watch.reload(line_of(server) + QUICK + NEW)
-                # upsmon has looked once or twice by then; on a slow machine perhaps never, and is asked again
-                time.sleep(1.5)
-                os.remove(watch.path("reload"))
-                time.sleep(1.5)
-                if "upsmon: reloaded: SHUTDOWNCMD changed" in watch.lines("err"):
+                before = watch.lines("err").count(changed)
+                watch.reload(line_of(server) + QUICK + (OLD if before % 2 else NEW))
+                # upsmon has looked once or twice by then; on a slow machine perhaps never, or more often, and is asked again
+                time.sleep(1.2)
+                with contextlib.suppress(FileNotFoundError):
+                    os.remove(watch.path("reload"))
+                    time.sleep(1.5)
+                    took = watch.lines("err").count(changed) > before
+                if took:
                     break
-            watch.until_reloaded("SHUTDOWNCMD changed")
+            expect(took, True, "the new file is read")
             time.sleep(2.5)
             expect(watch.lines("err").count("upsmon: reloaded: nothing changed"), 0, "further reloads")
 
@@ -393,8 +399,8 @@ class Tests(Shimmed):
                 until(lambda: sum("reloaded" in it for it in watch.lines("err")) == power - 1, "a reload")
                 until_asked(server, 2)
                 until(lambda: len(children_of(watch.process.pid)) == 1, "the earlier shell is waited for")
-                counts.append(len(os.listdir(f"/proc/{watch.process.pid}/fd")))
-            expect(counts, counts[:1] * 3, "descriptors")
+                counts.append(descriptors(watch.process.pid))
+                until(lambda: descriptors(watch.process.pid) == counts[0], f"as many descriptors as {counts[0]}")
 
 
 if __name__ == "__main__":

@@ -11,7 +11,7 @@ import threading
 import time
 
 from tests.support.harness import Failed, expect, patience, processor_time, run_tests
-from tests.support.room import SOON, family_of, stopped, until
+from tests.support.room import SOON, family_of, free_port, stopped, until
 
 FLAG = b"upsmon-shutdown-file\n"
 ON_BATTERY = "UPS %s on battery"
@@ -127,13 +127,15 @@ class Upstream:
     """A server that the test plays, with a thread for each connection. It answers each line with `answer`, and keeps the
     lines."""
 
-    def __init__(self, port=0, status=b"OL", host="127.0.0.1"):
-        self.listener = socket.create_server((host, port), family=family_of(host))
+    def __init__(self, port=None, status=b"OL", host="127.0.0.1"):
+        self.listener = socket.create_server((host, port or free_port()), family=family_of(host))
         self.port = self.listener.getsockname()[1]
         self.target = f"su700@127.0.0.1:{self.port}"
         self.statuses = {b"su700": status}
         self.logins = 1
         self.asked = []
+        # when each status was first told
+        self.told = {}
         self.ends = []
         threading.Thread(target=self.let_in, daemon=True).start()
 
@@ -181,6 +183,7 @@ class Upstream:
         words = line.split()
         if words[:2] == [b"GET", b"VAR"]:
             status = self.statuses[words[2]]
+            self.told.setdefault(status, time.monotonic())
             return status if status.startswith(b"ERR") else b'VAR %s ups.status "%s"\n' % (words[2], status)
         if words[:2] == [b"GET", b"NUMLOGINS"]:
             return b"NUMLOGINS %s %d\n" % (words[2], self.logins)

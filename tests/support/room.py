@@ -38,14 +38,34 @@ def until(test, what, within=SOON, pause=0.02):
         time.sleep(pause)
 
 
-def free_port():
-    """Returns a port of this machine that nobody listens on, below those that the system gives to clients: a client of another test
-    could have one of these before it is used."""
+# the ports that this program hasn't used yet, and the names that keep other tests from them
+PORTS, NAMES, LOCK = [], [], threading.Lock()
+
+
+def block_of_ports():
+    """Returns a hundred ports that no other test of this machine gets while this program runs, by a name that only one can hold.
+    They are below those that the system gives to clients: one of these could have a port before it is used."""
     while True:
-        port = random.SystemRandom().randrange(15_000, 32_000)
-        with contextlib.suppress(OSError), socket.socket() as free:
-            free.bind(("", port))
-            return port
+        first = random.SystemRandom().randrange(15_000, 32_000, 100)
+        name = socket.socket(socket.AF_UNIX)
+        try:
+            name.bind(f"\0ports of a test, from {first} on")
+        except OSError:
+            name.close()
+            continue
+        NAMES.append(name)
+        return list(range(first, first + 100))
+
+
+def free_port():
+    """Returns a port of this machine that nobody listens on, each time another one."""
+    with LOCK:
+        while True:
+            PORTS[:] = PORTS or block_of_ports()
+            port = PORTS.pop()
+            with contextlib.suppress(OSError), socket.socket() as free:
+                free.bind(("", port))
+                return port
 
 
 def has_ipv6():
@@ -108,6 +128,11 @@ def state_of(pid):
         return ""
 
 
+def descriptors(pid):
+    """Returns how many descriptors a process has open."""
+    return len(os.listdir(f"/proc/{pid}/fd"))
+
+
 def heed_modes():
     """Has the program that is started next heed the modes of files and folders, which root doesn't otherwise."""
     drop, dac_override = 24, 1
@@ -165,7 +190,7 @@ class Client:
     def list(self, data):
         """Returns the lines of a list, or the one line of a refusal."""
         lines = [self.ask(data)]
-        while lines[0].startswith(b"BEGIN") and not lines[-1].startswith(b"END"):
+        while lines[0].startswith(b"BEGIN") and not lines[-1].startswith(b"END") and lines[-1]:
             lines.append(self.line())
         return lines
 
