@@ -3,7 +3,7 @@ ghost use Rattle.std.specs.Prelude.{◌≡◌, ◌+◌, ◌<◌, ◌≤◌, ◌+
 ghost use Rattle.std.specs.Option.{option_map};
 ghost use Rattle.nut_link.specs.Link.{LinkValue, is_idle, with_exchange};
 ghost use Rattle.nut_link.specs.Asking.{query_of};
-ghost use Rattle.nut_link.specs.declared.exchange.Stage.TheVariants as stages;
+ghost use Rattle.nut_link.specs.Exchange as stages;
 ghost use Rattle.nut_monitor_spec.specs.Query.{request as request_of};
 ghost use Rattle.nut_conf.specs.declared.notice.Notice.TheVariants as kinds;
 ghost use Rattle.nut_monitor_spec.specs.Acceptance.{waits_on};
