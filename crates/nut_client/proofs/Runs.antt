@@ -8,9 +8,8 @@ use Rattle.nut_words.proofs.LineLemmas.{is_some_parts, lines_of_line, lines_of_u
 use Rattle.nut_words.proofs.StreamGrowth.{lines-append, rest-append}
 use Rattle.nut_proto.specs.declared.request.Request.{Request}
 use Rattle.nut_proto.specs.Requests.{request_line}
-use Rattle.nut_link.specs.declared.exchange.Exchange.{Exchange}
-use Rattle.nut_link.specs.declared.exchange.Stage.{Stage}
-use Rattle.nut_link.specs.declared.exchange.Stage.TheVariants as stages
+use Rattle.nut_link.specs.Exchange.{Exchange, Stage}
+use Rattle.nut_link.specs.Exchange as stages
 use Rattle.nut_client.specs.declared.failure.Failure.TheVariants as failures
 use Rattle.nut_link.specs.declared.fault.LinkFault.{LinkFault}
 use Rattle.nut_link.specs.declared.fault.LinkFault.TheVariants.{BadLine}

@@ -13,11 +13,10 @@ use Rattle.nut_proto.specs.declared.request.Request.{Request}
 use Rattle.nut_proto.specs.Answers.{answer_in}
 use Rattle.nut_proto.specs.Requests.{request_parts}
 use Rattle.nut_proto.specs.Lines.{message}
-use Rattle.nut_link.specs.declared.exchange.Exchange.{Exchange}
-use Rattle.nut_link.specs.declared.exchange.Stage.{Stage}
-use Rattle.nut_link.specs.declared.exchange.Stage.TheVariants as stages
-use Rattle.nut_link.specs.declared.expected.Expected.{Expected}
-use Rattle.nut_link.specs.declared.expected.Expected.TheVariants as expects
+use Rattle.nut_link.specs.Exchange.{Exchange, Stage}
+use Rattle.nut_link.specs.Exchange as stages
+use Rattle.nut_link.specs.declared.expected.Kind.{Kind}
+use Rattle.nut_link.specs.declared.expected.Kind.TheVariants as kinds
 use Rattle.nut_link.specs.declared.fault.LinkFault.{LinkFault}
 use Rattle.nut_link.specs.declared.fault.LinkFault.TheVariants.{OutOfOrder, BadQuery}
 use Rattle.nut_link.specs.Asking.{Asked, is_writable, query_of}
@@ -45,27 +44,27 @@ few_if : (b : Bool) (p q : Result Progress LinkFault) → (b ≡ true → HasFew
 few_if true p q x y = x refl
 few_if false p q x y = y
 
-few_first : (e : Expected) (answer : Answer) → HasFew (first e answer)
-few_first e (answers.Err name) = none
-few_first expects.Success (answers.Ok words) = none
-few_first expects.NumberedSuccess (answers.Ok words) = few_if (is_numbered words) _ _ (λ is. none) none
-few_first (expects.Line heading more) (answers.Row words) = few_if (is_line heading more words) _ _ (λ is. none) tt
-few_first expects.AnyLine (answers.Row words) = none
-few_first (expects.Listing heading count) (answers.Begin words) = few_if (is_heading heading words) _ _ (λ is. none) tt
-few_first e answer = tt
+few_first : (kind : Kind) (heading : List (List ℕ)) (answer : Answer) → HasFew (first kind heading answer)
+few_first kind heading (answers.Err name) = none
+few_first kinds.Success heading (answers.Ok words) = none
+few_first kinds.NumberedSuccess heading (answers.Ok words) = few_if (is_numbered words) _ _ (λ is. none) none
+few_first (kinds.Line more) heading (answers.Row words) = few_if (is_line heading more words) _ _ (λ is. none) tt
+few_first kinds.AnyLine heading (answers.Row words) = none
+few_first (kinds.Listing count) heading (answers.Begin words) = few_if (is_heading heading words) _ _ (λ is. none) tt
+few_first kind heading answer = tt
 
-few_next : (e : Expected) (rows : List (List (List ℕ))) (answer : Answer) → length rows ≤ ROWS_MAX → HasFew (next e rows answer)
-few_next (expects.Listing heading count) rows (answers.Row words) few =
+few_next : (kind : Kind) (heading : List (List ℕ)) (rows : List (List (List ℕ))) (answer : Answer) → length rows ≤ ROWS_MAX → HasFew (next kind heading rows answer)
+few_next (kinds.Listing count) heading rows (answers.Row words) few =
     few_if (is_row heading count words) _ _ (λ is. few_if (nat_lt (length rows) ROWS_MAX) _ _
     (λ less. omega (arith, ltb-true (length rows) ROWS_MAX less, length-append rows (drop (length heading) words ∷ []))) tt) tt
-few_next (expects.Listing heading count) rows (answers.End words) few = few_if (is_heading heading words) _ _ (λ is. few) tt
-few_next e rows answer few = tt
+few_next (kinds.Listing count) heading rows (answers.End words) few = few_if (is_heading heading words) _ _ (λ is. few) tt
+few_next kind heading rows answer few = tt
 
 few_progress : (query : Asked) (answer : Answer) → rows_in (stages.Asked query) ≤ ROWS_MAX → HasFew (progress_of query answer)
 few_progress query answer few = few_if (length query.waits == 0) _ _ (λ is. go query.rows few) tt where
   go : (rows : Option (List (List (List ℕ)))) → rows_in (stages.Asked (record query { rows = rows })) ≤ ROWS_MAX → HasFew (progress query.expected rows answer)
-  go None few = few_first query.expected answer
-  go (Some rows) few = few_next query.expected rows answer few
+  go None few = few_first query.expected.kind query.expected.heading answer
+  go (Some rows) few = few_next query.expected.kind query.expected.heading rows answer few
 
 -- a stage that follows is bounded
 abbrev IsWithin : Result Stage LinkFault → Type 0

@@ -6,7 +6,7 @@ use Rattle.nut_words.specs.Lines.{LineText, Text, rest, lines_after, rest_after}
 use Rattle.nut_words.proofs.HearLemmas.{heard_all-append, lines_cut}
 use Rattle.nut_words.proofs.StreamGrowth.{rest-append}
 use Rattle.nut_words.specs.Hearing.{StopsAt}
-use Rattle.nut_link.specs.declared.exchange.Exchange.{Exchange}
+use Rattle.nut_link.specs.Exchange.{Exchange}
 use Rattle.nut_link.specs.declared.fault.LinkFault.{LinkFault}
 use Rattle.nut_link.specs.declared.fault.LinkFault.TheVariants.{Memory}
 use Rattle.nut_link.specs.Hearing.{Feeds, Hears, LacksMemory, RunsOut, count_heard}

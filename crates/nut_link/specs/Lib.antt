@@ -1,5 +1,6 @@
 pub mod Matching
 pub mod Asking
+pub mod Exchange
 pub mod Link
 pub mod Hearing
 pub mod Bounds

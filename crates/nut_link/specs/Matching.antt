@@ -15,7 +15,8 @@ use Rattle.nut_proto.specs.Positions.{word_at}
 use Rattle.nut_proto.specs.Requests.{query_parts, request_parts}
 use Rattle.nut_proto.specs.Tracking.{tracking_number}
 use Rattle.nut_link.specs.declared.expected.Expected.{Expected}
-use Rattle.nut_link.specs.declared.expected.Expected.TheVariants as expects
+use Rattle.nut_link.specs.declared.expected.Kind.{Kind}
+use Rattle.nut_link.specs.declared.expected.Kind.TheVariants as kinds
 use Rattle.nut_link.specs.declared.expected.More.{More}
 use Rattle.nut_link.specs.declared.expected.More.TheVariants as mores
 use Rattle.nut_link.specs.declared.fault.LinkFault.{LinkFault}
@@ -47,26 +48,30 @@ columns (queries.Client ups) = 1
 -- what a LIST expects: the words behind LIST in its first and last line, and rows that begin with them and have this
 -- many further words
 abbrev pub listing : ListQuery → Expected
-listing query = expects.Listing (message_words (query_parts query)) (columns query)
+listing query = record { kind = kinds.Listing (columns query); heading = message_words (query_parts query) }
+
+-- an answer that repeats no words
+abbrev pub unheaded : Kind → Expected
+unheaded kind = record { kind = kind; heading = [] }
 
 -- What a request expects. The commands that are answered `OK`: that, for SET VAR and INSTCMD perhaps with the number under
 -- which they are tracked. VER, NETVER and HELP: any line. STARTTLS: only a refusal. Each GET: the words behind it and more.
 abbrev pub expected : Request → Expected
 expected (requests.List query) = listing query
-expected (requests.SetVar ups variable value) = expects.NumberedSuccess
-expected (requests.SetTracking on) = expects.Success
-expected (requests.InstCmd ups command parameter) = expects.NumberedSuccess
-expected (requests.Username name) = expects.Success
-expected (requests.Password password) = expects.Success
-expected (requests.Login ups) = expects.Success
-expected (requests.Primary ups) = expects.Success
-expected (requests.Fsd ups) = expects.Success
-expected requests.Logout = expects.Success
-expected requests.Ver = expects.AnyLine
-expected requests.NetVer = expects.AnyLine
-expected requests.Help = expects.AnyLine
-expected requests.StartTls = expects.Refusal
-expected request = expects.Line (heading_of request) (more_of request)
+expected (requests.SetVar ups variable value) = unheaded kinds.NumberedSuccess
+expected (requests.SetTracking on) = unheaded kinds.Success
+expected (requests.InstCmd ups command parameter) = unheaded kinds.NumberedSuccess
+expected (requests.Username name) = unheaded kinds.Success
+expected (requests.Password password) = unheaded kinds.Success
+expected (requests.Login ups) = unheaded kinds.Success
+expected (requests.Primary ups) = unheaded kinds.Success
+expected (requests.Fsd ups) = unheaded kinds.Success
+expected requests.Logout = unheaded kinds.Success
+expected requests.Ver = unheaded kinds.AnyLine
+expected requests.NetVer = unheaded kinds.AnyLine
+expected requests.Help = unheaded kinds.AnyLine
+expected requests.StartTls = unheaded kinds.Refusal
+expected request = record { kind = kinds.Line (more_of request); heading = heading_of request }
 
 -- These words begin with those of the heading, byte for byte.
 abbrev pub begins : List (List ℕ) → List (List ℕ) → Bool
@@ -102,32 +107,32 @@ abbrev pub is_line : List (List ℕ) → More → List (List ℕ) → Bool
 is_line heading more words = begins heading words && has_more more (drop (length heading) words)
 
 -- What the first line does to a query. A refusal answers any query.
-abbrev pub first : Expected → Answer → Result Progress LinkFault
-first e (answers.Err name) = Ok (Complete (outcomes.Refused name))
-first expects.Success (answers.Ok words) = Ok (Complete outcomes.Done)
-first expects.NumberedSuccess (answers.Ok words) =
+abbrev pub first : Kind → List (List ℕ) → Answer → Result Progress LinkFault
+first kind heading (answers.Err name) = Ok (Complete (outcomes.Refused name))
+first kinds.Success heading (answers.Ok words) = Ok (Complete outcomes.Done)
+first kinds.NumberedSuccess heading (answers.Ok words) =
     if is_numbered words then Ok (Complete (outcomes.Said (drop 1 words))) else Ok (Complete outcomes.Done)
-first (expects.Line heading more) (answers.Row words) =
+first (kinds.Line more) heading (answers.Row words) =
     if is_line heading more words then Ok (Complete (outcomes.Said (drop (length heading) words))) else Err NotMine
-first expects.AnyLine (answers.Row words) = Ok (Complete (outcomes.Said words))
-first (expects.Listing heading count) (answers.Begin words) = if is_heading heading words then Ok (Listing []) else Err NotMine
-first e answer = Err NotMine
+first kinds.AnyLine heading (answers.Row words) = Ok (Complete (outcomes.Said words))
+first (kinds.Listing count) heading (answers.Begin words) = if is_heading heading words then Ok (Listing []) else Err NotMine
+first kind heading answer = Err NotMine
 
 -- What a line behind the beginning of a list makes of it, which has these rows so far: one more, of ROWS_MAX, or its end.
-abbrev pub next : Expected → List (List (List ℕ)) → Answer → Result Progress LinkFault
-next (expects.Listing heading count) rows (answers.Row words) =
+abbrev pub next : Kind → List (List ℕ) → List (List (List ℕ)) → Answer → Result Progress LinkFault
+next (kinds.Listing count) heading rows (answers.Row words) =
     if is_row heading count words
     then (if nat_lt (length rows) ROWS_MAX then Ok (Listing (rows ++ drop (length heading) words ∷ [])) else Err BadLine)
     else Err NotMine
-next (expects.Listing heading count) rows (answers.End words) =
+next (kinds.Listing count) heading rows (answers.End words) =
     if is_heading heading words then Ok (Complete (outcomes.List rows)) else Err NotMine
-next e rows answer = Err NotMine
+next kind heading rows answer = Err NotMine
 
 -- What a line does to a query that expects this. `rows` are those of its list so far, once that has begun. A line that
 -- doesn't match is `NotMine`.
 abbrev pub progress : Expected → Option (List (List (List ℕ))) → Answer → Result Progress LinkFault
-progress e None answer = first e answer
-progress e (Some rows) answer = next e rows answer
+progress e None answer = first e.kind e.heading answer
+progress e (Some rows) answer = next e.kind e.heading rows answer
 
 -- more bytes than a line has
 abbrev pub is_long : List ℕ → Bool

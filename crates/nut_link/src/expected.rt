@@ -1,5 +1,5 @@
 //! The answer that a query expects.
-ghost use Rattle.std.specs.Prelude.{◌≡◌, ◌≤◌, [], MatchOption, IsTrue, drop, length};
+ghost use Rattle.std.specs.Prelude.{◌≡◌, ◌≤◌, [], IsTrue, false, drop, length};
 ghost use Rattle.std.specs.List.{list_any};
 ghost use Rattle.nut_words.specs.Quoting.{texts};
 ghost use Rattle.nut_proto.specs.Lines.{message_words};
@@ -27,21 +27,29 @@ pub enum More {
     OneOrMore,
 }
 
-/// The answer that a query expects, unless it is refused.
-#[derive(Drop)]
-pub enum Expected {
+/// The kind of answer that a query expects, unless it is refused.
+#[derive(Clone, Copy)]
+pub enum Kind {
     /// `OK`, whatever follows.
     Success,
     /// `OK`, whatever follows. If `TRACKING` and a number follow, the number is what the server said.
     NumberedSuccess,
-    /// A line that begins with these words and has further words.
-    Line(Heading, More),
+    /// A line that begins with the words of the heading and has further words.
+    Line(More),
     /// Any line but `OK`, a refusal, and the beginning and the end of a list.
     AnyLine,
-    /// A list whose first and last line have these words; each row begins with them and has this many further words.
-    Listing(Heading, u8),
+    /// A list whose first and last line have the words of the heading; each row begins with them and has this many further
+    /// words.
+    Listing(u8),
     /// Only a refusal.
     Refusal,
+}
+
+/// The answer that a query expects: its kind, and the words that it repeats.
+#[derive(Drop)]
+pub struct Expected {
+    pub kind: Kind,
+    pub heading: Heading,
 }
 
 impl More {
@@ -75,27 +83,129 @@ fn is_numbered(words: &Rest<'_>) -> bool
 }
 
 impl Expected {
+    /// Returns what nothing is expected by yet.
+    pub(crate) fn empty() -> Expected {
+        Expected {
+            kind: Kind::Refusal,
+            heading: Heading::empty(),
+        }
+    }
+
+    /// Becomes what a request expects. Returns false only if a word of it that an answer repeats is longer than a line may
+    /// be. Takes no memory.
+    pub(crate) fn set(&mut self, request: &Request<'_>) -> bool
+        ensures set { IsTrue result → self.new ≡ expected request.now }
+        ensures long { result ≡ false → IsTrue (list_any is_long (heading_of request.now)) }
+    {
+        match request {
+            Request::GetNumLogins { ups } => {
+                self.line(&[b"NUMLOGINS", ups.as_bytes()], More::Number)
+            }
+            Request::GetUpsDesc { ups } => self.line(&[b"UPSDESC", ups.as_bytes()], More::One),
+            Request::GetVar { ups, variable } => {
+                self.line(&[b"VAR", ups.as_bytes(), variable.as_bytes()], More::One)
+            }
+            Request::GetType { ups, variable } => {
+                self.line(
+                    &[b"TYPE", ups.as_bytes(), variable.as_bytes()],
+                    More::OneOrMore,
+                )
+            }
+            Request::GetDesc { ups, variable } => {
+                self.line(&[b"DESC", ups.as_bytes(), variable.as_bytes()], More::One)
+            }
+            Request::GetCmdDesc { ups, command } => {
+                self.line(&[b"CMDDESC", ups.as_bytes(), command.as_bytes()], More::One)
+            }
+            Request::GetTracking => self.line(&[b"TRACKING"], More::One),
+            Request::GetTrackingOf { number } => {
+                self.line(&[b"TRACKING", decimal(*number).as_slice()], More::One)
+            }
+            Request::List(query) => self.list(query),
+            Request::SetVar { .. } | Request::InstCmd { .. } => {
+                self.expect(Kind::NumberedSuccess, &[])
+            }
+            Request::SetTracking { .. }
+            | Request::Username { .. }
+            | Request::Password { .. }
+            | Request::Login { .. }
+            | Request::Primary { .. }
+            | Request::Fsd { .. }
+            | Request::Logout => self.expect(Kind::Success, &[]),
+            Request::Ver | Request::NetVer | Request::Help => self.expect(Kind::AnyLine, &[]),
+            Request::StartTls => self.expect(Kind::Refusal, &[]),
+        }
+    }
+
+    /// Expects what a LIST does. Returns false only if a word of it is longer than a line may be.
+    fn list(&mut self, query: &ListQuery<'_>) -> bool
+        ensures set { IsTrue result → self.new ≡ listing query.now }
+        ensures long { result ≡ false → IsTrue (list_any is_long (message_words (query_parts query.now))) }
+    {
+        match query {
+            ListQuery::Ups => self.rows(&[b"UPS"], 2),
+            ListQuery::Var { ups } => self.rows(&[b"VAR", ups.as_bytes()], 2),
+            ListQuery::Rw { ups } => self.rows(&[b"RW", ups.as_bytes()], 2),
+            ListQuery::Cmd { ups } => self.rows(&[b"CMD", ups.as_bytes()], 1),
+            ListQuery::Enum { ups, variable } => {
+                self.rows(&[b"ENUM", ups.as_bytes(), variable.as_bytes()], 1)
+            }
+            ListQuery::Range { ups, variable } => {
+                self.rows(&[b"RANGE", ups.as_bytes(), variable.as_bytes()], 2)
+            }
+            ListQuery::Client { ups } => self.rows(&[b"CLIENT", ups.as_bytes()], 1),
+        }
+    }
+
+    /// Expects a line that begins with these words.
+    fn line(&mut self, words: &[&[u8]], more: More) -> bool
+        requires { length words.now ≤ 3 }
+        ensures set { IsTrue result → self.new ≡ record { kind = Kind.Line more; heading = texts words.now } }
+        ensures long { result ≡ false → IsTrue (list_any is_long (texts words.now)) }
+    {
+        self.expect(Kind::Line(more), words)
+    }
+
+    /// Expects a list of these words, with rows of `count` further ones.
+    fn rows(&mut self, words: &[&[u8]], count: u8) -> bool
+        requires { length words.now ≤ 3 }
+        ensures set { IsTrue result → self.new ≡ record { kind = Kind.Listing count; heading = texts words.now } }
+        ensures long { result ≡ false → IsTrue (list_any is_long (texts words.now)) }
+    {
+        self.expect(Kind::Listing(count), words)
+    }
+
+    /// Expects this kind of answer, which repeats these words. Returns false only if one of them is longer than a line may
+    /// be.
+    fn expect(&mut self, kind: Kind, words: &[&[u8]]) -> bool
+        requires { length words.now ≤ 3 }
+        ensures set { IsTrue result → self.new ≡ record { kind = kind; heading = texts words.now } }
+        ensures long { result ≡ false → IsTrue (list_any is_long (texts words.now)) }
+    {
+        self.kind = kind;
+        self.heading.set(words)
+    }
+
     /// Takes in a line that is neither `OK`, a refusal, nor the beginning or the end of a list, as the first line of
     /// the answer.
     pub(crate) fn say(&self, alloc: Global, words: &Rest<'_>) -> Result<Option<Outcome>, LinkFault>
-        ensures { Gives (first self.now (answers.Row words.now)) (answers.Row words.now) result [] }
+        ensures { Gives (first self.now.kind self.now.heading (answers.Row words.now)) (answers.Row words.now) result [] }
     {
-        match self {
-            Expected::Line(heading, more) => {
-                if !is_line(heading, *more, words) {
+        match self.kind {
+            Kind::Line(more) => {
+                if !is_line(&self.heading, more, words) {
                     return Err(LinkFault::NotMine);
                 }
-                let fields = Fields::copy(alloc, words, heading.len())?;
+                let fields = Fields::copy(alloc, words, self.heading.len())?;
                 Ok(Some(Outcome::Said(fields)))
             }
-            Expected::AnyLine => {
+            Kind::AnyLine => {
                 let fields = Fields::copy(alloc, words, 0)?;
                 Ok(Some(Outcome::Said(fields)))
             }
-            Expected::Success
-            | Expected::NumberedSuccess
-            | Expected::Listing(_, _)
-            | Expected::Refusal => Err(LinkFault::NotMine),
+            Kind::Success | Kind::NumberedSuccess | Kind::Listing(_) | Kind::Refusal => {
+                Err(LinkFault::NotMine)
+            }
         }
     }
 
@@ -105,110 +215,32 @@ impl Expected {
         alloc: Global,
         words: &Rest<'_>,
     ) -> Result<Option<Outcome>, LinkFault>
-        ensures { Gives (first self.now (answers.Ok words.now)) (answers.Ok words.now) result [] }
+        ensures { Gives (first self.now.kind self.now.heading (answers.Ok words.now)) (answers.Ok words.now) result [] }
     {
-        match self {
-            Expected::NumberedSuccess if is_numbered(words) => {
+        match self.kind {
+            Kind::NumberedSuccess if is_numbered(words) => {
                 let number = Fields::copy(alloc, words, 1)?;
                 Ok(Some(Outcome::Said(number)))
             }
-            Expected::Success | Expected::NumberedSuccess => Ok(Some(Outcome::Done)),
-            Expected::Line(_, _)
-            | Expected::AnyLine
-            | Expected::Listing(_, _)
-            | Expected::Refusal => Err(LinkFault::NotMine),
+            Kind::Success | Kind::NumberedSuccess => Ok(Some(Outcome::Done)),
+            Kind::Line(_) | Kind::AnyLine | Kind::Listing(_) | Kind::Refusal => {
+                Err(LinkFault::NotMine)
+            }
         }
     }
 
     /// Takes in the beginning of a list as the first line.
     pub(crate) fn begin(&self, words: &Rest<'_>) -> Result<Option<Outcome>, LinkFault>
-        ensures { Gives (first self.now (answers.Begin words.now)) (answers.Begin words.now) result [] }
+        ensures { Gives (first self.now.kind self.now.heading (answers.Begin words.now)) (answers.Begin words.now) result [] }
     {
-        match self {
-            Expected::Listing(heading, _) if heading.is_heading(words) => Ok(None),
-            Expected::Listing(_, _)
-            | Expected::Success
-            | Expected::NumberedSuccess
-            | Expected::Line(_, _)
-            | Expected::AnyLine
-            | Expected::Refusal => Err(LinkFault::NotMine),
+        match self.kind {
+            Kind::Listing(_) if self.heading.is_heading(words) => Ok(None),
+            Kind::Listing(_)
+            | Kind::Success
+            | Kind::NumberedSuccess
+            | Kind::Line(_)
+            | Kind::AnyLine
+            | Kind::Refusal => Err(LinkFault::NotMine),
         }
     }
-}
-
-/// What a request expects, unless a word of it that an answer repeats is longer than a line may be. Takes no memory.
-pub(crate) fn expected_of(request: &Request<'_>) -> Option<Expected>
-    ensures { MatchOption result (IsTrue (list_any is_long (heading_of request.now))) (λ e. e ≡ expected request.now) }
-{
-    match request {
-        Request::GetNumLogins { ups } => line(&[b"NUMLOGINS", ups.as_bytes()], More::Number),
-        Request::GetUpsDesc { ups } => line(&[b"UPSDESC", ups.as_bytes()], More::One),
-        Request::GetVar { ups, variable } => {
-            line(&[b"VAR", ups.as_bytes(), variable.as_bytes()], More::One)
-        }
-        Request::GetType { ups, variable } => {
-            line(
-                &[b"TYPE", ups.as_bytes(), variable.as_bytes()],
-                More::OneOrMore,
-            )
-        }
-        Request::GetDesc { ups, variable } => {
-            line(&[b"DESC", ups.as_bytes(), variable.as_bytes()], More::One)
-        }
-        Request::GetCmdDesc { ups, command } => {
-            line(&[b"CMDDESC", ups.as_bytes(), command.as_bytes()], More::One)
-        }
-        Request::GetTracking => line(&[b"TRACKING"], More::One),
-        Request::GetTrackingOf { number } => {
-            line(&[b"TRACKING", decimal(*number).as_slice()], More::One)
-        }
-        Request::List(query) => listing_of(query),
-        Request::SetVar { .. } | Request::InstCmd { .. } => Some(Expected::NumberedSuccess),
-        Request::SetTracking { .. }
-        | Request::Username { .. }
-        | Request::Password { .. }
-        | Request::Login { .. }
-        | Request::Primary { .. }
-        | Request::Fsd { .. }
-        | Request::Logout => Some(Expected::Success),
-        Request::Ver | Request::NetVer | Request::Help => Some(Expected::AnyLine),
-        Request::StartTls => Some(Expected::Refusal),
-    }
-}
-
-/// Expects a line that begins with these words. `None` only if one of them is longer than a line may be. It allocates
-/// nothing.
-fn line(words: &[&[u8]], more: More) -> Option<Expected>
-    requires { length words.now ≤ 3 }
-    ensures { MatchOption result (IsTrue (list_any is_long (texts words.now))) (λ e. e ≡ Expected.Line (texts words.now) more) }
-{
-    Some(Expected::Line(Heading::copy(words)?, more))
-}
-
-/// Returns what a LIST expects. `None` only if a word of it is longer than a line may be. It allocates nothing.
-fn listing_of(query: &ListQuery<'_>) -> Option<Expected>
-    ensures { MatchOption result (IsTrue (list_any is_long (message_words (query_parts query.now)))) (λ e. e ≡ listing query.now) }
-{
-    match query {
-        ListQuery::Ups => list(&[b"UPS"], 2),
-        ListQuery::Var { ups } => list(&[b"VAR", ups.as_bytes()], 2),
-        ListQuery::Rw { ups } => list(&[b"RW", ups.as_bytes()], 2),
-        ListQuery::Cmd { ups } => list(&[b"CMD", ups.as_bytes()], 1),
-        ListQuery::Enum { ups, variable } => {
-            list(&[b"ENUM", ups.as_bytes(), variable.as_bytes()], 1)
-        }
-        ListQuery::Range { ups, variable } => {
-            list(&[b"RANGE", ups.as_bytes(), variable.as_bytes()], 2)
-        }
-        ListQuery::Client { ups } => list(&[b"CLIENT", ups.as_bytes()], 1),
-    }
-}
-
-/// Expects a list of these words, with rows of `count` further ones. `None` only if one of the words is longer than a
-/// line may be. It allocates nothing.
-fn list(words: &[&[u8]], count: u8) -> Option<Expected>
-    requires { length words.now ≤ 3 }
-    ensures { MatchOption result (IsTrue (list_any is_long (texts words.now))) (λ e. e ≡ Expected.Listing (texts words.now) count) }
-{
-    Some(Expected::Listing(Heading::copy(words)?, count))
 }

@@ -1,5 +1,5 @@
 //! The words with which an answer begins.
-ghost use Rattle.std.specs.Prelude.{◌≡◌, ◌≤◌, IfSome, IfNone, IsTrue, length};
+ghost use Rattle.std.specs.Prelude.{◌≡◌, ◌<◌, ◌≤◌, ◌++◌, ◌∷◌, [], IsTrue, false, length};
 ghost use Rattle.std.specs.List.{list_any};
 ghost use Rattle.nut_words.specs.Quoting.{texts};
 ghost use Rattle.nut_link.specs.Matching.{begins, is_heading, is_long, is_row};
@@ -24,16 +24,19 @@ impl Model for Name {
 }
 
 impl Name {
-    /// Copies these bytes, if there are at most [`LINE_MAX`]. It allocates nothing.
-    fn copy(bytes: &[u8]) -> Option<Name>
-        ensures some { IfSome result (λ n. n ≡ bytes.now) }
-        ensures none { IfNone result (IsTrue (is_long bytes.now)) }
-    {
-        let mut copied = ArrayVec::new();
-        match copied.try_extend_from_slice(bytes) {
-            Ok(()) => Some(Name { bytes: copied }),
-            Err(_) => None,
+    fn empty() -> Name {
+        Name {
+            bytes: ArrayVec::new(),
         }
+    }
+
+    /// Becomes these bytes. Returns whether there are at most [`LINE_MAX`]. It allocates nothing.
+    fn set(&mut self, bytes: &[u8]) -> bool
+        ensures set { IsTrue result → self.new ≡ bytes.now }
+        ensures long { result ≡ false → IsTrue (is_long bytes.now) }
+    {
+        self.bytes.clear();
+        self.bytes.try_extend_from_slice(bytes).is_ok()
     }
 
     fn as_bytes(&self) -> &[u8]
@@ -43,40 +46,71 @@ impl Name {
     }
 }
 
-impl Default for Name {
-    fn default() -> Self {
-        Name {
-            bytes: ArrayVec::new(),
-        }
-    }
-}
-
-/// The words with which an answer begins: those of the query behind GET or LIST. There are at most three.
+/// The words with which an answer begins: those of the query behind GET or LIST. There are at most three, and each has a
+/// place of its own, which stays for the next query.
 #[derive(Drop)]
 pub struct Heading {
-    words: ArrayVec<Name, 3>,
+    words: [Name; 3],
+    count: usize,
 }
 
 impl Model for Heading {
-    ghost use Rattle.std.specs.Prelude.{List, ℕ};
+    ghost use Rattle.std.specs.Prelude.{◌≡◌, ◌≤◌, List, ℕ, length, take};
 
     ghost Value = { List (List ℕ) };
 
-    ghost view = { λ h. h.words.items };
+    ghost view = { λ h. take h.count h.words };
+
+    ghost invariant = { λ h. (h.count ≤ 3) × (length h.words ≡ 3) };
 }
 
 impl Heading {
-    /// A copy of these words, unless one is longer than [`LINE_MAX`] bytes. Takes no memory.
-    pub(crate) fn copy(words: &[&[u8]]) -> Option<Heading>
-        requires { length words.now ≤ 3 }
-        ensures some { IfSome result (λ h. h ≡ texts words.now) }
-        ensures none { IfNone result (IsTrue (list_any is_long (texts words.now))) }
-    {
-        let mut copied = ArrayVec::new();
-        for word in words {
-            copied.push(Name::copy(word)?);
+    /// Returns no words.
+    pub(crate) fn empty() -> Heading {
+        Heading {
+            words: [Name::empty(), Name::empty(), Name::empty()],
+            count: 0,
         }
-        Some(Heading { words: copied })
+    }
+
+    /// Becomes these words. Returns false if one is longer than [`LINE_MAX`] bytes. It allocates nothing.
+    pub(crate) fn set(&mut self, words: &[&[u8]]) -> bool
+        requires { length words.now ≤ 3 }
+        ensures set { IsTrue result → self.new ≡ texts words.now }
+        ensures long { result ≡ false → IsTrue (list_any is_long (texts words.now)) }
+    {
+        self.clear();
+        for word in words {
+            if !self.push(word) {
+                return false;
+            }
+        }
+        true
+    }
+
+    fn clear(&mut self)
+        ensures { self.new ≡ [] }
+    {
+        self.count = 0;
+    }
+
+    /// Appends a word. Returns false if it is longer than [`LINE_MAX`] bytes.
+    fn push(&mut self, word: &[u8]) -> bool
+        requires { length self.old < 3 }
+        ensures pushed { IsTrue result → self.new ≡ self.old ++ word.now ∷ [] }
+        ensures long { result ≡ false → IsTrue (is_long word.now) }
+    {
+        if !self.words[self.count].set(word) {
+            return false;
+        }
+        self.count += 1;
+        true
+    }
+
+    fn as_slice(&self) -> &[Name]
+        ensures { result.now ≡ self.now }
+    {
+        &self.words[..self.count]
     }
 
     /// Returns the number of words.
@@ -84,7 +118,7 @@ impl Heading {
         ensures value { result ≡ length self.now }
         ensures few { result ≤ 3 }
     {
-        self.words.len()
+        self.count
     }
 
     /// Whether a line's words begin with these.
@@ -95,7 +129,7 @@ impl Heading {
             return false;
         }
         let mut place = 0usize;
-        for name in self.words.as_slice() {
+        for name in self.as_slice() {
             if name.as_bytes() != words.get(place) {
                 return false;
             }

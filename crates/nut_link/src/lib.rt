@@ -17,8 +17,8 @@ mod outcome;
 mod query;
 
 pub use copied::{Fields, Rows, Text};
-pub use exchange::{Exchange, Stage};
-pub use expected::{Expected, More};
+pub use exchange::{Exchange, Stage, State};
+pub use expected::{Expected, Kind, More};
 pub use fault::LinkFault;
 pub use heading::{Heading, Name};
 pub use laws::{bounds_stay, cuts_do_not_matter, ok_takes_no_memory, replies_match, rests_stay};

@@ -6,7 +6,7 @@ ghost use Rattle.nut_link.specs.Bounds.{IsBounded};
 ghost use Rattle.nut_link.specs.Hearing.{Feeds, RunsOut, may_take_memory};
 ghost use Rattle.nut_link.specs.Link.{answer_by, ask_fault, asked, fed, fresh, link_with, outcome_of, take_fault, taken, taken_out, waits, with_exchange};
 
-use crate::exchange::{Exchange, Stage};
+use crate::exchange::Exchange;
 use crate::fault::LinkFault;
 use crate::limits::QUERY_MAX;
 use crate::outcome::Outcome;
@@ -63,10 +63,7 @@ impl Link {
     {
         Link {
             cutter: LineCutter::new(),
-            exchange: Exchange {
-                stage: Stage::Idle,
-                fault: None,
-            },
+            exchange: Exchange::new(),
             alloc,
         }
     }
@@ -143,7 +140,7 @@ impl Link {
         ensures feeds { Feeds self.old piece.now result.0 result.1 self.new }
         ensures bounded { IsBounded self.new }
     {
-        if let Some(fault) = self.exchange.fault {
+        if let Some(fault) = self.exchange.fault() {
             return (0, Err(fault));
         }
         hear_lines(&mut self.cutter, &mut self.exchange, self.alloc, piece)

@@ -1,5 +1,5 @@
 //! A query that was asked and has no complete answer yet.
-ghost use Rattle.std.specs.Prelude.{◌≡◌, ◌<◌, ◌≤◌, ◌⊎◌, ◌++◌, ◌∷◌, [], ℕ, List, IfSome, IfErr, OnOk, OnErr, drop, false, length, is_some};
+ghost use Rattle.std.specs.Prelude.{◌≡◌, ◌<◌, ◌≤◌, ◌⊎◌, ◌++◌, ◌∷◌, [], ℕ, List, IfErr, IsTrue, OnOk, OnErr, drop, false, length};
 ghost use Rattle.std.specs.List.{list_all};
 ghost use Rattle.nut_words.specs.Spelling.{is_printing};
 ghost use Rattle.nut_link.specs.Asking.{query_of, is_writable};
@@ -8,7 +8,7 @@ ghost use Rattle.nut_link.specs.Matching.{first, next};
 ghost use Rattle.nut_link.specs.declared.fault.LinkFault.TheVariants.{BadLine, Memory};
 
 use crate::copied::{Fields, Rows, Text};
-use crate::expected::{Expected, expected_of};
+use crate::expected::{Expected, Kind};
 use crate::fault::LinkFault;
 use crate::limits::QUERY_MAX;
 use crate::outcome::Outcome;
@@ -54,27 +54,36 @@ fn is_printing_line(line: &[u8]) -> bool
 }
 
 impl Query {
-    /// Makes the query of a request. `None` exactly if it isn't writable. It allocates nothing.
-    pub(crate) fn new(request: &Request<'_>) -> Option<Query>
-        ensures some { IfSome result (λ q. q ≡ query_of request.now) }
-        ensures exact { is_some result ≡ is_writable request.now }
-    {
-        let Some(expected) = expected_of(request) else {
-            return None;
-        };
-        let mut line = ArrayVec::new();
-        if request.put(&mut line).is_err() {
-            return None;
-        }
-        if !is_printing_line(line.as_slice()) {
-            return None;
-        }
-        Some(Query {
-            expected,
-            line,
+    /// Returns a place for queries.
+    pub(crate) fn empty() -> Query {
+        Query {
+            expected: Expected::empty(),
+            line: ArrayVec::new(),
             taken: 0,
             rows: None,
-        })
+        }
+    }
+
+    /// Becomes the query of a request. Returns false exactly if that isn't writable. It allocates nothing.
+    pub(crate) fn ask(&mut self, request: &Request<'_>) -> bool
+        ensures asked { IsTrue result → self.new ≡ query_of request.now }
+        ensures exact { result ≡ is_writable request.now }
+    {
+        self.taken = 0;
+        self.rows = None;
+        self.line.clear();
+        if !self.expected.set(request) {
+            return false;
+        }
+        if request.put(&mut self.line).is_err() {
+            return false;
+        }
+        is_printing_line(self.line.as_slice())
+    }
+
+    /// Drops the rows so far.
+    pub(crate) fn end(&mut self) {
+        self.rows = None;
     }
 
     /// Returns the bytes that wait to be sent.
@@ -120,7 +129,7 @@ fn hear_first(
     expected: &Expected,
     answer: &Answer<'_>,
 ) -> Result<Option<Outcome>, LinkFault>
-    ensures { Gives (first expected.now answer.now) answer.now result [] }
+    ensures { Gives (first expected.now.kind expected.now.heading answer.now) answer.now result [] }
 {
     match answer {
         Answer::Err(name) => {
@@ -141,15 +150,16 @@ fn hear_next(
     rows: &mut Rows,
     answer: &Answer<'_>,
 ) -> Result<Option<Outcome>, LinkFault>
-    ensures gives { Gives (next expected.now rows.old answer.now) answer.now result rows.new }
+    ensures gives { Gives (next expected.now.kind expected.now.heading rows.old answer.now) answer.now result rows.new }
     ensures few { length rows.old ≤ ROWS_MAX → length rows.new ≤ ROWS_MAX }
 {
-    let Expected::Listing(heading, count) = expected else {
+    let Kind::Listing(count) = expected.kind else {
         return Err(LinkFault::NotMine);
     };
+    let heading = &expected.heading;
     match answer {
         Answer::Row(words) => {
-            if !heading.is_row(*count, words) {
+            if !heading.is_row(count, words) {
                 return Err(LinkFault::NotMine);
             }
             push_row(alloc, rows, words, heading.len())?;

@@ -12,11 +12,11 @@ use Rattle.nut_link.specs.Asking.{Asked}
 use Rattle.nut_link.specs.Hearing.{Feeds, RunsOut}
 use Rattle.nut_link.specs.Link.{LinkValue, answer_by, heard, left_of, lines_heard, moved, on_line, on_read, outcome_in, outcome_of, progress_of, stage_after, stage_without, taken_out, with_exchange}
 use Rattle.nut_link.specs.Matching.{Progress, Listing, Complete, begins, first, has_more, is_heading, is_line, is_numbered, is_row, next, progress}
-use Rattle.nut_link.specs.declared.exchange.Exchange.{Exchange}
-use Rattle.nut_link.specs.declared.exchange.Stage.{Stage}
-use Rattle.nut_link.specs.declared.exchange.Stage.TheVariants as stages
+use Rattle.nut_link.specs.Exchange.{Exchange, Stage}
+use Rattle.nut_link.specs.Exchange as stages
 use Rattle.nut_link.specs.declared.expected.Expected.{Expected}
-use Rattle.nut_link.specs.declared.expected.Expected.TheVariants as expects
+use Rattle.nut_link.specs.declared.expected.Kind.{Kind}
+use Rattle.nut_link.specs.declared.expected.Kind.TheVariants as kinds
 use Rattle.nut_link.specs.declared.expected.More.TheVariants as mores
 use Rattle.nut_link.specs.declared.fault.LinkFault.{LinkFault}
 use Rattle.nut_link.specs.declared.fault.LinkFault.TheVariants.{NotMine, BadLine, OutOfOrder, Memory}
@@ -50,7 +50,7 @@ row_count : (q : Asked) (b : Bool) (ws : List (List ℕ)) → (b ≡ true → Is
 row_count q true ws h = h refl
 row_count q false ws h = tt
 
-first_count : (q : Asked) (heading : List (List ℕ)) (a : Answer) → FineResult NumLogins (stage_after q (first (expects.Line heading mores.Number) a))
+first_count : (q : Asked) (heading : List (List ℕ)) (a : Answer) → FineResult NumLogins (stage_after q (first (kinds.Line mores.Number) heading a))
 first_count q heading (answers.Row words) =
     let ws = drop (length heading) words in
     row_count q (is_line heading mores.Number words) ws (λ e. said_count ws (right_true (length ws == 1) (list_all is_natural ws) (right_true (begins heading words) (has_more mores.Number ws) e)))
@@ -62,9 +62,10 @@ fine_if q false r h = tt
 
 asked_count : (q : Asked) (a : Answer) → ExpectsCount NumLogins q → FineResult NumLogins (stage_after q (progress_of q a))
 asked_count q a h =
-    let same : progress q.expected q.rows a ≡ first (expects.Line h.0.0 mores.Number) a =
-    ap (λ e. progress e q.rows a) h.0.1 ∙ ap (λ rows. progress (expects.Line h.0.0 mores.Number) rows a) h.1 in
-    fine_if q (length q.waits == 0) (progress q.expected q.rows a) (subst (λ r. FineResult NumLogins (stage_after q r)) (sym same) (first_count q h.0.0 a))
+    let heading = q.expected.heading in
+    let same : progress q.expected q.rows a ≡ first (kinds.Line mores.Number) heading a =
+    ap (λ rows. progress q.expected rows a) h.1 ∙ ap (λ kind. first kind heading a) h.0 in
+    fine_if q (length q.waits == 0) (progress q.expected q.rows a) (subst (λ r. FineResult NumLogins (stage_after q r)) (sym same) (first_count q heading a))
 
 -- A line that answers another query than that for the logins may say anything.
 fine_result : (query : Query) (q : Asked) (r : Result Progress LinkFault) → (query ≡ NumLogins → FineResult query (stage_after q r)) → FineResult query (stage_after q r)
@@ -167,23 +168,23 @@ nm_any : (b : Bool) (p q : Outcome) → Fed (if b then Ok (Complete p) else Ok (
 nm_any true p q = tt
 nm_any false p q = tt
 
-nm_first : (e : Expected) (a : Answer) → Fed (first e a)
-nm_first e (answers.Err name) = tt
-nm_first expects.Success (answers.Ok words) = tt
-nm_first expects.NumberedSuccess (answers.Ok words) = nm_any (is_numbered words) (outcomes.Said (drop 1 words)) outcomes.Done
-nm_first (expects.Line heading more) (answers.Row words) = nm_if (is_line heading more words) (Ok (Complete (outcomes.Said (drop (length heading) words)))) tt
-nm_first expects.AnyLine (answers.Row words) = tt
-nm_first (expects.Listing heading count) (answers.Begin words) = nm_if (is_heading heading words) (Ok (Listing [])) tt
-nm_first e answer = tt
+nm_first : (kind : Kind) (heading : List (List ℕ)) (a : Answer) → Fed (first kind heading a)
+nm_first kind heading (answers.Err name) = tt
+nm_first kinds.Success heading (answers.Ok words) = tt
+nm_first kinds.NumberedSuccess heading (answers.Ok words) = nm_any (is_numbered words) (outcomes.Said (drop 1 words)) outcomes.Done
+nm_first (kinds.Line more) heading (answers.Row words) = nm_if (is_line heading more words) (Ok (Complete (outcomes.Said (drop (length heading) words)))) tt
+nm_first kinds.AnyLine heading (answers.Row words) = tt
+nm_first (kinds.Listing count) heading (answers.Begin words) = nm_if (is_heading heading words) (Ok (Listing [])) tt
+nm_first kind heading answer = tt
 
-nm_next : (e : Expected) (rows : List (List (List ℕ))) (a : Answer) → Fed (next e rows a)
-nm_next (expects.Listing heading count) rows (answers.Row words) = nm_row heading count rows words (is_row heading count words) (nat_lt (length rows) ROWS_MAX)
-nm_next (expects.Listing heading count) rows (answers.End words) = nm_if (is_heading heading words) (Ok (Complete (outcomes.List rows))) tt
-nm_next e rows answer = tt
+nm_next : (kind : Kind) (heading : List (List ℕ)) (rows : List (List (List ℕ))) (a : Answer) → Fed (next kind heading rows a)
+nm_next (kinds.Listing count) heading rows (answers.Row words) = nm_row heading count rows words (is_row heading count words) (nat_lt (length rows) ROWS_MAX)
+nm_next (kinds.Listing count) heading rows (answers.End words) = nm_if (is_heading heading words) (Ok (Complete (outcomes.List rows))) tt
+nm_next kind heading rows answer = tt
 
 nm_progress : (e : Expected) (rows : Option (List (List (List ℕ)))) (a : Answer) → Fed (progress e rows a)
-nm_progress e None a = nm_first e a
-nm_progress e (Some rows) a = nm_next e rows a
+nm_progress e None a = nm_first e.kind e.heading a
+nm_progress e (Some rows) a = nm_next e.kind e.heading rows a
 
 nm_taken : (b : Bool) (r : Result Progress LinkFault) → Fed r → Fed (if b then r else Err OutOfOrder)
 nm_taken true r h = h

@@ -5,8 +5,8 @@ use Rattle.std.proofs.lemmas.List.Sums.{sum_by-cons, sum_by-set}
 use Rattle.nut_words.specs.Lines.{LineText, lines_after}
 use Rattle.nut_link.specs.Hearing.{RunsOut}
 use Rattle.nut_link.specs.Link.{LinkValue, fed, left_of, lines_heard, outcome_in, outcome_of, taken_out, with_exchange}
-use Rattle.nut_link.specs.declared.exchange.Stage.{Stage}
-use Rattle.nut_link.specs.declared.exchange.Stage.TheVariants as stages
+use Rattle.nut_link.specs.Exchange.{Stage}
+use Rattle.nut_link.specs.Exchange as stages
 use Rattle.nut_link.specs.declared.outcome.Outcome.{Outcome}
 use Rattle.nut_words.specs.declared.limits.TheConstants.{PIECE_MAX}
 use Rattle.nut_conf.specs.declared.monitor.Monitored.{Monitored}

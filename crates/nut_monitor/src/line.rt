@@ -3,7 +3,7 @@ ghost use Rattle.std.specs.Prelude.{◌≡◌, ◌+◌, ◌<◌, ◌≤◌, ◌+
 ghost use Rattle.std.specs.Option.{option_map};
 ghost use Rattle.nut_link.specs.Link.{LinkValue, is_idle, with_exchange};
 ghost use Rattle.nut_link.specs.Asking.{query_of};
-ghost use Rattle.nut_link.specs.declared.exchange.Stage.TheVariants as stages;
+ghost use Rattle.nut_link.specs.Exchange as stages;
 ghost use Rattle.nut_monitor_spec.specs.Query.{request as request_of};
 ghost use Rattle.nut_conf.specs.declared.notice.Notice.TheVariants as kinds;
 ghost use Rattle.nut_monitor_spec.specs.Acceptance.{waits_on};
@@ -74,11 +74,18 @@ fn feed(
     let (done, heard) = going.feed_lines(piece);
     let outcome = going.answer();
     if heard.is_err() {
-        // dropped by a call, which keeps the proof of this function short
-        drop(link.take());
+        cut(link);
         return (done, heard, outcome);
     }
     (done, heard, outcome)
+}
+
+/// Drops a link. It stands apart, since the place of a link is filled by whatever function has one.
+fn cut(link: &mut Option<Link>)
+    ensures { link.new ≡ None }
+{
+    // dropped by a call, which keeps the proof of this function short
+    drop(link.take());
 }
 
 /// Returns what is known after the answer to the last query, if both are there, and queues the notices that it gives.
@@ -216,8 +223,7 @@ impl MonitorLine {
     {
         tell_loss(scene, self.known, notices);
         self.known = with_loss(self.known);
-        // dropped by a call, which keeps the proof of this function short
-        drop(self.link.take());
+        cut(&mut self.link);
     }
 
     /// Removes the first `n` of the bytes that wait: its server took them.

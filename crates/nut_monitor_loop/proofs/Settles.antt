@@ -1,9 +1,8 @@
 -- What a write changes: only what waits on its link.
 use Rattle.std.proofs.Common.{◌≡◌, ◌≢◌, ◌⊎◌, ℕ, zero, suc, ◌+◌, ◌<◌, ◌≤◌, Bool, true, false, List, [], ◌∷◌, length, drop, Option, Some, None, is_some, Result, if◌then◌else◌, refl, sym, ◌∙◌, ap, subst, inl, inr, arith, length-drop, le-leb}
 use Rattle.std.specs.Prelude.{option_map, nat_le}
-use Rattle.nut_link.specs.declared.exchange.Exchange.{Exchange}
-use Rattle.nut_link.specs.declared.exchange.Stage.{Stage}
-use Rattle.nut_link.specs.declared.exchange.Stage.TheVariants as stages
+use Rattle.nut_link.specs.Exchange.{Exchange, Stage}
+use Rattle.nut_link.specs.Exchange as stages
 use Rattle.nut_link.specs.Link.{LinkValue, waits, waits_in, stage_taken, take_fault, or_else}
 use Rattle.nut_link.specs.declared.fault.LinkFault.TheVariants.{TooMuchTaken}
 use Rattle.nut_monitor_spec.specs.declared.MonitorFault.{MonitorFault}

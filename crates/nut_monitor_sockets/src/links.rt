@@ -1,8 +1,11 @@
 //! All links of a monitor, watched by one poll.
 
-ghost use Rattle.std.specs.Prelude.{◌≡◌, ◌≢◌, length, vec_len, IfSome, IfOk, Some, None};
+ghost use Rattle.std.specs.Prelude.{◌≡◌, ◌≢◌, ℕ, [], length, unwrap_or, vec_len, IfSome, IfOk, Some, None};
 ghost use Rattle.nut_io.specs.Writes.{IsWithin};
 ghost use Rattle.nut_monitor_loop.specs.declared.types.Next.TheVariants as next;
+ghost use Rattle.nut_monitor_sockets.specs.Turns.{ComesInTurn, IsGivenBy};
+ghost use Rattle.nut_monitor_sockets.specs.inside.Losses.{IsLoss};
+ghost use Rattle.nut_poll.specs.Queue.{Looks};
 
 use crate::dialler::Dialler;
 use crate::inquiry::outstanding;
@@ -165,8 +168,8 @@ impl Links {
 
     /// Returns what comes next, after at most one wait.
     ///
-    /// A second is told only after the sockets have been looked at since its end, so what had arrived by then is heard
-    /// first.
+    /// Links are looked at in the order in which they came to wait. A second is told only after the sockets have been
+    /// looked at since its end, so what had arrived by then is heard first.
     ///
     /// # Errors
     ///
@@ -178,6 +181,7 @@ impl Links {
         piece: &mut Piece,
     ) -> io::Result<Next>
         ensures goes_on { IfOk result (λ n. n ≢ next.End) }
+        ensures turns { IfOk result (λ n. ComesInTurn n self.old.rounds.ready self.new.rounds.ready) }
     {
         self.follow(monitor, &mut services.look_ups);
         if let Some(next) = self.follow_up(monitor, &mut services.reports) {
@@ -221,7 +225,9 @@ impl Links {
     }
 
     /// Closes a link. If the monitor was just given a piece from it, that piece is the reason.
-    pub fn close(&mut self, monitor: &Monitor, i: usize, reports: &mut Reports<'_>) {
+    pub fn close(&mut self, monitor: &Monitor, i: usize, reports: &mut Reports<'_>)
+        ensures { self.new.rounds.ready ≡ self.old.rounds.ready }
+    {
         if self.heard == Some(i) {
             self.tell_heard(monitor, reports);
             self.end(i, Loss::Unread, reports);
@@ -232,7 +238,8 @@ impl Links {
 
     /// Reports what the monitor heard in the piece that it was given last, if it has to be reported.
     fn tell_heard(&mut self, monitor: &Monitor, reports: &mut Reports<'_>)
-        ensures { self.new.heard ≡ None }
+        ensures heard { self.new.heard ≡ None }
+        ensures turns { self.new.rounds.ready ≡ self.old.rounds.ready }
     {
         let Some(i) = self.heard.take() else {
             return;
@@ -247,7 +254,8 @@ impl Links {
     /// Reports what the monitor heard in the piece that it was given last. If the server of that link still owes an answer,
     /// and has for too long, the link is lost.
     fn follow_up(&mut self, monitor: &Monitor, reports: &mut Reports<'_>) -> Option<Next>
-        ensures goes_on { IfSome result (λ n. n ≢ next.End) }
+        ensures lost { IfSome result IsLoss }
+        ensures turns { self.new.rounds.ready ≡ self.old.rounds.ready }
     {
         let i = self.heard?;
         self.tell_heard(monitor, reports);
@@ -261,7 +269,8 @@ impl Links {
         i: usize,
         reports: &mut Reports<'_>,
     ) -> Option<Next>
-        ensures goes_on { IfSome result (λ n. n ≢ next.End) }
+        ensures lost { IfSome result IsLoss }
+        ensures turns { self.new.rounds.ready ≡ self.old.rounds.ready }
     {
         let query = outstanding(monitor, i)?;
         if !self.upstreams.get(i)?.is_overdue(query, self.limits) {
@@ -273,7 +282,9 @@ impl Links {
 
     /// Closes a link and reports it: a server that has served is lost, and of any other it is reported once that there
     /// is no server yet.
-    fn end(&mut self, i: usize, loss: Loss, reports: &mut Reports<'_>) {
+    fn end(&mut self, i: usize, loss: Loss, reports: &mut Reports<'_>)
+        ensures { self.new.rounds.ready ≡ self.old.rounds.ready }
+    {
         let Some(upstream) = self.upstreams.get_mut(i) else {
             return;
         };
@@ -291,7 +302,9 @@ impl Links {
     /// forgotten, and no look-up helps it any more. In Forcing the servers may stand still with this process, so that the
     /// other machines hear nothing: seconds that are missed then are forgotten, too. If the others did hear and are logged
     /// out, Forcing is over without these seconds.
-    fn follow(&mut self, monitor: &Monitor, look_ups: &mut LookUps<'_, impl Processes>) {
+    fn follow(&mut self, monitor: &Monitor, look_ups: &mut LookUps<'_, impl Processes>)
+        ensures { self.new.rounds.ready ≡ self.old.rounds.ready }
+    {
         let phase = monitor.phase();
         let begins = !self.is_ending && phase != Phase::Watching;
         if begins || phase == Phase::Forcing {
@@ -320,6 +333,7 @@ impl Links {
         reports: &mut Reports<'_>,
     ) -> Option<Next>
         ensures goes_on { IfSome result (λ n. n ≢ next.End) }
+        ensures turns { ComesInTurn (unwrap_or result next.Again) self.old.rounds.ready self.new.rounds.ready }
     {
         for _ in 0..SOCKETS_MAX {
             let Token(i) = self.rounds.ready.take()?;
@@ -340,6 +354,8 @@ impl Links {
         reports: &mut Reports<'_>,
     ) -> Option<Next>
         ensures goes_on { IfSome result (λ n. n ≢ next.End) }
+        ensures given { IfSome result (λ n. IsGivenBy i n) }
+        ensures turns { Looks [] self.old.rounds.ready self.new.rounds.ready }
     {
         match (self.upstreams.get(i)?.is_up(), monitor.linked(i)) {
             (true, true) => self.hear(monitor, i, piece, reports),
@@ -362,6 +378,8 @@ impl Links {
         reports: &mut Reports<'_>,
     ) -> Option<Next>
         ensures goes_on { IfSome result (λ n. n ≢ next.End) }
+        ensures given { IfSome result (λ n. IsGivenBy i n) }
+        ensures turns { Looks [] self.old.rounds.ready self.new.rounds.ready }
     {
         match self.upstreams.get_mut(i)?.hear(piece) {
             Heard::All => Some(self.hand_on(i)),
@@ -379,7 +397,8 @@ impl Links {
 
     /// Gives a piece of a link to the monitor.
     fn hand_on(&mut self, i: usize) -> Next
-        ensures { result ≡ next.LinkBytes i }
+        ensures next { result ≡ next.LinkBytes i }
+        ensures turns { self.new.rounds.ready ≡ self.old.rounds.ready }
     {
         self.heard = Some(i);
         Next::LinkBytes(i)
@@ -395,6 +414,8 @@ impl Links {
         reports: &mut Reports<'_>,
     ) -> Option<Next>
         ensures goes_on { IfSome result (λ n. n ≢ next.End) }
+        ensures given { IfSome result (λ n. IsGivenBy i n) }
+        ensures turns { Looks [] self.old.rounds.ready self.new.rounds.ready }
     {
         let upstream = self.upstreams.get_mut(i)?;
         let token = Token(i);
@@ -424,7 +445,9 @@ impl Links {
         &mut self,
         monitor: &Monitor,
         services: &mut Services<'_, '_, R>,
-    ) -> io::Result<()> {
+    ) -> io::Result<()>
+        ensures { IfOk result (λ _. Looks [] self.old.rounds.ready self.new.rounds.ready) }
+    {
         if self.rounds.look_at_clock(services.rt)? {
             self.second(monitor, &mut services.look_ups, &mut services.reports);
         }
@@ -459,7 +482,9 @@ impl Links {
         monitor: &Monitor,
         look_ups: &mut LookUps<'_, impl Processes>,
         reports: &mut Reports<'_>,
-    ) {
+    )
+        ensures { self.new.rounds ≡ self.old.rounds }
+    {
         self.has_moved_on = true;
         self.limits = Limits::of(monitor);
         for (i, upstream) in self.upstreams.iter_mut().enumerate() {
@@ -472,7 +497,9 @@ impl Links {
     }
 
     /// Begins one look-up, if any is due and another one may begin.
-    fn look_up(&mut self, look_ups: &mut LookUps<'_, impl Processes>, reports: &mut Reports<'_>) {
+    fn look_up(&mut self, look_ups: &mut LookUps<'_, impl Processes>, reports: &mut Reports<'_>)
+        ensures { self.new.rounds ≡ self.old.rounds }
+    {
         if !look_ups.has_room() {
             return;
         }
@@ -493,7 +520,9 @@ impl Links {
         &mut self,
         look_ups: &mut LookUps<'_, impl Processes>,
         reports: &mut Reports<'_>,
-    ) {
+    )
+        ensures { Looks [] self.old.rounds.ready self.new.rounds.ready }
+    {
         let found = look_ups.take();
         if let Some(found) = &found
             && !self.is_ending
@@ -503,7 +532,9 @@ impl Links {
     }
 
     /// Hands the result of a look-up to the links to its host.
-    fn take_found(&mut self, found: &Found, reports: &mut Reports<'_>) {
+    fn take_found(&mut self, found: &Found, reports: &mut Reports<'_>)
+        ensures { Looks [] self.old.rounds.ready self.new.rounds.ready }
+    {
         for (i, upstream) in self.upstreams.iter_mut().enumerate() {
             if upstream.host_name() == found.name.as_str() {
                 self.rounds.ready.insert(Token(i));
@@ -621,7 +652,9 @@ fn unserved(name: &str, loss: Loss) -> Report<'_> {
 }
 
 /// Notes the events of the links.
-fn note(events: &Events, ready: &mut Ready, upstreams: &mut [Upstream]) {
+fn note(events: &Events, ready: &mut Ready, upstreams: &mut [Upstream])
+    ensures { Looks [] ready.old ready.new }
+{
     for event in events.iter() {
         let Token(i) = event.token();
         if let Some(upstream) = upstreams.get_mut(i) {

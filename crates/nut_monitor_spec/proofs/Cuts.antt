@@ -4,7 +4,7 @@ use mathlib.Core.Path.{fun_ext}
 use Rattle.std.proofs.lemmas.Bool.{eq-eqb}
 use Rattle.nut_words.specs.Lines.{rest, rest_after, lines_after}
 use Rattle.nut_words.proofs.StreamGrowth.{rest-append}
-use Rattle.nut_link.specs.declared.exchange.Exchange.{Exchange}
+use Rattle.nut_link.specs.Exchange.{Exchange}
 use Rattle.nut_link.specs.Link.{LinkValue, fed, link_with, lines_heard}
 use Rattle.nut_link.proofs.Feeding.{rest_cut}
 use Rattle.nut_words.proofs.HearLemmas.{lines_cut}

@@ -7,9 +7,8 @@ use Rattle.nut_proto.specs.Answers.{answer_in}
 use Rattle.nut_proto.specs.declared.answer.Answer.{Answer as Said}
 use Rattle.nut_proto.specs.declared.answer.Answer.TheVariants as answers
 use Rattle.nut_proto.specs.declared.answer.AnswerFault.{AnswerFault}
-use Rattle.nut_link.specs.declared.exchange.Exchange.{Exchange}
-use Rattle.nut_link.specs.declared.exchange.Stage.{Stage}
-use Rattle.nut_link.specs.declared.exchange.Stage.TheVariants as stages
+use Rattle.nut_link.specs.Exchange.{Exchange, Stage}
+use Rattle.nut_link.specs.Exchange as stages
 use Rattle.nut_link.specs.declared.fault.LinkFault.{LinkFault}
 use Rattle.nut_link.specs.declared.fault.LinkFault.TheVariants.{BadLine, OutOfOrder}
 use Rattle.nut_link.specs.declared.outcome.Outcome.{Outcome}

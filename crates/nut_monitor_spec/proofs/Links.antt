@@ -6,7 +6,7 @@ use Rattle.std.proofs.lemmas.Bool.{eq-eqb}
 use Rattle.nut_words.specs.Lines.{LineText, Text, rest, rest_after}
 use Rattle.nut_words.proofs.StreamGrowth.{rest-append}
 use Rattle.nut_conf.specs.declared.notice.Notice.TheVariants as kinds
-use Rattle.nut_link.specs.declared.exchange.Exchange.{Exchange}
+use Rattle.nut_link.specs.Exchange.{Exchange}
 use Rattle.nut_link.specs.declared.outcome.Outcome.{Outcome}
 use Rattle.nut_link.specs.Link.{LinkValue, fed, lines_heard, outcome_of, taken_out}
 use Rattle.nut_monitor_spec.specs.declared.Communication.TheVariants.{Bad}

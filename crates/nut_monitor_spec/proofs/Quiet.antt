@@ -4,9 +4,8 @@ use Rattle.std.specs.Prelude.{nat_le}
 use mathlib.Core.Path.{fun_ext}
 use Rattle.std.proofs.lemmas.Bool.{eq-eqb, eqb-true, le-leb}
 use Rattle.nut_words.specs.Lines.{rest}
-use Rattle.nut_link.specs.declared.exchange.Exchange.{Exchange}
-use Rattle.nut_link.specs.declared.exchange.Stage.TheVariants as stages
-use Rattle.nut_link.specs.declared.exchange.Stage.{Stage}
+use Rattle.nut_link.specs.Exchange.{Exchange, Stage}
+use Rattle.nut_link.specs.Exchange as stages
 use Rattle.nut_link.specs.declared.fault.LinkFault.{LinkFault}
 use Rattle.nut_link.specs.declared.fault.LinkFault.TheVariants.{TooMuchTaken}
 use Rattle.nut_link.specs.Link.{LinkValue, stage_taken}

@@ -1,8 +1,8 @@
 -- The content of a monitor: what it has to know of its past. Two histories with the same content are answered alike.
 use Rattle.std.specs.Prelude.{ℕ, suc, List, [], ◌∷◌, if◌then◌else◌, Option, Some, None}
 use Rattle.nut_words.specs.Lines.{rest}
-use Rattle.nut_link.specs.declared.exchange.Stage.{Stage}
-use Rattle.nut_link.specs.declared.exchange.Stage.TheVariants as stages
+use Rattle.nut_link.specs.Exchange.{Stage}
+use Rattle.nut_link.specs.Exchange as stages
 use Rattle.nut_link.specs.Link.{LinkValue}
 use Rattle.nut_link.specs.Matching.{expected}
 use Rattle.nut_monitor_spec.specs.declared.Known.{Known}

@@ -1,7 +1,7 @@
 -- How a monitor may answer an event, and the history and the content after that.
 use Rattle.std.specs.Prelude.{◌≡◌, ℕ, List, ◌∷◌, Option, Some, None, Result, Ok, Err}
 use Rattle.nut_words.specs.Lines.{lines_after}
-use Rattle.nut_link.specs.declared.exchange.Exchange.{Exchange}
+use Rattle.nut_link.specs.Exchange.{Exchange}
 use Rattle.nut_link.specs.Hearing.{RunsOut}
 use Rattle.nut_link.specs.Link.{LinkValue}
 use Rattle.nut_monitor_spec.specs.declared.MonitorFault.{MonitorFault}

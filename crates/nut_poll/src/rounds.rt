@@ -134,7 +134,9 @@ impl Rounds {
     /// # Errors
     ///
     /// The error of the clock.
-    pub fn look_at_clock(&mut self, clock: &impl Clock) -> io::Result<bool> {
+    pub fn look_at_clock(&mut self, clock: &impl Clock) -> io::Result<bool>
+        ensures { IfOk result (λ _. Looks [] self.old.ready self.new.ready) }
+    {
         let passed = self.seconds.elapsed(clock)?;
         let is_full = self.seconds.look_at(passed);
         if is_full {

@@ -1,5 +1,5 @@
 -- What upsmon did, with a halt in the end.
-use Rattle.std.proofs.Common.{◌≡◌, ℕ, Bool, true, false, List, Option, Some, None, IfSome, if◌then◌else◌, refl, sym, subst}
+use Rattle.std.proofs.Common.{◌≡◌, ℕ, Bool, true, false, List, ◌∷◌, Option, Some, None, IfSome, if◌then◌else◌, refl, sym, ap, subst}
 use Rattle.nut_conf.specs.declared.upsmon.UpsmonConf.{UpsmonConf}
 use Rattle.nut_conf.specs.declared.notice.NoticeFlags.{NoticeFlags}
 use Rattle.nut_conf.specs.Upsmon.{flags_of}
@@ -7,8 +7,12 @@ use Rattle.nut_monitor.specs.Texts.{text_of}
 use Rattle.nut_monitor_spec.specs.declared.Notice.{Notice}
 use Rattle.nut_monitor_spec.specs.declared.Phase.TheVariants.{Halted}
 use Rattle.nut_upsmon.specs.declared.beginning.Beginning.{Beginning}
-use Rattle.nut_upsmon.specs.Acts.{Act, TriedFlag, RanShutdown, does, printed, called, is_to_call, is_to_print, told_by, told, IsHalted, Says}
+use Rattle.nut_upsmon.specs.Acts.{Act, Printed, Called, TriedFlag, RanShutdown, ClearsFirst, does, printed, called, is_to_call, is_to_print, told_by, told, IsHalted, Says}
 use Rattle.nut_upsmon.specs.inside.Ready.{IsReady}
+
+-- one more act
+pub clears_first : (act : Act) (acts : List Act) → ClearsFirst acts → ClearsFirst (act ∷ acts)
+clears_first act acts is = (is.0, act ∷ is.1, ap (λ l. act ∷ l) is.2)
 
 -- the halt of the configuration in force
 pub halted : (log log' : Option (List Act)) (next : Option Beginning) (config : UpsmonConf) (flag : Bool)
@@ -16,21 +20,21 @@ pub halted : (log log' : Option (List Act)) (next : Option Beginning) (config : 
 halted None log' next config true ready says same = subst (λ o. IfSome o IsHalted) (sym same) tt
 halted None log' next config false ready says same = subst (λ o. IfSome o IsHalted) (sym same) tt
 halted (Some acts) log' next config true ready says same =
-    subst (λ o. IfSome o IsHalted) (sym same) (record { config = config; flag = true; before = acts; done = refl; quiet = ready.0; force = ready.1; says = says })
+    subst (λ o. IfSome o IsHalted) (sym same) (record { config = config; flag = true; before = acts; done = refl; quiet = ready.0; first = ready.3; force = ready.1; says = says })
 halted (Some acts) log' next config false ready says same =
-    subst (λ o. IfSome o IsHalted) (sym same) (record { config = config; flag = false; before = acts; done = refl; quiet = ready.0; force = ready.1; says = says })
+    subst (λ o. IfSome o IsHalted) (sym same) (record { config = config; flag = false; before = acts; done = refl; quiet = ready.0; first = ready.3; force = ready.1; says = says })
 
 -- ---- a notice
 
 printed_ready : (b : Bool) (text : List ℕ) (log : Option (List Act)) (next : Option Beginning) (config : UpsmonConf) → IsReady log next config → IsReady (printed b text log) next config
 printed_ready false text log next config ready = ready
 printed_ready true text None next config ready = tt
-printed_ready true text (Some acts) next config ready = ((tt, ready.0), ready.1, ready.2)
+printed_ready true text (Some acts) next config ready = ((tt, ready.0), ready.1, ready.2, clears_first (Printed text) acts ready.3)
 
 called_ready : (b : Bool) (notice : Notice) (text : List ℕ) (log : Option (List Act)) (next : Option Beginning) (config : UpsmonConf) → IsReady log next config → IsReady (called b notice text log) next config
 called_ready false notice text log next config ready = ready
 called_ready true notice text None next config ready = tt
-called_ready true notice text (Some acts) next config ready = ((tt, ready.0), ready.1, ready.2)
+called_ready true notice text (Some acts) next config ready = ((tt, ready.0), ready.1, ready.2, clears_first (Called notice text) acts ready.3)
 
 by_ready : (flags : NoticeFlags) (notice : Notice) (text : List ℕ) (log : Option (List Act)) (next : Option Beginning) (config : UpsmonConf) → IsReady log next config → IsReady (told_by flags notice text log) next config
 by_ready flags notice text log next config ready =

@@ -10,7 +10,7 @@ use Rattle.nut_monitor_loop.specs.Record.{Entry}
 use Rattle.nut_monitor_loop.specs.Watched.{Watched, entries_of, handed, history_of}
 use Rattle.nut_monitor_sockets.specs.Handing.{HandsOn, lasting}
 use Rattle.nut_upsmon.specs.declared.beginning.Beginning.{Beginning}
-use Rattle.nut_upsmon.specs.Acts.{Act, Changed, Readied, Says, does}
+use Rattle.nut_upsmon.specs.Acts.{Act, Changed, ClearedFlag, Readied, Says, does}
 use Rattle.nut_upsmon.specs.Course.{IsCourse, IsCourseToHalt, tellings, told_all}
 use Rattle.nut_upsmon.specs.inside.Telling.{IsWhole, Tells, TellsWatch, untold_by}
 
@@ -45,7 +45,7 @@ tells_whole config before after next next' phase it = (
 
 -- ---- the course
 
-pub first_course : (before after : Option (List Act)) (config : UpsmonConf) → IfSome before (λ acts. acts ≡ [])
+pub first_course : (before after : Option (List Act)) (config : UpsmonConf) → IfSome before (λ acts. acts ≡ ClearedFlag config ∷ [])
     → after ≡ does Changed (does (Readied config) before) → IsCourse after
 first_course before after config blank same =
     record {
@@ -58,7 +58,7 @@ first_course before after config blank same =
           ∙ untold_by before (Readied config) (λ acts. refl);
     }
   where
-    none : (o : Option (List Act)) → IfSome o (λ acts. acts ≡ []) → IfSome (option_map tellings o) (λ acts. acts ≡ [])
+    none : (o : Option (List Act)) → IfSome o (λ acts. acts ≡ ClearedFlag config ∷ []) → IfSome (option_map tellings o) (λ acts. acts ≡ [])
     none None is = tt
     none (Some acts) is = ap tellings is
 

@@ -14,6 +14,8 @@ use Rattle.nut_monitor_spec.specs.Content.{content, phase_of}
 use Rattle.nut_monitor_spec.specs.Acceptance.{IsAccepted}
 
 pub data Act : Type 0 where
+  -- it tried to remove the POWERDOWNFLAG that this configuration names, which an earlier shutdown may have left
+  ClearedFlag : (config : UpsmonConf) → Act
   -- it made ready to halt by this configuration
   Readied : (config : UpsmonConf) → Act
   -- it halts by the configuration that was readied last, from now on
@@ -80,6 +82,10 @@ Says config phase =
 abbrev pub halting : Bool → List Act
 halting flag = RanShutdown ∷ (if flag then TriedFlag ∷ [] else [])
 
+-- Its first acts: it tried to remove a flag that was left, and made ready by the same configuration.
+abbrev pub ClearsFirst : List Act → Type 0
+ClearsFirst acts = (config : UpsmonConf) × (later : List Act) × (acts ≡ later ++ Readied config ∷ ClearedFlag config ∷ [])
+
 -- The last acts are those of a halt, and no earlier act is: the monitor of the configuration in force said that the
 -- machine has to be halted, and whether POWERDOWNFLAG has to be set.
 pub record IsHalted (acts : List Act) : Type 0 where
@@ -88,5 +94,6 @@ pub record IsHalted (acts : List Act) : Type 0 where
   pub before : List Act
   pub done : acts ≡ halting flag ++ before
   pub quiet : AllByRecursion IsQuiet before
+  pub first : ClearsFirst before
   pub force : in_force before ≡ Some config
   pub says : Says config (Halted flag)

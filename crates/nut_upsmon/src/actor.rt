@@ -1,15 +1,57 @@
 //! What upsmon does to its machine.
 
-ghost use Rattle.std.specs.Prelude.{◌≡◌, List, Option, IfSome, IfNone, OnOk, OnErr};
+ghost use Rattle.std.specs.Prelude.{◌≡◌, List, Option, IfOk, IfSome, IfNone, OnOk, OnErr};
 ghost use Rattle.nut_monitor.specs.Texts.{text_of};
-ghost use Rattle.nut_upsmon.specs.Acts.{Act, Readied, Changed, Printed, Called, TriedFlag, RanShutdown, does};
+ghost use Rattle.nut_upsmon.specs.Acts.{Act, ClearedFlag, Readied, Changed, Printed, Called, TriedFlag, RanShutdown, does};
 
 use crate::beginning::Beginning;
 use crate::halt::HaltFault;
 use crate::power_down_flag::FlagFault;
 use nut_conf::UpsmonConf;
 use nut_monitor::{Monitor, Notice};
+use nut_poll::ErrorLines;
 use std::alloc::AllocError;
+use std::io;
+
+/// The lines of standard error. A bound in place of `ErrorLines`, since the borrow checker covers no call that names an
+/// actor with a lifetime and, in its signature, what is `'static`.
+pub trait Told {
+    /// Returns the lines.
+    fn lines(&mut self) -> &mut ErrorLines;
+}
+
+impl Told for ErrorLines {
+    fn lines(&mut self) -> &mut ErrorLines {
+        self
+    }
+}
+
+/// Whoever becomes an actor. A flag that an earlier shutdown left is removed before, since memory or descriptors may be
+/// lacking for an actor.
+pub trait Starter: Drop {
+    /// What it becomes.
+    type Actor: Actor;
+
+    /// What it did, the newest first; None if it tells nothing.
+    ghost log: { Self → Option (List Act) };
+
+    /// Tries to remove the POWERDOWNFLAG that this configuration names, if an earlier shutdown left it set. What came of
+    /// that is written to `err`.
+    ///
+    /// # Errors
+    ///
+    /// [`AllocError`] if memory cannot be allocated. Then nothing is removed.
+    fn clear_flag<E: Told>(&mut self, config: &UpsmonConf, err: &mut E) -> Result<(), AllocError>
+        ensures { OnOk result (log self.new ≡ does (ClearedFlag config.now) (log self.old)) };
+
+    /// Becomes an actor.
+    ///
+    /// # Errors
+    ///
+    /// If memory or descriptors are lacking.
+    fn begin(self) -> io::Result<Self::Actor>
+        ensures { IfOk result (λ actor. Self.Actor.log actor ≡ log self) };
+}
 
 /// Whoever acts on the machine for upsmon: tells notices, and halts.
 pub trait Actor: Drop {

@@ -26,7 +26,7 @@ mod upsmon_fault;
 mod warning;
 mod watching;
 
-pub use actor::Actor;
+pub use actor::{Actor, Starter, Told};
 pub use beginning::Beginning;
 pub use guard::{Guard, tell};
 pub use halt::HaltFault;

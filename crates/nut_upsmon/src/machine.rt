@@ -2,9 +2,9 @@
 
 ghost use Rattle.std.specs.Prelude.{None};
 
-use crate::actor::Actor;
+use crate::actor::{Actor, Starter, Told};
 use crate::beginning::Beginning;
-use crate::halt::{Halt, HaltFault};
+use crate::halt::{Halt, HaltFault, clear_left_flag};
 use crate::notifier::Notifier;
 use crate::power_down_flag::FlagFault;
 use crate::reloader::{Reload, Reloader};
@@ -14,8 +14,9 @@ use linked_list_allocator::LocalHeap;
 use nut_conf::UpsmonConf;
 use nut_monitor::{Monitor, Notice, Phase};
 use nut_poll::{ErrorLines, LossyLines};
-use nut_program::{Streams, tell_not_reloaded};
+use nut_program::{Streams, hold_closed_streams, tell_not_reloaded};
 use std::alloc::{AllocError, Global};
+use std::io::ErrorKind;
 use std::net::Net;
 use std::process::Processes;
 use std::rt::Files;
@@ -29,7 +30,7 @@ use std::{fmt, io, mem};
 /// What the next watch begins with is made even before that: once the change is reported, no lack of memory can end
 /// upsmon.
 #[derive(Drop)]
-pub struct Machine<'r, R: Processes> {
+pub struct Machine<'r, R: Files + Processes> {
     rt: &'r R,
     err: ErrorLines,
     notifier: Notifier<'r, R>,
@@ -39,6 +40,19 @@ pub struct Machine<'r, R: Processes> {
     reloader: Reloader,
     /// Whether it was told that a shutdown has begun.
     is_ending: bool,
+    /// What is held in the place of the standard streams that are closed, so that no socket takes it.
+    held: Vec<R::File>,
+}
+
+/// What upsmon's actor is made of.
+#[derive(Drop)]
+pub struct MachineStarter<'r, R> {
+    pub rt: &'r R,
+    pub alloc: Global,
+    /// Where its halts take their memory from, unless none is available for that.
+    pub heap: Option<&'r LocalHeap>,
+    pub reloader: Reloader,
+    pub streams: Streams,
 }
 
 /// Why a configuration isn't taken up.
@@ -79,14 +93,15 @@ where
     ///
     /// # Errors
     ///
-    /// If memory isn't available.
-    pub fn new(
+    /// If memory or descriptors aren't available.
+    fn new(
         rt: &'r R,
         alloc: Global,
         heap: &'r LocalHeap,
         reloader: Reloader,
         streams: Streams,
     ) -> io::Result<Machine<'r, R>> {
+        let held = hold_closed_streams(rt, alloc)?;
         let err = LossyLines::new(rt, alloc, streams.err)?;
         let out = LossyLines::new(rt, alloc, streams.out)?;
         Ok(Machine {
@@ -97,7 +112,35 @@ where
             ready: None,
             reloader,
             is_ending: false,
+            held,
         })
+    }
+}
+
+impl<'r, R> Starter for MachineStarter<'r, R>
+where
+    R: Files + Net + Processes + Clock,
+{
+    type Actor = Machine<'r, R>;
+
+    ghost log = { λ s. None };
+
+    fn clear_flag<E: Told>(&mut self, config: &UpsmonConf, err: &mut E) -> Result<(), AllocError> {
+        clear_left_flag(self.rt, self.alloc, config, err.lines())
+    }
+
+    fn begin(self) -> io::Result<Machine<'r, R>> {
+        let MachineStarter {
+            rt,
+            alloc,
+            heap,
+            reloader,
+            streams,
+        } = self;
+        match heap {
+            Some(heap) => Machine::new(rt, alloc, heap, reloader, streams),
+            None => Err(io::Error::from(ErrorKind::OutOfMemory)),
+        }
     }
 }
 

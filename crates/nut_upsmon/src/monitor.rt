@@ -1,12 +1,11 @@
 //! upsmon: a monitor that decides when to halt its machine.
 
-use crate::beginning::Beginning;
 use crate::command_line::{Order, Task, order_of};
 use crate::faulty_file::last_flag_in;
 use crate::forcing::force_shutdowns;
-use crate::halt::{check_flag, clear_left_flag, halt_heap};
+use crate::halt::{check_flag, halt_heap};
 use crate::low_runtime::check_low_runtimes;
-use crate::machine::Machine;
+use crate::machine::MachineStarter;
 use crate::power_down_flag::{FlagState, PowerDownFlag};
 use crate::reloader::Reloader;
 use crate::room::check_room;
@@ -17,7 +16,7 @@ use crate::watching::watch_over_sockets;
 use nut_conf::UpsmonConf;
 use nut_log::LogStream;
 use nut_poll::{ErrorLines, LossyLines};
-use nut_program::{Failure, FileFault, Streams, hold_closed_streams, read_conf, refuse_start};
+use nut_program::{Failure, FileFault, Streams, read_conf, refuse_start};
 use std::alloc::{Alloc, Global};
 use std::convert::AsStr;
 use std::env::Env;
@@ -200,10 +199,7 @@ where
 }
 
 /// Watches the UPSes of upsmon.conf in this folder until the machine has to be halted, and halts it. Returns the exit
-/// status, which is 0.
-///
-/// The standard streams that are closed are held meanwhile, so that no socket takes the place of one, and the memory that
-/// the halt takes is reserved.
+/// status, which is 0. The memory that the halt takes is reserved meanwhile.
 fn guard<R>(
     rt: &R,
     alloc: Global,
@@ -215,25 +211,16 @@ fn guard<R>(
 where
     R: Wait + Files + Net + Clock + Processes,
 {
-    let (reloader, first) = read_first(rt, alloc, folder, is_quiet, err)?;
-    let _held = hold_closed_streams(rt, alloc)?;
-    let heap = halt_heap(alloc)?;
-    let machine = Machine::new(rt, alloc, &heap, reloader, streams)?;
-    watch_over_sockets(rt, alloc, machine, first, is_quiet, err)??;
+    let reloader = Reloader::new(rt, alloc, folder, is_quiet)?;
+    let first = reloader.read_first(rt, err)?;
+    let heap = halt_heap(alloc).ok();
+    let starter = MachineStarter {
+        rt,
+        alloc,
+        heap: heap.as_ref(),
+        reloader,
+        streams,
+    };
+    watch_over_sockets(rt, alloc, starter, first, is_quiet, err)??;
     Ok(0)
-}
-
-/// Reads upsmon.conf in this folder for the first watch, and removes a POWERDOWNFLAG that was left, before anything else can
-/// fail.
-fn read_first(
-    files: &impl Files,
-    alloc: Global,
-    folder: &str,
-    is_quiet: bool,
-    err: &mut ErrorLines,
-) -> Result<(Reloader, Beginning), Failure<UpsmonFault>> {
-    let reloader = Reloader::new(files, alloc, folder, is_quiet)?;
-    let first = reloader.read_first(files, err)?;
-    clear_left_flag(files, alloc, first.config(), err)?;
-    Ok((reloader, first))
 }

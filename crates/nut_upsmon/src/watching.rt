@@ -1,23 +1,23 @@
 //! Watches one configuration after the other.
 
-ghost use Rattle.std.specs.Prelude.{◌≡◌, ◌<◌, ◌-◌, ◌^◌, List, [], None, IfOk, IfSome, OnOk, OnErr};
+ghost use Rattle.std.specs.Prelude.{◌≡◌, ◌<◌, ◌-◌, ◌^◌, ◌∷◌, List, [], None, IfOk, IfSome, OnOk, OnErr};
 ghost use Rattle.std.specs.List.{AllByRecursion};
 ghost use Rattle.nut_monitor_spec.specs.Configuration.{configuration_of};
 ghost use Rattle.nut_monitor_spec.specs.Content.{content};
 ghost use Rattle.nut_monitor_loop.specs.Record.{Entry};
-ghost use Rattle.nut_upsmon.specs.Acts.{IsQuiet, IsHalted, Says};
+ghost use Rattle.nut_upsmon.specs.Acts.{ClearedFlag, IsQuiet, IsHalted, Says};
 ghost use Rattle.nut_upsmon.specs.Course.{IsCourse, IsCourseToHalt};
 ghost use Rattle.nut_upsmon.specs.inside.Ready.{IsReady};
 ghost use Rattle.nut_upsmon.specs.inside.Telling.{IsWhole, TellsWatch};
 
-use crate::actor::Actor;
+use crate::actor::{Actor, Starter, Told};
 use crate::beginning::Beginning;
 use crate::guard::{After, Guard};
 use crate::halt::HaltFault;
 use nut_monitor::{Monitor, Phase};
 use nut_monitor_loop::{MonWorld, watch};
 use nut_monitor_sockets::MioMonWorld;
-use nut_poll::{ErrorLines, Reports};
+use nut_poll::Reports;
 use std::alloc::Global;
 use std::io;
 use std::io::ErrorKind;
@@ -26,46 +26,36 @@ use std::process::Processes;
 use std::sync::Wait;
 use std::time::Clock;
 
-/// The lines of standard error. A bound in place of `ErrorLines`, since the borrow checker covers no call that names an
-/// actor with a lifetime and, in its signature, what is `'static`.
-pub trait Told {
-    /// Returns the lines.
-    fn lines(&mut self) -> &mut ErrorLines;
-}
-
-impl Told for ErrorLines {
-    fn lines(&mut self) -> &mut ErrorLines {
-        self
-    }
-}
-
-/// Watches as [`watch_in_turn`] does, over a new world of sockets. Reports to the operator on `err`, and if that is to be
-/// quiet, only refusals that no notice tells of.
+/// Removes a POWERDOWNFLAG that an earlier shutdown left, before anything else can fail, and then watches as
+/// [`watch_in_turn`] does, over a new world of sockets. Reports to the operator on `err`, and if that is to be quiet, only
+/// refusals that no notice tells of.
 ///
 /// # Errors
 ///
 /// If memory or a poll isn't available, or waiting for the sockets or reading the clock fails.
-pub fn watch_over_sockets<'r, R, A, E>(
+pub fn watch_over_sockets<'r, R, S, E>(
     rt: &'r R,
     alloc: Global,
-    actor: A,
+    mut starter: S,
     first: Beginning,
     is_quiet: bool,
     err: &mut E,
 ) -> io::Result<Result<(), HaltFault>>
 where
     R: Wait + Net + Clock + Processes,
-    A: Actor,
+    S: Starter,
     E: Told,
-    requires { IfSome (A.log actor) (λ acts. acts ≡ []) }
+    requires { IfSome (S.log starter) (λ acts. acts ≡ []) }
 {
+    starter.clear_flag(first.config(), err)?;
+    let actor = starter.begin()?;
     let reports = Reports::new(err.lines(), !is_quiet);
     let mut world = MioMonWorld::new(rt, alloc, Guard::new(actor), reports)?;
     watch_in_turn(rt, &mut world, first)
 }
 
 /// Watches the UPSes of one configuration after the other, until the machine has to be halted, and halts it. Returns what
-/// came of that.
+/// came of that. All that the actor did before is that it tried to remove a flag that was left.
 ///
 /// SHUTDOWNCMD is run if and only if the monitor of the configuration in force said that the machine has to be halted:
 /// once, as the last act, and it is that of this configuration. POWERDOWNFLAG is tried before, if and only if the
@@ -82,7 +72,7 @@ pub fn watch_in_turn<'r, 'e, R, A>(
 where
     R: Wait + Net + Clock + Processes,
     A: Actor,
-    requires blank { IfSome (A.log world.old.herald.actor) (λ acts. acts ≡ []) }
+    requires cleared { IfSome (A.log world.old.herald.actor) (λ acts. acts ≡ ClearedFlag first.monitor.config ∷ []) }
     requires next { world.old.herald.next ≡ None }
     ensures halted { OnOk result (IfSome (A.log world.new.herald.actor) IsHalted) }
     ensures failed { OnErr result (IfSome (A.log world.new.herald.actor) (AllByRecursion IsQuiet)) }

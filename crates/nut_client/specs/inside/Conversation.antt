@@ -6,7 +6,7 @@ use Rattle.nut_words.specs.Lines.{LineText, Text, TooLong, joined, rest}
 use Rattle.nut_words.specs.declared.limits.TheConstants.{PIECE_MAX}
 use Rattle.nut_proto.specs.declared.request.Request.{Request}
 use Rattle.nut_proto.specs.Requests.{request_line}
-use Rattle.nut_link.specs.declared.exchange.Exchange.{Exchange}
+use Rattle.nut_link.specs.Exchange.{Exchange}
 use Rattle.nut_client.specs.declared.failure.Failure.{Failure}
 use Rattle.nut_client.specs.declared.failure.Failure.TheVariants.{BadAnswer, BadQuery, ConnectionLost, Memory}
 use Rattle.nut_link.specs.declared.fault.LinkFault.{LinkFault}

@@ -4,7 +4,7 @@ use Rattle.std.specs.Io.KnownBytes.{append_known}
 use Rattle.nut_words.specs.Lines.{Text}
 use Rattle.nut_proto.specs.declared.request.Request.{Request}
 use Rattle.nut_proto.specs.Requests.{request_line}
-use Rattle.nut_link.specs.declared.exchange.Stage.TheVariants as stages
+use Rattle.nut_link.specs.Exchange as stages
 use Rattle.nut_link.specs.Asking.{query_of}
 use Rattle.nut_link.specs.Link.{LinkValue}
 

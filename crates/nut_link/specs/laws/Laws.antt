@@ -1,5 +1,5 @@
 -- What holds of every link. Each of these is the contract of a function of the crate.
-use Rattle.std.specs.Prelude.{◌≡◌, ℕ, ℤ, ◌<◌, ◌^◌, Bool, false, if◌then◌else◌, List, [], ◌∷◌, ◌++◌, length, Option, None, Ok, codes, decimal}
+use Rattle.std.specs.Prelude.{◌≡◌, ℕ, ℤ, ◌<◌, ◌^◌, Bool, false, if◌then◌else◌, List, [], ◌∷◌, ◌++◌, length, Option, Some, None, Ok, codes, decimal}
 use Rattle.std.specs.Fmt.{signed_decimal}
 use Rattle.nut_words.specs.Lines.{Text}
 use Rattle.nut_proto.specs.declared.answer.Answer.TheVariants as answers
@@ -22,10 +22,10 @@ use Rattle.nut_proto.specs.declared.refusal.Refusal.{Refusal}
 use Rattle.nut_link.specs.declared.outcome.Outcome.{Outcome}
 use Rattle.nut_link.specs.declared.outcome.Outcome.TheVariants as outcomes
 use Rattle.nut_link.specs.Hearing.{may_take_memory}
-use Rattle.nut_link.specs.declared.exchange.Exchange.{Exchange}
+use Rattle.nut_link.specs.Exchange.{Exchange}
 use Rattle.nut_link.specs.Bounds.{IsBounded, IsStageBounded}
 use Rattle.nut_link.specs.Link.{LinkValue, asked, fed, fresh, taken, taken_out}
-use Rattle.nut_link.specs.Matching.{Listing, Complete, expected, listing, next, progress}
+use Rattle.nut_link.specs.Matching.{Listing, Complete, expected, listing, progress}
 use Rattle.nut_words.specs.Hearing.{IsRest}
 
 -- However what the server sends is cut into pieces, it makes the same of a link.
@@ -47,7 +47,7 @@ Answers request reply outcome = progress (expected request) None (answer_to repl
 -- The server's row adds these words to a list that has room for one more.
 abbrev pub Adds : ListQuery → Reply → List (List ℕ) → Type 0
 Adds query row words =
-    (rows : List (List (List ℕ))) → length rows < ROWS_MAX → next (listing query) rows (answer_to row) ≡ Ok (Listing (rows ++ words ∷ []))
+    (rows : List (List (List ℕ))) → length rows < ROWS_MAX → progress (listing query) (Some rows) (answer_to row) ≡ Ok (Listing (rows ++ words ∷ []))
 
 -- what GET TYPE says of a variable: `RW` if it may be set, and the kind of its values
 abbrev pub type_words : Bool → VariableKind → List (List ℕ)
@@ -102,7 +102,7 @@ pub record RepliesMatch : Type 0 where
       Adds (queries.Range ups variable) (replies.Range ups variable minimum maximum) (signed_decimal minimum ∷ signed_decimal maximum ∷ [])
   pub of_client : (ups address : List ℕ) → Adds (queries.Client ups) (replies.Client ups address) (address ∷ [])
   pub ends : (query : ListQuery) (rows : List (List (List ℕ))) →
-      next (listing query) rows (answers.End (message_words (query_parts query))) ≡ Ok (Complete (outcomes.List rows))
+      progress (listing query) (Some rows) (answers.End (message_words (query_parts query))) ≡ Ok (Complete (outcomes.List rows))
 
 -- A new link keeps no more than it may, and no call but `feed` makes it keep more. Of `feed` its own contract says so.
 pub record BoundsStay : Type 0 where

@@ -4,11 +4,11 @@ use Rattle.std.specs.Str.{bytes_eq}
 use Rattle.nut_words.specs.Number.{is_natural}
 use Rattle.nut_link.specs.Asking.{Asked}
 use Rattle.nut_link.specs.Link.{LinkValue}
-use Rattle.nut_link.specs.declared.exchange.Stage.{Stage}
-use Rattle.nut_link.specs.declared.exchange.Stage.TheVariants as stages
+use Rattle.nut_link.specs.Exchange.{Stage}
+use Rattle.nut_link.specs.Exchange as stages
 use Rattle.nut_link.specs.declared.fault.LinkFault.{LinkFault}
 use Rattle.nut_link.specs.declared.fault.LinkFault.TheVariants as faults
-use Rattle.nut_link.specs.declared.expected.Expected.TheVariants as expects
+use Rattle.nut_link.specs.declared.expected.Kind.TheVariants as kinds
 use Rattle.nut_link.specs.declared.expected.More.TheVariants as mores
 use Rattle.nut_link.specs.declared.outcome.Outcome.{Outcome}
 use Rattle.nut_link.specs.declared.outcome.Outcome.TheVariants as outcomes
@@ -58,7 +58,7 @@ IsCountAfter last outcome = Unit {0}
 -- a query for the number of logins expects a number
 abbrev pub ExpectsCount : Query → Asked → Type 0
 ExpectsCount queries.NumLogins asked =
-    ((heading : List (List ℕ)) × (asked.expected ≡ expects.Line heading mores.Number)) × (asked.rows ≡ None)
+    (asked.expected.kind ≡ kinds.Line mores.Number) × (asked.rows ≡ None)
 ExpectsCount query asked = Unit {0}
 
 abbrev pub ExpectsAfter : Option LastQuery → Asked → Type 0

@@ -4,8 +4,8 @@ use Rattle.std.specs.Prelude.{ℕ, zero, suc, ◌≡◌, ◌+◌, max, nat_lt, B
 use Rattle.nut_words.specs.Lines.{lines_after}
 use Rattle.nut_conf.specs.declared.notice.Notice.TheVariants as kinds
 use Rattle.nut_proto.specs.declared.request.Request.{Request}
-use Rattle.nut_link.specs.declared.exchange.Exchange.{Exchange}
-use Rattle.nut_link.specs.declared.exchange.Stage.TheVariants as stages
+use Rattle.nut_link.specs.Exchange.{Exchange}
+use Rattle.nut_link.specs.Exchange as stages
 use Rattle.nut_link.specs.declared.outcome.Outcome.{Outcome}
 use Rattle.nut_link.specs.Asking.{query_of}
 use Rattle.nut_link.specs.Link.{LinkValue, fresh, fed, lines_heard, is_idle, outcome_of, taken, taken_out, with_exchange}

@@ -7,13 +7,14 @@ use Rattle.nut_monitor_spec.specs.declared.Phase.TheVariants.{Halted}
 use Rattle.nut_upsmon.specs.declared.beginning.Beginning.{Beginning}
 use Rattle.nut_upsmon.specs.declared.guard.After.{After}
 use Rattle.nut_upsmon.specs.declared.guard.After.TheVariants.{Halt, Watch}
-use Rattle.nut_upsmon.specs.Acts.{Act, IsHalted, IsQuiet, readied, in_force}
+use Rattle.nut_upsmon.specs.Acts.{Act, ClearsFirst, IsHalted, IsQuiet, readied, in_force}
 
--- Nothing of a halt was done, this configuration is in force, and if the next watch has its beginning, its configuration
--- was readied last.
+-- Nothing of a halt was done, this configuration is in force, if the next watch has its beginning, its configuration was
+-- readied last, and before all else a flag that was left was removed.
 abbrev pub IsReadyIn : Option Beginning → UpsmonConf → List Act → Type 0
 IsReadyIn next config acts =
     AllByRecursion IsQuiet acts × (in_force acts ≡ Some config) × IfSome next (λ b. readied acts ≡ Some b.monitor.config)
+    × ClearsFirst acts
 
 abbrev pub IsReady : Option (List Act) → Option Beginning → UpsmonConf → Type 0
 IsReady log next config = IfSome log (IsReadyIn next config)

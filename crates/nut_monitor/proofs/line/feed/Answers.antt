@@ -6,8 +6,8 @@ use Rattle.nut_monitor.proofs.line.feed.Goals as goal
 pub returns-then-is_err-clause-feeds : goal.returns-then-is_err-clause-feeds
 returns-then-is_err-clause-feeds c = λ v is.
     let err : is_err c.feed_lines-done.result.1 ≡ true = sym c.is_err.ensures.value ∙ c.if-is_err.true in
-    fed_failed c.args.link.now v c.in-Some.going c.args.piece.now c.feed_lines-done.result.0 c.feed_lines-done.result.1 c.feed_lines-done.new.self c.answer-outcome.result c.take.new.self
-    is c.in-Some.is c.feed_lines-done.ensures.feeds err c.answer-outcome.ensures.answer c.take.ensures.after
+    fed_failed c.args.link.now v c.in-Some.going c.args.piece.now c.feed_lines-done.result.0 c.feed_lines-done.result.1 c.feed_lines-done.new.self c.answer-outcome.result c.cut.new.link
+    is c.in-Some.is c.feed_lines-done.ensures.feeds err c.answer-outcome.ensures.answer c.cut.ensures
 
 pub returns-then-is_err-clause-count : goal.returns-then-is_err-clause-count
 returns-then-is_err-clause-count c =

@@ -1,5 +1,5 @@
 use Rattle.std.proofs.Common.{sym, subst}
-use Rattle.nut_link.specs.declared.exchange.Exchange.{Exchange}
+use Rattle.nut_link.specs.Exchange.{Exchange}
 use Rattle.nut_link.specs.Bounds.{IsStageBounded}
 use Rattle.nut_link.proofs.Bounded.{bounds_stay}
 use Rattle.nut_link.proofs.link.Link.ask.Goals as goal

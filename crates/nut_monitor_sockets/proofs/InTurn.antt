@@ -1,0 +1,55 @@
+-- Looks at links in turn, one after the other.
+use Rattle.std.proofs.Common.{◌≡◌, ℕ, List, [], ◌∷◌, ◌++◌, ap, sym, subst, ◌∙◌, append_assoc}
+use Rattle.std.proofs.lemmas.List.{append-nil}
+use Rattle.nut_poll.specs.Queue.{Queue, Looks}
+use Rattle.nut_poll.proofs.TurnLemmas.{looks_go_on}
+use Rattle.nut_monitor_loop.specs.declared.types.Next.{Next}
+use Rattle.nut_monitor_loop.specs.declared.types.Next.TheVariants.{Moment, Linked, LinkBytes, LinkLost, Again, End}
+use Rattle.nut_monitor_sockets.specs.Turns.{ComesInTurn, IsGivenBy, IsOfLast}
+use Rattle.nut_monitor_sockets.specs.inside.Losses.{IsLoss}
+
+-- nobody came
+pub stays : (a b : Queue) → b ≡ a → Looks [] a b
+stays a b same = ([], ap (λ q. q.waiting) same ∙ sym (append-nil a.waiting))
+
+-- some came, and then others
+pub comes_on : (a b c : Queue) → Looks [] a b → Looks [] b c → Looks [] a c
+comes_on a b c = looks_go_on [] [] a b c
+
+-- others were looked at before
+of_last_still : (n : Next) (before looked : List ℕ) → IsOfLast n looked → IsOfLast n (before ++ looked)
+of_last_still (LinkBytes i) before looked it = (before ++ it.0, ap (λ xs. before ++ xs) it.1 ∙ sym (append_assoc before it.0 (i ∷ [])))
+of_last_still (Moment m) before looked it = tt
+of_last_still (Linked i) before looked it = tt
+of_last_still (LinkLost i) before looked it = tt
+of_last_still Again before looked it = tt
+of_last_still End before looked it = tt
+
+-- nothing came, and then this
+pub in_turn : (n : Next) (a b c : Queue) → ComesInTurn Again a b → ComesInTurn n b c → ComesInTurn n a c
+in_turn n a b c first then = (first.0 ++ then.0, looks_go_on first.0 then.0 a b c first.1 then.1, of_last_still n first.0 then.0 then.2)
+
+-- links came to wait, and none was looked at
+pub none_looked : (a b : Queue) → Looks [] a b → ComesInTurn Again a b
+none_looked a b came = ([], came, tt)
+
+-- a link was lost, and none was looked at
+pub lost_in_turn : (n : Next) (a b : Queue) → IsLoss n → Looks [] a b → ComesInTurn n a b
+lost_in_turn n a b loss came = subst (λ m. ComesInTurn m a b) (sym loss.1) ([], came, tt)
+
+-- the link that was looked at last gave this
+of_last : (n : Next) (others : List ℕ) (i : ℕ) → IsGivenBy i n → IsOfLast n (others ++ i ∷ [])
+of_last (LinkBytes j) others i is = (others, ap (λ k. others ++ k ∷ []) is)
+of_last (Moment m) others i is = tt
+of_last (Linked j) others i is = tt
+of_last (LinkLost j) others i is = tt
+of_last Again others i is = tt
+of_last End others i is = tt
+
+-- one more look
+pub look_more : (looked : List ℕ) (i : ℕ) (a b c d : Queue) → Looks looked a b → b.waiting ≡ i ∷ c.waiting → Looks [] c d → Looks (looked ++ i ∷ []) a d
+look_more looked i a b c d before taken came =
+    looks_go_on looked (i ∷ []) a b d before (looks_go_on (i ∷ []) [] b c d ([], sym taken ∙ sym (append-nil b.waiting)) came)
+
+pub found_last : (n : Next) (looked : List ℕ) (i : ℕ) (a b : Queue) → Looks (looked ++ i ∷ []) a b → IsGivenBy i n → ComesInTurn n a b
+found_last n looked i a b looks given = (looked ++ i ∷ [], looks, of_last n looked i given)
