@@ -499,7 +499,9 @@ impl Server {
             .longest_without_login(&self.parts.config)
     }
 
-    /// Returns the least number, from `least` on, of a UPS for whose driver bytes wait.
+    /// Returns the least number, from `least` on, of a UPS for whose driver bytes wait. In its callers its loop would carry their
+    /// values along.
+    #[inline(never)]
     pub fn next_driver_waiting(&self, least: usize) -> Option<usize>
         ensures next { IsNextWaiting self.now.supplies least result }
         ensures fits { IfSome result (λ u. u < usize.MAX) }

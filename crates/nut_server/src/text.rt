@@ -69,7 +69,9 @@ fn put_rw(out: &mut Vec<u8>, ups: &[u8], name: &[u8], value: &[u8]) -> Result<()
     row.put(out)
 }
 
-/// Appends the row of a variable in LIST VAR, with the value that clients see, by encoding it.
+/// Appends the row of a variable in LIST VAR, with the value that clients see, by encoding it. It stands apart, so that no row
+/// that is kept pays for its values.
+#[inline(never)]
 fn encode_variable(
     out: &mut Vec<u8>,
     ups: &[u8],

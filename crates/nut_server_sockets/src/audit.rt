@@ -52,6 +52,18 @@ impl Audit {
         if self.told == server.deeds() && self.closed.is_none() {
             return;
         }
+        self.tell_all(server, clients, drivers, reports);
+    }
+
+    /// Does what [`tell`](Audit::tell) does. It stands apart, so that no arrival without a deed pays for the place of a login.
+    #[inline(never)]
+    fn tell_all(
+        &mut self,
+        server: &Server,
+        clients: &mut Clients,
+        drivers: &mut Drivers,
+        reports: &mut Reports<'_>,
+    ) {
         self.tell_news(server, clients, drivers, reports);
         if let Some(closed) = self.closed.take() {
             reports.tell(left(&closed.login));

@@ -62,6 +62,8 @@ impl Denied {
 #[derive(Drop)]
 pub struct Denials {
     by_address: Vec<Denied>,
+    /// Whether each place is free, so that a second ends without a look at any.
+    is_empty: bool,
     /// How many were refused at addresses that aren't told apart.
     elsewhere: u64,
 }
@@ -79,6 +81,7 @@ impl Denials {
         }
         Ok(Denials {
             by_address,
+            is_empty: true,
             elsewhere: 0,
         })
     }
@@ -102,6 +105,7 @@ impl Denials {
                 denied.address = copied(address);
                 denied.count(user);
                 let _ = denied.tell(reports);
+                self.is_empty = false;
                 return;
             }
         }
@@ -110,14 +114,24 @@ impl Denials {
 
     /// Ends a second: reports what was refused in it and wasn't reported.
     pub fn second(&mut self, reports: &mut Reports<'_>) {
-        for denied in self.by_address.iter_mut() {
-            if !denied.tell(reports) {
-                denied.address.clear();
-            }
+        if !self.is_empty {
+            self.tell_all(reports);
         }
         if self.elsewhere > 0 {
             reports.warn(DeedReport::DeniedElsewhere(self.elsewhere));
             self.elsewhere = 0;
+        }
+    }
+
+    /// Reports what was refused in a second and wasn't reported, by address, and frees the places of the other addresses.
+    fn tell_all(&mut self, reports: &mut Reports<'_>) {
+        self.is_empty = true;
+        for denied in self.by_address.iter_mut() {
+            if denied.tell(reports) {
+                self.is_empty = false;
+            } else {
+                denied.address.clear();
+            }
         }
     }
 }
