@@ -415,6 +415,14 @@ class Tests:
         with open(to) as file:
             ensure(len(re.findall("^link 3 0$", file.read(), re.MULTILINE)) > 3, "the client calls again and again")
         self.picture(path)
+        # of the machine with UPSes at both, what is proved only for one server
+        aside = "21 s of its last status, if its UPSes were at one server"
+        for changes, said in (
+            ("at 5 su700@m1 OB\nat 5 su700@m2 OB\nat 15 m3 cut\n", f"cut off on battery: halted within DEADTIME 15 + 1 + FINALDELAY 5 = {aside}"),
+            ("at 5 su700@m1 OB\n", "  m3  goes on: its UPSes are neither low nor forced, and DEADTIME is long enough, if its UPSes were at one server"),
+        ):
+            out = self.printed("-n", "2", self.room(text.partition("battery")[0] + changes, config={"m1": CONFIG, "m2": CONFIG}, files=files))
+            ensure(said in out, f"{said!r} isn't printed: {out}")
 
     def test_nothing_is_left_behind(self):
         """The files that are made for nutsim are removed in the end, also if it is interrupted."""
