@@ -15,7 +15,7 @@ use Rattle.nut_in_time.specs.AnyServers.{Always, EachGiven, IsTold}
 use Rattle.nut_in_time.specs.RoomAsTold.{EachTaken, IsHeeded}
 use Rattle.nut_in_time.specs.examples.AnyServersExamples.{newest_of}
 use Rattle.nut_in_time.specs.examples.Examples.{all}
-use Rattle.nut_in_time.specs.examples.RoomAsToldExamples.{RoomAsToldExamples, both_read, following, has_asked, leading, one_forced, reads_fsd}
+use Rattle.nut_in_time.specs.examples.RoomAsToldExamples.{RoomAsToldExamples, both_asked, following, has_asked, leading, asks_fsd, reads_fsd}
 use Rattle.nut_in_time.specs.examples.RoomPaceExamples.{within}
 use Rattle.nut_in_time.specs.InTime.{has_fsd}
 use Rattle.nut_in_time.specs.Pace.{IsPolled, IsPrompt}
@@ -55,60 +55,51 @@ each_taken-holds i n (entry ∷ past) is =
 
 -- ---- the primary
 
-abbrev first : List Event
-first = both_read 7
-
-abbrev newest : List Event
-newest = newest_of (leading 7) one_forced (both_read 7)
-
-accepted-is : were_accepted (leading 7) (newest ++ first) ≡ true
+accepted-is : were_accepted (leading 7) ((newest_of (leading 7) asks_fsd (both_asked 7)) ++ (both_asked 7)) ≡ true
 unfolding read answer_of line request_line entry_of
 accepted-is = refl
 
-polled-is : (is_polled (last_query 0 (trace (leading 7) first)) && is_polled (last_query 1 (trace (leading 7) first))) ≡ true
+polled-is : is_polled (last_query 1 (trace (leading 7) (both_asked 7))) ≡ true
 unfolding read answer_of line request_line entry_of
 polled-is = refl
 
-keeps-is : (always (leading 7) (keeps (within 2) 0) first newest && always (leading 7) (keeps (within 2) 1) first newest) ≡ true
+keeps-is : always (leading 7) (keeps (within 2) 1) (both_asked 7) (newest_of (leading 7) asks_fsd (both_asked 7)) ≡ true
 unfolding read answer_of line request_line entry_of
 keeps-is = refl
 
-taken-is : (each_taken 0 (trace (leading 7) (newest ++ first)) && each_taken 1 (trace (leading 7) (newest ++ first))) ≡ true
+taken-is : each_taken 1 (trace (leading 7) ((newest_of (leading 7) asks_fsd (both_asked 7)) ++ (both_asked 7))) ≡ true
 unfolding read answer_of line request_line entry_of
 taken-is = refl
 
-not-begun : has_begun (leading 7) (trace (leading 7) first) ≡ false
+not-begun : has_begun (leading 7) (trace (leading 7) (both_asked 7)) ≡ false
 unfolding read answer_of line request_line entry_of
 not-begun = refl
 
-is-heeded : IsHeeded (leading 7) (within 2) (both_read 7) (newest_of (leading 7) one_forced (both_read 7))
-is-heeded = record { accepted = accepted-holds (leading 7) (newest ++ first) accepted-is; not_begun = not-begun; lines = λ i less is. (polled i less, kept i less, taken i less) }
+is-heeded : IsHeeded (leading 7) (within 2) (both_asked 7) (newest_of (leading 7) asks_fsd (both_asked 7))
+is-heeded = record {
+  accepted = accepted-holds (leading 7) ((newest_of (leading 7) asks_fsd (both_asked 7)) ++ (both_asked 7)) accepted-is;
+  not_begun = not-begun;
+  lines = λ i less is. lines i less is;
+}
   where
-    polled : (i : ℕ) → i < 2 → IsPolled i (trace (leading 7) first)
-    polled zero less = polled-holds (last_query 0 (trace (leading 7) first)) (and_parts _ _ polled-is).0
-    polled (suc zero) less = polled-holds (last_query 1 (trace (leading 7) first)) (and_parts _ _ polled-is).1
-    polled (suc (suc i)) less = absurd (omega (arith, less))
-
-    kept : (i : ℕ) → i < 2 → Always (leading 7) (λ past. (linked i past ≡ true) × IsPrompt (within 2) i past) first newest
-    kept zero less = always-holds (leading 7) (within 2) 0 first newest (and_parts _ _ keeps-is).0
-    kept (suc zero) less = always-holds (leading 7) (within 2) 1 first newest (and_parts _ _ keeps-is).1
-    kept (suc (suc i)) less = absurd (omega (arith, less))
-
-    taken : (i : ℕ) → i < 2 → EachTaken i (length first) (trace (leading 7) (newest ++ first))
-    taken zero less = each_taken-holds 0 (length first) (trace (leading 7) (newest ++ first)) (and_parts _ _ taken-is).0
-    taken (suc zero) less = each_taken-holds 1 (length first) (trace (leading 7) (newest ++ first)) (and_parts _ _ taken-is).1
-    taken (suc (suc i)) less = absurd (omega (arith, less))
+    lines : (i : ℕ) → i < 2 → (line_in (leading 7).lines i).primary ≡ true → IsPolled i (trace (leading 7) (both_asked 7))
+        × Always (leading 7) (λ past. (linked i past ≡ true) × IsPrompt (within 2) i past) (both_asked 7) (newest_of (leading 7) asks_fsd (both_asked 7))
+        × EachTaken i (length (both_asked 7)) (trace (leading 7) ((newest_of (leading 7) asks_fsd (both_asked 7)) ++ (both_asked 7)))
+    lines zero less is = cc
+    lines (suc zero) less is = (
+      polled-holds (last_query 1 (trace (leading 7) (both_asked 7))) polled-is,
+      always-holds (leading 7) (within 2) 1 (both_asked 7) (newest_of (leading 7) asks_fsd (both_asked 7)) keeps-is,
+      each_taken-holds 1 (length (both_asked 7)) (trace (leading 7) ((newest_of (leading 7) asks_fsd (both_asked 7)) ++ (both_asked 7))) taken-is,
+    )
+    lines (suc (suc i)) less is = absurd (omega (arith, less))
 
 -- ---- the other machine
 
-abbrev later : List Event
-later = newest_of following reads_fsd has_asked
-
-accepted-too : were_accepted following (later ++ has_asked) ≡ true
+accepted-too : were_accepted following ((newest_of following reads_fsd has_asked) ++ has_asked) ≡ true
 unfolding read answer_of line request_line entry_of
 accepted-too = refl
 
-even-too : is_even following (within 1) has_asked later ≡ true
+even-too : is_even following (within 1) has_asked (newest_of following reads_fsd has_asked) ≡ true
 unfolding read answer_of line request_line entry_of
 even-too = refl
 
@@ -116,29 +107,29 @@ polled-too : is_polled (last_query 0 (trace following has_asked)) ≡ true
 unfolding read answer_of line request_line entry_of
 polled-too = refl
 
-keeps-too : always following (keeps (within 1) 0) has_asked later ≡ true
+keeps-too : always following (keeps (within 1) 0) has_asked (newest_of following reads_fsd has_asked) ≡ true
 unfolding read answer_of line request_line entry_of
 keeps-too = refl
 
-given-too : each_given 0 (length has_asked) has_fsd (trace following (later ++ has_asked)) ≡ true
+given-too : each_given 0 (length has_asked) has_fsd (trace following ((newest_of following reads_fsd has_asked) ++ has_asked)) ≡ true
 unfolding read answer_of line request_line entry_of
 given-too = refl
 
 is-told : IsTold following (within 1) has_fsd all has_asked (newest_of following reads_fsd has_asked)
 is-told = record {
-  accepted = accepted-holds following (later ++ has_asked) accepted-too;
-  even = even-holds following (within 1) has_asked later even-too;
+  accepted = accepted-holds following ((newest_of following reads_fsd has_asked) ++ has_asked) accepted-too;
+  even = even-holds following (within 1) has_asked (newest_of following reads_fsd has_asked) even-too;
   needs = record { one = 0; there = omega arith; passes = refl; short = omega arith };
   lines = λ i less is. lines i less;
 }
   where
     lines : (i : ℕ) → i < 1 → IsPolled i (trace following has_asked)
-        × Always following (λ past. (linked i past ≡ true) × IsPrompt (within 1) i past) has_asked later
-        × EachGiven i (length has_asked) has_fsd (trace following (later ++ has_asked))
+        × Always following (λ past. (linked i past ≡ true) × IsPrompt (within 1) i past) has_asked (newest_of following reads_fsd has_asked)
+        × EachGiven i (length has_asked) has_fsd (trace following ((newest_of following reads_fsd has_asked) ++ has_asked))
     lines zero less = (
       polled-holds (last_query 0 (trace following has_asked)) polled-too,
-      always-holds following (within 1) 0 has_asked later keeps-too,
-      each_given-holds 0 (length has_asked) has_fsd (trace following (later ++ has_asked)) given-too,
+      always-holds following (within 1) 0 has_asked (newest_of following reads_fsd has_asked) keeps-too,
+      each_given-holds 0 (length has_asked) has_fsd (trace following ((newest_of following reads_fsd has_asked) ++ has_asked)) given-too,
     )
     lines (suc i) less = absurd (omega (arith, less))
 
@@ -155,7 +146,6 @@ room_as_told-examples = record {
   goes_early = refl;
   not_alone = refl;
   still_up = refl;
-  stays_before = refl;
   goes_in_time = refl;
   is_down = refl;
 }
