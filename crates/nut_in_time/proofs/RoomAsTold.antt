@@ -1,28 +1,27 @@
 -- A primary forces the shutdown of UPSes that may be at several servers, and the machines that need them stop before it.
-use Rattle.std.proofs.Common.{◌≡◌, ◌⊎◌, ℕ, suc, ◌+◌, ◌<◌, ◌≤◌, ◌||◌, ◌==◌, inl, inr, List, [], ◌∷◌, ◌++◌, length, Bool, true, false, Option, Some, None, is_some, refl, sym, ◌∙◌, ap, subst, arith}
+use Rattle.std.proofs.Common.{◌≡◌, ℕ, suc, ◌+◌, ◌<◌, ◌≤◌, ◌||◌, ◌==◌, inl, inr, List, [], ◌∷◌, ◌++◌, length, Bool, true, false, Option, Some, None, is_some, refl, sym, ◌∙◌, ap, subst, arith}
 use Rattle.std.specs.List.{AllByRecursion}
 use Rattle.std.proofs.lemmas.Bool.{and_parts, cases_Bool, eq-eqb, eqb-true, ltb-true}
 use Rattle.nut_link.specs.declared.outcome.Outcome.{Outcome}
 use Rattle.nut_monitor_spec.specs.declared.Query.{Query}
-use Rattle.nut_monitor_spec.specs.declared.Query.TheVariants.{Fsd, NumLogins}
+use Rattle.nut_monitor_spec.specs.declared.Query.TheVariants.{NumLogins}
 use Rattle.nut_monitor_spec.specs.Acceptance.{IsAccepted}
 use Rattle.nut_monitor_spec.specs.Configuration.{Configuration, has_primary, line_in}
-use Rattle.nut_monitor_spec.specs.Decision.{is_alone, is_halted, is_over_by, is_past}
+use Rattle.nut_monitor_spec.specs.Decision.{is_alone, is_over_by}
 use Rattle.nut_monitor_spec.specs.Event.{Event}
 use Rattle.nut_monitor_spec.specs.Query.{is_forced, logins_in}
-use Rattle.nut_monitor_spec.specs.Trace.{Answer, Asked, Entry, alone, answer_of, answers, asked_in, begun, came, clock, clock_after, ended, entry_of, forced, gives, has_begun, has_ended, is_over_at, is_short, linked, logins, moment_of, outstanding, phase, queries, query_put, since_linked, trace}
+use Rattle.nut_monitor_spec.specs.Trace.{Answer, Asked, Entry, alone, answers, asked_in, begun, came, clock, clock_after, ended, entry_of, forced, gives, has_begun, has_ended, is_over_at, linked, logins, moment_of, outstanding, phase, queries, query_put, since_linked, trace}
 use Rattle.nut_monitor_spec.proofs.Putting.{follow-fsd}
 use Rattle.nut_fleet.proofs.Entries.{entry-answer, entry-queries, length-trace}
 use Rattle.nut_fleet.proofs.Shutdowns.{any-empty, earliest-passes}
 use Rattle.nut_fleet.proofs.Turns.{all-at, all-map}
-use Rattle.nut_in_time.specs.AnyServers.{Always, IsEven, IsTold}
-use Rattle.nut_in_time.specs.InTime.{has_fsd, reads_in, seen_by, to_halted}
+use Rattle.nut_in_time.specs.AnyServers.{Always}
 use Rattle.nut_in_time.specs.Pace.{Pace, IsPolled, IsPrompt}
-use Rattle.nut_in_time.specs.RoomAsTold.{EachTaken, HostsyncSufficesAsTold, IsHeeded, PrimariesForceAsTold}
+use Rattle.nut_in_time.specs.RoomAsTold.{EachTaken, HostsyncSufficesAsTold, PrimariesForceAsTold}
 use Rattle.nut_in_time.proofs.AnyServers.{always-now, begun-on, machines-stop}
 use Rattle.nut_in_time.proofs.Asking.{answer-is, not-made, waits-outstanding}
 use Rattle.nut_in_time.proofs.Ending.{earliest-sooner, or-right}
-use Rattle.nut_in_time.proofs.Leading.{Led, Opened, led-next}
+use Rattle.nut_in_time.proofs.Leading.{Led, led-next}
 use Rattle.nut_in_time.proofs.RoomSteps.{begun-ending, is-halted}
 use Rattle.nut_in_time.proofs.Starting.{old-first, since-all}
 use Rattle.nut_in_time.proofs.Unforced.{count-asked}
@@ -99,12 +98,15 @@ module _ (configuration : Configuration) (pace : Pace) (first : List Event) (i :
   leads-first : IsAccepted configuration first → linked i (trace configuration first) ≡ true → Leads first
   leads-first accepted there =
       let old = old-first configuration i first (length first) 0 pace (λ words. true) accepted there not_begun polled in (
-        inl (not_begun, record {
-          last = old.last;
-          is_status = old.is_status;
-          known = old.early;
-          stage = elim old.stage [ inl w ↦ inl w | inr r ↦ inr r.0 ];
-        }),
+        inl (
+          not_begun,
+          record {
+            last = old.last;
+            is_status = old.is_status;
+            known = old.early;
+            stage = elim old.stage [ inl w ↦ inl w | inr r ↦ inr r.0 ];
+          },
+        ),
         omega arith,
       )
 

@@ -1,5 +1,5 @@
 -- The worked primary with UPSes at two servers, and a machine that needs one of them.
-use Rattle.std.proofs.Common.{◌≡◌, ℕ, zero, suc, ◌+◌, ◌<◌, ◌&&◌, ◌||◌, ◌==◌, not, List, [], ◌∷◌, ◌++◌, length, Bool, true, false, Option, Some, None, refl, ◌∙◌, ap, subst, arith}
+use Rattle.std.proofs.Common.{◌≡◌, ℕ, zero, suc, ◌<◌, ◌&&◌, ◌||◌, ◌==◌, not, List, [], ◌∷◌, ◌++◌, length, Bool, true, false, Option, Some, None, refl, ◌∙◌, ap, subst, arith}
 use Rattle.std.proofs.lemmas.Bool.{and_parts, eq-eqb}
 use Rattle.nut_words.specs.Reader.{read}
 use Rattle.nut_proto.specs.Answers.{answer_of}
@@ -8,7 +8,6 @@ use Rattle.nut_proto.specs.Requests.{request_line}
 use Rattle.nut_monitor_spec.specs.declared.Query.{Query}
 use Rattle.nut_monitor_spec.specs.declared.Query.TheVariants.{Fsd}
 use Rattle.nut_monitor_spec.specs.Configuration.{line_in}
-use Rattle.nut_monitor_spec.specs.Event.{Event}
 use Rattle.nut_monitor_spec.specs.Query.{is_forced}
 use Rattle.nut_monitor_spec.specs.Trace.{Answer, Entry, entry_of, has_begun, last_query, linked, trace}
 use Rattle.nut_in_time.specs.AnyServers.{Always, EachGiven, IsTold}

@@ -1,6 +1,6 @@
 -- A machine with a UPS at each of two servers, which is the primary of one, and a machine that needs that one, computed from the
 -- definitions: FSD is accepted as late as it may, and with a HOSTSYNC a second shorter the primary leaves Forcing first.
-use Rattle.std.specs.Prelude.{◌≡◌, ℕ, zero, suc, ◌+◌, ◌-◌, List, [], ◌∷◌, ◌++◌, codes, true, false}
+use Rattle.std.specs.Prelude.{◌≡◌, ℕ, ◌+◌, ◌-◌, List, [], ◌∷◌, ◌++◌, codes, true, false}
 use Rattle.nut_monitor_spec.specs.Configuration.{Configuration}
 use Rattle.nut_monitor_spec.specs.Decision.{is_halted}
 use Rattle.nut_monitor_spec.specs.Event.{Event}
