@@ -77,7 +77,7 @@ PROMISES = (
         ("nut_in_time", None, (
             "links_open_in_time", "statuses_come_in_time", "shutdowns_begin_in_time", "machines_halt_in_time", "shutdowns_go_on",
             "hostsync_suffices", "nobody_halts_in_vain", "the_last_ups_counts", "forced_is_shown", "room_stops_in_time",
-            "cut_off_machines_stop", "links_come_back?", "machines_stop_as_told?")),
+            "cut_off_machines_stop", "links_come_back?", "machines_stop_as_told?", "room_stops_as_told?")),
         ("nut_upsmon", None, ("stops_within",)))),
     ("Links that keep a pace", "how a link is seen to keep pace", (
         ("nut_in_time", None, ("quiet_links_keep_pace", "rounds_keep_pace")),)),

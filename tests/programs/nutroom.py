@@ -26,7 +26,7 @@ import xml.etree.ElementTree
 from tests.programs.nutsim import server_files
 from tests.support.harness import ROOT, VERSION_SHOWN, Failed, ensure, expect, fewer, needs_proved_build, patience, run_tests
 from tests.support.model import Config, User, words_of
-from tests.support.room_model import Room, Rules, Watched, shown
+from tests.support.room_model import RoomOfServers, Rules, Watched, shown
 from tests.support.terminal import run_on_terminal
 
 TOOLS = os.path.join(ROOT, "tools")
@@ -69,9 +69,10 @@ def write(folder, name, text):
 
 
 def write_room(folder, text, config=CONFIG, files=None):
-    """Writes a description and its configuration files into a folder."""
-    for name, data in server_files(config).items():
-        write(folder, name, data)
+    """Writes a description and its configuration files into a folder. Those of several servers are in folders of their names."""
+    for host, it in config.items() if isinstance(config, dict) else [("", config)]:
+        for name, data in server_files(it).items():
+            write(os.path.join(folder, host), name, data)
     for name, rules in (FILES if files is None else files).items():
         write(folder, name, rules.text())
     return write(folder, "room", text)
@@ -79,11 +80,18 @@ def write_room(folder, text, config=CONFIG, files=None):
 
 # What is wrong with a description, and the message about it.
 WRONG_LINES = {
-    "wait 5": "'wait' is no line of a room: there are conf, machine, battery and at",
+    "wait 5": "'wait' is no line of a room: there are conf, server, machine, client, battery and at",
     'at 10 su700 "OB': "a quote or a backslash is left open",
     "at 10 su700 OB\\": "a quote or a backslash is left open",
     "conf": "wanted: conf FOLDER",
     "conf a b": "wanted: conf FOLDER",
+    "server s1": "wanted: server NAME FOLDER",
+    "server s1 . .": "wanted: server NAME FOLDER",
+    "server s/1 .": "'s/1' is no name: 1 to 32 letters, digits, '.', '_' and '-'",
+    "client su700": "wanted: client UPS delay LEAST GREATEST",
+    "client su700 0 1 2": "wanted: client UPS delay LEAST GREATEST",
+    "client su900 delay 0 1": "ups.conf has no UPS su900",
+    "client su700 delay 2 1": "the least delay is above the greatest",
     "machine m3 m1.conf": "wanted: machine NAME UPSMON.CONF delay LEAST GREATEST",
     "machine m3 m1.conf 0 1 2": "wanted: machine NAME UPSMON.CONF delay LEAST GREATEST",
     "machine a/b m1.conf delay 0 1": "'a/b' is no name: 1 to 32 letters, digits, '.', '_' and '-'",
@@ -170,7 +178,10 @@ class Tests:
             LOW: "0: no line 'machine'",
             PAIR: "0: no line 'at': nothing happens",
             f"{PAIR}battery su700 5\nbattery su700 6\n{LOW}": "4: a second battery of su700",
-            f"conf .\nconf .\n{PAIR}{LOW}": "2: a second line 'conf'",
+            f"conf .\nconf .\n{PAIR}{LOW}": "2: a second line 'conf', or one beside 'server'",
+            f"server s1 .\nconf .\n{PAIR}{LOW}": "2: a second line 'conf', or one beside 'server'",
+            f"conf .\nserver s1 .\n{PAIR}{LOW}": "2: a second server s1, or one beside 'conf'",
+            f"server s1 .\nserver s1 .\n{PAIR}{LOW}": "2: a second server s1, or one beside 'conf'",
             f"{PAIR}{LOW}at 5 m1 cut\nat 6 m1 cut\n": "6: m1 is cut already",
             f"{PAIR}{LOW}at 5 m1 back\nat 6 m1 cut\n": "5: m1 isn't cut",
             f"machine su700 m1.conf delay 0 1\n{LOW}": "2: su700 is a machine and a UPS",
@@ -213,6 +224,25 @@ class Tests:
             self.refused(path, f"{os.path.dirname(path)}/upsd.users: " + text.format(os.path.dirname(path)))
         path = self.room(PAIR + LOW, config=Config(CONFIG.upses, CONFIG.users, 15, 1))
         self.refused(path, f"{os.path.dirname(path)}/upsd.conf: MAXCONN 1 lets no 2 links in")
+        path = self.room(f"{PAIR}client su700 delay 0 1\n{LOW}", config=Config(CONFIG.upses, CONFIG.users, 15, 2))
+        self.refused(path, f"{os.path.dirname(path)}/upsd.conf: MAXCONN 2 lets no 3 links in")
+
+    def test_servers_that_do_not_fit(self):
+        """The hosts of MONITOR lines name servers, and a machine's own server has its name."""
+        text = f"server m1 m1\nserver s2 s2\n{PAIR}at 10 su700@s2 OB LB\n"
+        for config, files, fault in (
+            ({}, {"m2.conf": [Watched(b"su700", "secondary", user=b"sec", password=b"m2", host=b"s3")]}, "{0}/m2.conf:1: no line 'server' has the name s3"),
+            ({}, {"m2.conf": [Watched(b"su700", "secondary", user=b"sec", password=b"m2")]}, "{0}/m2.conf:1: no line 'server' has the name localhost"),
+            ({}, {"m1.conf": [Watched(b"su900", "primary")]}, "{0}/m1.conf:1: ups.conf has no UPS su900@m1"),
+            ({}, {"m1.conf": [Watched(b"su700", "primary", password=b"no")]}, "{0}/m1/upsd.users: no user mon with the password of {0}/m1.conf"),
+            ({"s2": Config(CONFIG.upses, CONFIG.users, 15, 1)}, {}, "{0}/s2/upsd.conf: MAXCONN 1 lets no 2 links in"),
+        ):
+            lines = {"m1.conf": [Watched(b"su700", "primary"), Watched(b"su700", "primary", host=b"s2:3493")]}
+            lines["m2.conf"] = [Watched(b"su700", "secondary", user=b"sec", password=b"m2", host=b"s2")]
+            rules = {name: Rules(it) for name, it in {**lines, **files}.items()}
+            path = self.room(text, config={"m1": CONFIG, "s2": CONFIG, **config}, files=rules)
+            self.refused(path, fault.format(os.path.dirname(path)))
+        self.refused(self.room(f"server m1 m1\n{PAIR}{LOW}", config={"m1": CONFIG}), f"{self.folder}/room-{self.made}/room:4: su700 is neither a machine of this room nor a UPS of ups.conf")
 
     def test_nutsim_that_fails(self):
         path = self.room(PAIR + LOW)
@@ -359,6 +389,59 @@ class Tests:
         with open(to) as file:
             expect("".join(play_run(room, Nutsim(self.nutsim), 2, 2)[0].steps), file.read(), "the steps")
 
+    def test_two_servers(self):
+        """UPSes with the same name at two servers, a machine that needs one of both, and another client. nutsim plays the steps
+        again with the files that are written beside them."""
+        both = [Watched(b"su700", "secondary", user=b"sec", password=b"m2", host=it) for it in (b"m1", b"m2:3493")]
+        machines = "".join(f"machine m{m} m{m}.conf delay 0 2\n" for m in (1, 2, 3))
+        text = f"server m1 m1\nserver m2 m2\n{machines}client su700@m2 delay 0 1\nbattery su700@m2 60\nat 10 su700@m1 OB LB\nat 20 su700@m2 OB LB\n"
+        files = {"m1.conf": PRIMARY, "m2.conf": PRIMARY, "m3.conf": Rules(both)}
+        path = self.room(text, config={"m1": CONFIG, "m2": CONFIG}, files=files)
+        to = os.path.join(os.path.dirname(path), "steps")
+        lines = self.printed("-n", "3", "-s", "1", "--run", "2", "--steps", to, path).splitlines()
+        for line in (
+            "10 s  su700@m1 OB LB",
+            "80 s  the battery of su700@m2 is empty",
+            "  m1  halted by 10 + POLLFREQ 5 + delay 2 + HOSTSYNC 15 + 1 + FINALDELAY 5 = 38",
+            "  m2  halted by 20 + POLLFREQ 5 + delay 2 + HOSTSYNC 15 + 1 + FINALDELAY 5 = 48",
+            "  m3  halted by 20 + delay 2 + HOSTSYNC 15 + 1 + FINALDELAY 5 = 43",
+        ):
+            ensure(line in lines, f"{line!r} isn't printed: {lines}")
+        words = [self.nutsim, f"{to}.files", to, *(os.path.join(f"{to}.files", f"{host}.conf") for host in range(4))]
+        done = subprocess.run(words, stdin=subprocess.DEVNULL, capture_output=True, timeout=60)
+        expect((done.returncode, done.stderr), (0, b""), "nutsim")
+        ensure(b"skipped" not in done.stdout, "a step was skipped")
+        expect(len(re.findall(rb"monitor [012] phase Halted", done.stdout)), 3, "machines that were halted")
+        with open(to) as file:
+            ensure(len(re.findall("^link 3 0$", file.read(), re.MULTILINE)) > 3, "the client calls again and again")
+        self.picture(path)
+        # of the machine with UPSes at both, what is proved only for one server
+        aside = "21 s of its last status, if its UPSes were at one server"
+        for changes, said in (
+            ("at 5 su700@m1 OB\nat 5 su700@m2 OB\nat 15 m3 cut\n", f"cut off on battery: halted within DEADTIME 15 + 1 + FINALDELAY 5 = {aside}"),
+            ("at 5 su700@m1 OB\n", "  m3  goes on: its UPSes are neither low nor forced, and DEADTIME is long enough, if its UPSes were at one server"),
+        ):
+            out = self.printed("-n", "2", self.room(text.partition("battery")[0] + changes, config={"m1": CONFIG, "m2": CONFIG}, files=files))
+            ensure(said in out, f"{said!r} isn't printed: {out}")
+
+    def test_nothing_is_left_behind(self):
+        """The files that are made for nutsim are removed in the end, also if it is interrupted."""
+        folder = os.path.join(self.folder, "temporary")
+        os.mkdir(folder)
+        path = self.room(f"{PAIR}client su700 delay 0 1\n{LOW}")
+        self.printed("-n", "1", path, env={**os.environ, "TMPDIR": folder})
+        expect(os.listdir(folder), [], "what is left")
+        heed = functools.partial(signal.signal, signal.SIGINT, signal.SIG_DFL)
+        words = [sys.executable, PROGRAM, "--nutsim", self.nutsim, "-n", "99999", path]
+        process = subprocess.Popen(words, stdin=subprocess.DEVNULL, env={**os.environ, "TMPDIR": folder}, preexec_fn=heed)
+        for _ in range(600):
+            if os.listdir(folder) and os.path.exists(os.path.join(folder, os.listdir(folder)[0], "2.conf")):
+                break
+            time.sleep(0.05)
+        time.sleep(0.2)
+        process.send_signal(signal.SIGINT)
+        expect((process.wait(timeout=30), os.listdir(folder)), (-signal.SIGINT, []), "an interrupt")
+
     def test_pictures(self):
         first = self.picture(self.room(PAIR + "battery su700 60\n" + LOW))
         texts = [it.text for it in first.iter(f"{SVG}text")]
@@ -487,7 +570,8 @@ class Tests:
             ensure(any(of == law for of, _ in margins), f"no halt {law} was there")
         for law in (PRIMARY_LAW, SECONDARY_LAW, FORCED_LAW):
             ensure(margins[law, 0] > 0, f"no halt {law} reaches its bound")
-        ensure(counts["machines that went on as promised"] > 0 and counts["HOSTSYNC that was just enough"] > 0, f"not all was played: {counts}")
+        for what in ("machines that went on as promised", "machines at two servers", "other clients", "HOSTSYNC that was just enough"):
+            ensure(counts[what] > 0, f"not all was played: {counts}")
 
 
 def check_picture(text):
@@ -517,28 +601,44 @@ def check_picture(text):
 
 
 class RandomRoom:
-    """A room with an outage, in a folder of its own."""
+    """A room with an outage, in a folder of its own. Some have two servers, whose UPSes have the same names, and some have other
+    clients."""
 
     def __init__(self, seed, folder):
         self.random = random.Random(f"room {seed}")
-        self.upses = [b"a", b"b"][: self.pick(1, 1, 2)]
-        self.config = Config([(it, b"") for it in self.upses], CONFIG.users)
+        self.hosts = self.pick(["localhost"], ["localhost"], ["s1", "s2"])
+        self.upses = [(name, host) for host in self.hosts for name in [b"a", b"b"][: self.pick(1, 1, 2)]]
+        self.configs = {host: Config([(name, b"") for name, at in self.upses if at == host], CONFIG.users) for host in self.hosts}
         self.rules = [self.rule(m) for m in range(self.pick(1, 2, 2, 3, 4))]
-        lines = [f"machine m{m} m{m}.conf delay {self.delays()}" for m in range(len(self.rules))]
+        lines = [f"server {host} {host}" for host in self.hosts if len(self.hosts) > 1]
+        lines += [f"machine m{m} m{m}.conf delay {self.delays()}" for m in range(len(self.rules))]
+        self.watched = [self.pick(*self.upses) for _ in range(self.pick(0, 0, 1, 3))]
+        lines += [f"client {self.called(ups)} delay {self.delays()}" for ups in self.watched]
         for ups in self.upses:
-            lines += [f"at {time:.3f} {ups.decode()} {status}" for time, status in self.outage()]
+            lines += [f"at {time:.3f} {self.called(ups)} {status}" for time, status in self.outage()]
         lines += self.cuts()
         files = {f"m{m}.conf": it for m, it in enumerate(self.rules)}
-        self.path = write_room(os.path.join(folder, f"random-{seed}"), "\n".join(lines), self.config, files)
+        configs = self.configs if len(self.hosts) > 1 else self.configs[self.hosts[0]]
+        self.path = write_room(os.path.join(folder, f"random-{seed}"), "\n".join(lines), configs, files)
+
+    def called(self, ups):
+        """Returns what the description calls a UPS."""
+        name, host = ups
+        return name.decode() + f"@{host}" * (len(self.hosts) > 1)
+
+    def model(self):
+        """Returns the plain model of this room."""
+        clients = [Rules([Watched(name, "secondary", 0, b"client", b"x", host.encode())], min_supplies=0) for name, host in self.watched]
+        return RoomOfServers({host.encode(): it for host, it in self.configs.items()}, [*self.rules, *clients])
 
     def pick(self, *items):
         return self.random.choice(items)
 
     def rule(self, m):
         role = self.pick("primary", "primary", "secondary") if m == 0 else self.pick("secondary", "secondary", "secondary", "primary")
-        names = self.upses if len(self.upses) == 1 else self.pick(self.upses, self.upses, self.upses[:1], self.upses[1:])
+        upses = self.upses if len(self.upses) == 1 else self.pick(self.upses, self.upses, self.upses[:1], self.upses[1:])
         user, password = (b"mon", b"m1") if role == "primary" else (b"sec", b"m2")
-        lines = [Watched(name, role, 1, user, password) for name in names]
+        lines = [Watched(name, role, 1, user, password, host.encode()) for name, host in upses]
         return Rules(
             lines, min_supplies=self.random.randint(1, len(lines)), poll_freq=self.pick(1, 2, 3, 5), dead_time=self.pick(5, 15, 15, 30),
             host_sync=self.pick(0, 1, 3, 5, 8, 12, 15, 20), final_delay=self.pick(0, 1, 2, 5),
@@ -585,6 +685,8 @@ def play_rooms(program, folder, seeds):
         room = read_room(made.path, nutsim)
         plan, stories = play_run(room, nutsim, 1, seed)
         counts["machines"] += len(stories)
+        counts["machines at two servers"] += sum(len(room.servers_of(it)) > 1 for it in room.machines)
+        counts["other clients"] += len(room.clients)
         for machine, host, story, bound in zip(room.machines, plan.hosts, stories, room.bounds):
             ensure(not story.is_wrong, f"room {seed}: {machine.name} passes its bound: {bound}, {story}")
             counts["machines that went on as promised"] += bound is None and story.keeps_pace
@@ -636,7 +738,9 @@ def compare(made, room, plan, nutsim, seed):
     """Checks that the plain model plays the same steps and tells the same; that no step is skipped, and each step that moves
     bytes finds some; that each query on a link that isn't cut is answered within the machine's delay; and that clocks move
     on by one."""
-    model = Room(made.config, made.rules)
+    model = made.model()
+    # how the UPSes are called that nutsim plays under names of their own
+    names = {f"{name.decode()}@{host}": f"u{u}@localhost" for u, (name, host) in enumerate(made.upses)} if room.files else {}
     due = []
     for number, (text, at) in enumerate(zip(plan.steps, plan.times), 1):
         verb, *words = words_of(text.rstrip("\n").encode())
@@ -649,11 +753,12 @@ def compare(made, room, plan, nutsim, seed):
         due += [shown(number, it) for it in model.play(step)]
         if verb == "monitor" and not any(cut <= at for cut in plan.hosts[step[1]].cuts):
             for watch in model.monitors[step[1]].watches:
-                is_late = watch.call is not None and not watch.call.is_idle and step[2] > watch.call.asked_at + room.machines[step[1]].delay
+                is_late = watch.call is not None and not watch.call.is_idle and step[2] > watch.call.asked_at + room.hosts[step[1]].delay
                 ensure(not is_late, f"room {seed}, step {number}: a query of machine {step[1]} waits for longer than its delay")
     found = nutsim.play(room, plan.steps)
     ensure(all(words != ["skipped"] for _, words in found), f"room {seed}: a step is skipped")
-    expect([(number, words) for number, words in found], [(int(a), b.split()) for a, _, b in (it.decode().partition(": ") for it in due)], f"room {seed}: what is told")
+    due = [(int(a), [names.get(word, word) for word in b.split()]) for a, _, b in (it.decode().partition(": ") for it in due)]
+    expect(found, due, f"room {seed}: what is told")
 
 
 def moves(model, step):
@@ -662,7 +767,7 @@ def moves(model, step):
     if verb == "out":
         return watch.call is not None and bool(watch.call.waits)
     if verb == "back":
-        return bool(model.server.waits(pipes.connection))
+        return bool(model.server_of(m, i).waits(pipes.connection))
     return bool(pipes.to_server if verb == "reach" else pipes.to_monitor)
 
 

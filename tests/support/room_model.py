@@ -282,6 +282,7 @@ class Pipes:
 class Room:
     def __init__(self, config, rules):
         self.server = model.Server(config)
+        self.servers = [self.server]
         self.monitors = [Monitor(it) for it in rules]
         self.pipes = [[Pipes() for _ in it.lines] for it in rules]
 
@@ -297,8 +298,16 @@ class Room:
                 told.append(("phase", m, monitor.phase, any(it.is_primary for it in monitor.rules.lines)))
         return told
 
+    def server_of(self, m, i):
+        """Returns the server to which a link leads."""
+        return self.server
+
+    def served(self, u):
+        """Returns the server of a UPS, and its number there."""
+        return self.server, u
+
     def is_open(self, m, i):
-        return self.pipes[m][i].connection in self.server.connections
+        return self.pipes[m][i].connection in self.server_of(m, i).connections
 
     def is_linked(self, m, i):
         return self.monitors[m].watches[i].call is not None
@@ -306,26 +315,31 @@ class Room:
     # A method for each step. It returns whether the step was played; if not, it is skipped.
 
     def server_clock(self, at):
-        self.server.moment(at)
+        for server in self.servers:
+            server.moment(at)
         return True
 
     def monitor_clock(self, m, at):
         return self.monitors[m].moment(at)
 
     def up(self, u):
-        return self.server.driver_up(u) is None
+        server, number = self.served(u)
+        return server.driver_up(number) is None
 
     def driver(self, u, line):
-        return self.server.driver_bytes(u, line + b"\n") is None
+        server, number = self.served(u)
+        return server.driver_bytes(number, line + b"\n") is None
 
     def down(self, u):
-        return self.server.driver_down(u) is None
+        server, number = self.served(u)
+        return server.driver_down(number) is None
 
     def link(self, m, i):
-        if self.is_open(m, i) or self.is_linked(m, i) or self.server.open(b"m%d" % m) is not None:
+        server = self.server_of(m, i)
+        if self.is_open(m, i) or self.is_linked(m, i) or server.open(b"m%d" % m) is not None:
             return False
         self.pipes[m][i] = Pipes()
-        self.pipes[m][i].connection = self.server.opened
+        self.pipes[m][i].connection = server.opened
         return self.monitors[m].linked(i)
 
     def out(self, m, i, n):
@@ -346,7 +360,7 @@ class Room:
         piece = pipes.to_server[: min(n, PIECE_MAX)]
         if not piece:
             return True
-        if self.server.bytes(pipes.connection, piece) is not None:
+        if self.server_of(m, i).bytes(pipes.connection, piece) is not None:
             return False
         pipes.to_server = pipes.to_server[len(piece) :]
         return True
@@ -355,11 +369,12 @@ class Room:
         if not self.is_open(m, i):
             return False
         pipes = self.pipes[m][i]
-        moved = self.server.waits(pipes.connection)[: min(n, PIECE_MAX)]
+        server = self.server_of(m, i)
+        moved = server.waits(pipes.connection)[: min(n, PIECE_MAX)]
         if moved:
             if self.is_linked(m, i):
                 pipes.to_monitor += moved
-            self.server.took(pipes.connection, len(moved))
+            server.took(pipes.connection, len(moved))
         return True
 
     def land(self, m, i, n):
@@ -375,11 +390,31 @@ class Room:
     def cut_server(self, m, i):
         pipes = self.pipes[m][i]
         pipes.to_server = b""
-        return self.server.close(pipes.connection) is None
+        return self.server_of(m, i).close(pipes.connection) is None
 
     def cut_monitor(self, m, i):
         self.pipes[m][i].to_monitor = b""
         return self.monitors[m].link_lost(i)
+
+
+class RoomOfServers(Room):
+    """A room of several servers, each known by its host, to which the MONITOR lines lead that name it. UPSes are numbered
+    through, server by server."""
+
+    def __init__(self, configs, rules):
+        super().__init__(next(iter(configs.values())), rules)
+        self.servers = [self.server, *(model.Server(it) for it in list(configs.values())[1:])]
+        self.hosts = dict(zip(configs, self.servers))
+
+    def server_of(self, m, i):
+        return self.hosts[self.monitors[m].watches[i].line.target.partition(b"@")[2]]
+
+    def served(self, u):
+        for server in self.servers:
+            if u < len(server.upses):
+                return server, u
+            u -= len(server.upses)
+        raise IndexError(u)
 
 
 STEPS = {

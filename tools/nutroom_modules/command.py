@@ -3,6 +3,7 @@
 import argparse
 import collections
 import concurrent.futures
+import functools
 import os
 import random
 import re
@@ -13,6 +14,7 @@ from nutroom_modules.drawing import Drawing
 from nutroom_modules.faults import Fault
 from nutroom_modules.nutsim import Nutsim, find_nutsim
 from nutroom_modules.reading import read_room
+from nutroom_modules.staging import stage
 from nutroom_modules.stories import play_run
 from nutroom_modules.summary import Summary
 
@@ -113,6 +115,8 @@ def run(words, beside):
     found = arguments(words)
     nutsim = Nutsim(find_nutsim(found.nutsim, beside))
     room = read_room(found.room, nutsim)
+    if room.files is not None and signal.getsignal(signal.SIGINT) is signal.SIG_DFL:
+        signal.signal(signal.SIGINT, functools.partial(end_without, room.files))
     seed = random.SystemRandom().randrange(1_000_000) if found.seed is None else found.seed
     summary = play_all(room, nutsim, seed, found.count, Progress(sys.stderr, found.count))
     for line in summary.lines():
@@ -124,9 +128,18 @@ def run(words, beside):
             write_text(found.svg, Drawing(room, f"{found.room}: run {number} of seed {seed}", plan, stories).draw())
         if found.steps:
             write_text(found.steps, "".join(plan.steps))
+            if room.files is not None:
+                stage(room, f"{found.steps}.files")
     for number, m in summary.wrong:
         print(f"nutroom: run {number}: {room.machines[m].name} does what the theorem excludes: please report this", file=sys.stderr)
     return 1 if summary.wrong else 0
+
+
+def end_without(files, number, frame):
+    """Ends the program as the signal does, without these files."""
+    files.cleanup()
+    signal.signal(number, signal.SIG_DFL)
+    signal.raise_signal(number)
 
 
 def main(beside):

@@ -17,10 +17,13 @@ class Nutsim:
 
     def play(self, room, steps):
         """Returns what the steps tell: for each line the number of the step and the words behind it."""
-        return self.call(room.folder, [it.conf for it in room.machines], "".join(steps))
+        if room.files is None:
+            return self.call(room.servers[0].folder, [it.conf for it in room.machines], "".join(steps))
+        confs = [os.path.join(room.files.name, f"{number}.conf") for number in range(len(room.hosts))]
+        return self.call(room.files.name, confs, "".join(steps))
 
     def check(self, folder, machine):
-        """Has nutsim read the configuration files of the server and of a machine."""
+        """Has nutsim read the configuration files of a server and of a machine."""
         self.call(folder, [machine.conf], "")
 
     def call(self, folder, confs, schedule):

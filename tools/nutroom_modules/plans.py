@@ -11,6 +11,8 @@ from nutroom_modules.times import SECOND
 CALL_TIME = 5 * SECOND
 # A server notices that a machine is gone this long after its last bytes.
 PROBE_TIME = 90 * SECOND
+# A client that isn't a machine leaves with each status, and calls again after this time.
+CLIENT_PAUSE = 5 * SECOND
 
 # The order of what happens at the same time: a clock ticks before bytes arrive, so that a query which waits for whole seconds
 # waits for no more of them by the clock. Among bytes chance decides, from 0 to 1.
@@ -34,7 +36,7 @@ class Plan:
         self.steps, self.times, self.events = [], [], []
         self.queue, self.queued = [], 0
         self.now = 0
-        self.hosts = [Host(m, machine, f"{seed} {m}") for m, machine in enumerate(room.machines)]
+        self.hosts = [Host(m, machine, f"{seed} {m}") for m, machine in enumerate(room.hosts)]
         # the outage begins once each machine knows the status of its UPSes
         self.zero = (max(host.ready() for host in self.hosts) // SECOND + 1) * SECOND
         self.end = self.zero + room.changes[-1].time + longest_halt(room)
@@ -64,7 +66,8 @@ class Plan:
         for change in self.room.changes:
             # changes of the same time happen in the order of their lines
             self.at(self.zero + change.time, CHANGES_FIRST, self.change, change)
-        while self.queue and self.queue[0][0] <= self.end and any(host.phase != HALTED for host in self.hosts):
+        machines = self.hosts[: len(self.room.machines)]
+        while self.queue and self.queue[0][0] <= self.end and any(host.phase != HALTED for host in machines):
             self.now, _, _, action, rest = heapq.heappop(self.queue)
             action(*rest)
 
@@ -158,7 +161,7 @@ class Plan:
         link.is_linked = link.is_outstanding = False
         link.is_broken = True
         link.lose_pace(self.time)
-        link.call_at = self.now + 1
+        link.call_at = self.now + (CLIENT_PAUSE if host.machine.is_client else 1)
         self.at(self.now + self.delay(host, link), link.random.random(), self.hear_close, host, link, link.made)
 
     def hear_close(self, host, link, made):
@@ -215,6 +218,8 @@ class Plan:
             link.status, link.read_at = link.coming, host.clock
         link.is_fsd_taken = link.is_fsd_taken or link.query == "fsd"
         self.tell(host, f"land {host.number} {link.number} 512", "land", host.number, link.number, link.landed)
+        if host.machine.is_client and link.query == "status":
+            self.lose(host, link)
 
     # The network of a machine is cut: no bytes pass, and neither end is told.
 

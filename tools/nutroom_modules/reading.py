@@ -3,11 +3,13 @@
 import dataclasses
 import os
 import re
+import tempfile
 
 from nutroom_modules.bounds import PATIENCE_ON_BATTERY, bound_of
 from nutroom_modules.faults import Fault, RoomFault
 from nutroom_modules.files import conf_lines, read_text, sections, words_of
-from nutroom_modules.rooms import Change, Line, Machine, Room, Rules
+from nutroom_modules.rooms import Change, Line, Machine, Room, Rules, Server
+from nutroom_modules.staging import client_rules, stage
 from nutroom_modules.times import LONGEST, SECOND
 
 
@@ -21,7 +23,6 @@ class RoomReader:
     def __init__(self, path):
         self.room = Room(path)
         self.waits = []
-        self.is_placed = False
 
     def read(self):
         for number, text in enumerate(read_text(self.room.path).split("\n"), 1):
@@ -32,7 +33,11 @@ class RoomReader:
                 self.read_line(number, words)
         if not self.room.machines:
             raise self.fault(0, "no line 'machine'")
-        self.room.upses = list(sections(os.path.join(self.room.folder, "ups.conf")))
+        self.room.servers = self.room.servers or [Server(os.path.dirname(self.room.path) or ".")]
+        for number, server in enumerate(self.room.servers):
+            for ups in sections(server.path("ups.conf")):
+                self.room.upses.append(ups_name(ups, server))
+                self.room.owners.append(number)
         for verb, number, words in self.waits:
             verb(number, words)
         if not self.room.changes:
@@ -45,44 +50,64 @@ class RoomReader:
         return RoomFault(self.room.path, number, text)
 
     def read_line(self, number, words):
-        verbs = {"conf": self.read_conf, "machine": self.read_machine, "battery": self.read_battery, "at": self.read_change}
-        verb = verbs.get(words[0])
-        if verb is None:
-            raise self.fault(number, f"{words[0]!r} is no line of a room: there are conf, machine, battery and at")
-        if verb in (self.read_battery, self.read_change):
-            self.waits.append((verb, number, words))
+        first = {"conf": self.read_conf, "server": self.read_server, "machine": self.read_machine}
+        later = {"client": self.read_client, "battery": self.read_battery, "at": self.read_change}
+        if words[0] in first:
+            first[words[0]](number, words)
+        elif words[0] in later:
+            self.waits.append((later[words[0]], number, words))
         else:
-            verb(number, words)
+            raise self.fault(number, f"{words[0]!r} is no line of a room: there are {', '.join([*first, *later][:-1])} and at")
 
     def read_conf(self, number, words):
         if len(words) != 2:
             raise self.fault(number, "wanted: conf FOLDER")
-        if self.is_placed:
-            raise self.fault(number, "a second line 'conf'")
-        self.is_placed = True
-        self.room.folder = self.beside(words[1])
+        if self.room.servers:
+            raise self.fault(number, "a second line 'conf', or one beside 'server'")
+        self.room.servers.append(Server(self.beside(words[1])))
+
+    def read_server(self, number, words):
+        if len(words) != 3:
+            raise self.fault(number, "wanted: server NAME FOLDER")
+        if any(it.name in (None, words[1]) for it in self.room.servers):
+            raise self.fault(number, f"a second server {words[1]}, or one beside 'conf'")
+        self.room.servers.append(Server(self.beside(words[2]), self.name(number, words[1])))
 
     def read_machine(self, number, words):
         if len(words) != 6 or words[3] != "delay":
             raise self.fault(number, "wanted: machine NAME UPSMON.CONF delay LEAST GREATEST")
-        name = words[1]
-        if not NAME.fullmatch(name):
-            raise self.fault(number, f"{name!r} is no name: 1 to 32 letters, digits, '.', '_' and '-'")
-        if self.room.machine_number(name) is not None:
-            raise self.fault(number, f"a second machine {name}")
-        least, greatest = (self.time(number, it) for it in words[4:])
+        if self.room.machine_number(words[1]) is not None:
+            raise self.fault(number, f"a second machine {words[1]}")
+        self.room.machines.append(Machine(self.name(number, words[1]), self.beside(words[2]), *self.delays(number, words[4:])))
+
+    def read_client(self, number, words):
+        if len(words) != 5 or words[2] != "delay":
+            raise self.fault(number, "wanted: client UPS delay LEAST GREATEST")
+        rules = client_rules(self.ups(number, words[1]))
+        self.room.clients.append(Machine("", None, *self.delays(number, words[3:]), rules, is_client=True))
+
+    def name(self, number, word):
+        if not NAME.fullmatch(word):
+            raise self.fault(number, f"{word!r} is no name: 1 to 32 letters, digits, '.', '_' and '-'")
+        return word
+
+    def delays(self, number, words):
+        least, greatest = (self.time(number, it) for it in words)
         if least > greatest:
             raise self.fault(number, "the least delay is above the greatest")
         if greatest > PATIENCE_ON_BATTERY * SECOND:
             raise self.fault(number, f"a delay above {PATIENCE_ON_BATTERY} s: upsmon gives up a server that takes longer while a UPS is on battery")
-        self.room.machines.append(Machine(name, self.beside(words[2]), least, greatest))
+        return least, greatest
+
+    def ups(self, number, word):
+        if word not in self.room.upses:
+            raise self.fault(number, f"ups.conf has no UPS {word}")
+        return self.room.upses.index(word)
 
     def read_battery(self, number, words):
         if len(words) != 3:
             raise self.fault(number, "wanted: battery UPS SECONDS")
-        if words[1] not in self.room.upses:
-            raise self.fault(number, f"ups.conf has no UPS {words[1]}")
-        ups = self.room.upses.index(words[1])
+        ups = self.ups(number, words[1])
         if ups in self.room.batteries:
             raise self.fault(number, f"a second battery of {words[1]}")
         self.room.batteries[ups] = self.time(number, words[2])
@@ -128,16 +153,34 @@ class RoomReader:
                 cut ^= {change.machine}
 
 
-def read_rules(path, upses):
-    """Returns the settings of a machine's upsmon.conf. Fails if a line names a UPS that the server doesn't have."""
+def ups_name(ups, server):
+    """Returns what a description calls a UPS."""
+    return ups if server.name is None else f"{ups}@{server.name}"
+
+
+def server_named(room, host, machine):
+    """Returns the server that the host of a MONITOR line names, or None. If the room has a single one, hosts don't count."""
+    if room.servers[0].name is None:
+        return room.servers[0]
+    name = re.sub(":[0-9]+$", "", host)
+    name = machine if name in ("localhost", "127.0.0.1", "[::1]") else name
+    return next((it for it in room.servers if it.name == name), None)
+
+
+def read_rules(room, machine):
+    """Returns the settings of a machine's upsmon.conf. Fails if a line names a UPS that its server doesn't have."""
+    path = machine.conf
     numbers = {"MINSUPPLIES": 1, "POLLFREQ": 5, "DEADTIME": 15, "HOSTSYNC": 15, "FINALDELAY": 5}
     lines = []
     for number, words in enumerate(conf_lines(path), 1):
         if words and words[0] == "MONITOR":
-            name = words[1].partition("@")[0]
-            if name not in upses:
-                raise RoomFault(path, number, f"ups.conf has no UPS {name}")
-            lines.append(Line(upses.index(name), int(words[2]), words[5] == "primary", words[3], words[4]))
+            name, _, host = words[1].partition("@")
+            server = server_named(room, host, machine.name)
+            if server is None:
+                raise RoomFault(path, number, f"no line 'server' has the name {host}")
+            if ups_name(name, server) not in room.upses:
+                raise RoomFault(path, number, f"ups.conf has no UPS {ups_name(name, server)}")
+            lines.append(Line(room.upses.index(ups_name(name, server)), int(words[2]), words[5] == "primary", words[3], words[4]))
         elif words and words[0] in numbers:
             numbers[words[0]] = int(words[1])
             if int(words[1]) > LONGEST:
@@ -151,26 +194,30 @@ def read_room(path, nutsim):
     """Returns the room that a description describes. nutsim checks first that the configuration files have no fault."""
     room = RoomReader(path).read()
     for at, machine in enumerate(room.machines):
-        nutsim.check(room.folder, machine)
-        room.machines[at] = dataclasses.replace(machine, rules=read_rules(machine.conf, room.upses))
-    check_users(room)
-    links = sum(len(it.rules.lines) for it in room.machines)
-    most = next((int(words[1]) for words in conf_lines(os.path.join(room.folder, "upsd.conf")) if words[:1] == ["MAXCONN"]), 256)
-    if links > most:
-        raise Fault(f"{os.path.join(room.folder, 'upsd.conf')}: MAXCONN {most} lets no {links} links in")
+        for server in room.servers:
+            nutsim.check(server.folder, machine)
+        room.machines[at] = dataclasses.replace(machine, rules=read_rules(room, machine))
+    for number, server in enumerate(room.servers):
+        check_server(room, number, server)
     room.bounds = [bound_of(room, machine) for machine in room.machines]
+    if room.clients or room.servers[0].name is not None:
+        room.files = tempfile.TemporaryDirectory(prefix="nutroom-")
+        stage(room, room.files.name)
     return room
 
 
-def check_users(room):
-    """Checks that each machine is accepted by the server, with the rights that its file needs."""
-    path = os.path.join(room.folder, "upsd.users")
-    users = sections(path)
-    for machine in room.machines:
-        for line in machine.rules.lines:
+def check_server(room, number, server):
+    """Checks that a server accepts each machine, with the rights that its file needs, and all links."""
+    lines = [(host, line) for host in room.hosts for line in host.rules.lines if room.owners[line.ups] == number]
+    path, users = server.path("upsd.users"), sections(server.path("upsd.users"))
+    for machine, line in lines:
+        if not machine.is_client:
             words = users.get(line.user, [])
             role = "primary" if line.is_primary else "secondary"
             if ["password", "=", line.password] not in words:
                 raise Fault(f"{path}: no user {line.user} with the password of {machine.conf}")
             if ["upsmon", "primary"] not in words and ["upsmon", role] not in words:
                 raise Fault(f"{path}: user {line.user} has no 'upsmon {role}', which {machine.conf} needs")
+    most = next((int(words[1]) for words in conf_lines(server.path("upsd.conf")) if words[:1] == ["MAXCONN"]), 256)
+    if len(lines) > most:
+        raise Fault(f"{server.path('upsd.conf')}: MAXCONN {most} lets no {len(lines)} links in")

@@ -1,4 +1,4 @@
-"""A room: its machines, with the settings of each, its UPSes, and what happens to them."""
+"""A room: its servers and machines, with the settings of each, its UPSes, and what happens to them."""
 
 import dataclasses
 import math
@@ -8,8 +8,19 @@ from nutroom_modules.times import SECOND
 
 
 @dataclasses.dataclass(frozen=True)
+class Server:
+    """A server, with the folder of its configuration files. It has a name if the room has several."""
+
+    folder: str
+    name: str = None
+
+    def path(self, file):
+        return os.path.join(self.folder, file)
+
+
+@dataclasses.dataclass(frozen=True)
 class Line:
-    """A MONITOR line. The UPS is its number in ups.conf."""
+    """A MONITOR line. The UPS is its number in the room."""
 
     ups: int
     power: int
@@ -36,13 +47,14 @@ class Rules:
 
 @dataclasses.dataclass(frozen=True)
 class Machine:
-    """A machine with a monitor. Each answer takes from `least` to `greatest`."""
+    """A machine with a monitor, or another client. Each answer takes from `least` to `greatest`."""
 
     name: str
     conf: str
     least: int
     greatest: int
     rules: Rules = None
+    is_client: bool = False
 
     @property
     def delay(self):
@@ -73,16 +85,34 @@ class Room:
 
     def __init__(self, path):
         self.path = path
-        self.folder = os.path.dirname(path) or "."
+        self.servers = []
         self.machines = []
+        self.clients = []
         self.batteries = {}
         self.changes = []
-        self.upses = None
+        # each UPS as the description names it, and the number of its server
+        self.upses, self.owners = [], []
+        # the files that were made for nutsim, or None if it takes those of the room
+        self.files = None
         # the bound of each machine, or None
         self.bounds = []
 
+    @property
+    def hosts(self):
+        """Returns whoever calls servers: the machines and then the clients."""
+        return [*self.machines, *self.clients]
+
+    def servers_of(self, *machines):
+        """Returns the numbers of the servers at which machines have UPSes."""
+        return {self.owners[line.ups] for machine in machines for line in machine.rules.lines}
+
     def machine_number(self, name):
         return next((at for at, it in enumerate(self.machines) if it.name == name), None)
+
+    def ups_told(self, target):
+        """Returns the number of the UPS that nutsim names so."""
+        name = target.partition("@")[0]
+        return self.upses.index(name) if self.files is None else int(name[1:])
 
     def words_of_change(self, change):
         if change.ups is not None:

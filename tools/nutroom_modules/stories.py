@@ -105,12 +105,12 @@ def play_run(room, nutsim, seed, number):
     plan, told = settled(room, nutsim, f"{seed} {number}")
     stories = [Story() for _ in room.machines]
     for step, words in told:
-        if step <= len(plan.steps) and words[0] == "monitor":
+        if step <= len(plan.steps) and words[0] == "monitor" and int(words[1]) < len(stories):
             story, time, event = stories[int(words[1])], plan.times[step - 1], plan.events[step - 1]
             if words[2] == "phase":
                 story.take_phase(time, event[-1], words[3])
             else:
-                story.notices.append((time, words[3], room.upses.index(words[4].partition("@")[0]) if len(words) > 4 else None))
+                story.notices.append((time, words[3], room.ups_told(words[4]) if len(words) > 4 else None))
     for story, host, bound in zip(stories, plan.hosts, room.bounds):
         story.marks = host.marks
         story.judge(plan, host, bound)

@@ -85,10 +85,12 @@ class Summary:
         width = max(len(it.name) for it in self.room.machines)
         for machine, stories, bound in zip(self.room.machines, self.stories, self.room.bounds):
             kept = self.kept(stories)
+            # of a machine with UPSes at several servers only its bound is proved
+            aside = ", if its UPSes were at one server" if len(self.room.servers_of(machine)) > 1 else ""
             if bound is not None:
                 text = f"halted by {short_seconds(bound.start)} + {bound.terms} = {short_seconds(bound.end)}"
             elif kept:
-                text = "goes on: its UPSes are neither low nor forced, and DEADTIME is long enough"
+                text = f"goes on: its UPSes are neither low nor forced, and DEADTIME is long enough{aside}"
             else:
                 text = "nothing is said of it"
             if bound is not None and kept == 0:
@@ -99,10 +101,10 @@ class Summary:
             yield f"  {machine.name:<{width}}  {text}"
             if any(story.last_read is not None for story in stories):
                 sum_of = f"DEADTIME {machine.rules.dead_time} + 1 + {halt_terms(machine)} = {halts_when_cut_off(machine)}"
-                yield f"  {'':<{width}}  cut off on battery: halted within {sum_of} s of its last status"
+                yield f"  {'':<{width}}  cut off on battery: halted within {sum_of} s of its last status{aside}"
             if any(story.returned_end is not None for story in stories):
                 sum_of = f"{known_again_terms(machine)} + {halt_terms(machine)} = {halts_when_returned(machine)}"
-                yield f"  {'':<{width}}  once its links are back, and these UPSes are shown so: halted within {sum_of} s"
+                yield f"  {'':<{width}}  once its links are back, and these UPSes are shown so: halted within {sum_of} s{aside}"
 
     def sync_lines(self):
         """Yields whether each primary waits long enough for the others."""

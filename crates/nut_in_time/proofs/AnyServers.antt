@@ -14,7 +14,7 @@ use Rattle.nut_in_time.proofs.Ending.{EndsInTime, earliest-sooner, earliest-stay
 use Rattle.nut_in_time.proofs.Lasting.{AllGood, Chosen, Lasts}
 use Rattle.nut_in_time.proofs.Starting.{old-first}
 
-always-now : (configuration : Configuration) (Holds : List Entry → Type 0) (first newest : List Event) → Always configuration Holds first newest →
+pub always-now : (configuration : Configuration) (Holds : List Entry → Type 0) (first newest : List Event) → Always configuration Holds first newest →
     Holds (trace configuration (newest ++ first))
 always-now configuration Holds first [] h = h
 always-now configuration Holds first (event ∷ newest) h = h.0
@@ -28,7 +28,7 @@ ends-even configuration pace t0 first (event ∷ newest) even before =
     ends-next configuration pace.skip t0 (entry_of configuration past event) past even.0 (ends-even configuration pace t0 first newest even.1 before)
 
 -- A shutdown that has begun keeps its beginning.
-begun-on : (configuration : Configuration) (told later : List Event) → has_begun configuration (trace configuration told) ≡ true →
+pub begun-on : (configuration : Configuration) (told later : List Event) → has_begun configuration (trace configuration told) ≡ true →
     begun configuration (trace configuration (later ++ told)) ≡ begun configuration (trace configuration told)
 begun-on configuration told [] any = refl
 begun-on configuration told (event ∷ later) any =

@@ -34,7 +34,7 @@ use Rattle.nut_in_time.proofs.Granted.{answered-forced, entitled, entitled-force
 use Rattle.nut_in_time.proofs.Showing.{monitor-grows}
 use Rattle.nut_in_time.proofs.Standing.{connection-kept, server-climb}
 
-count-asked : (query : Query) (outcome : Outcome) → is_some (logins_in query outcome) ≡ true → query ≡ NumLogins
+pub count-asked : (query : Query) (outcome : Outcome) → is_some (logins_in query outcome) ≡ true → query ≡ NumLogins
 count-asked NumLogins outcome is = refl
 count-asked Username outcome is = cc
 count-asked Password outcome is = cc

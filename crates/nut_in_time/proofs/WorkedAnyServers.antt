@@ -38,12 +38,12 @@ happens-holds s (LinkLost i) is = tt
 happens-holds s (LinkTook i n) is = tt
 happens-holds s (OutOfMemory i piece k) is = tt
 
-abbrev were_accepted : Configuration → List Event → Bool
+abbrev pub were_accepted : Configuration → List Event → Bool
 were_accepted configuration [] = true
 were_accepted configuration (event ∷ told) =
     were_accepted configuration told && (is_none (refusal (content configuration told) event) && happens (content configuration told) event)
 
-accepted-holds : (configuration : Configuration) (told : List Event) → were_accepted configuration told ≡ true → IsAccepted configuration told
+pub accepted-holds : (configuration : Configuration) (told : List Event) → were_accepted configuration told ≡ true → IsAccepted configuration told
 accepted-holds configuration [] is = tt
 accepted-holds configuration (event ∷ told) is =
     let s = content configuration told in
@@ -51,12 +51,12 @@ accepted-holds configuration (event ∷ told) is =
     let both = and_parts (is_none (refusal s event)) (happens s event) parts.1 in
     (accepted-holds configuration told parts.0, (is_none-true (refusal s event) both.0, happens-holds s event both.1))
 
-abbrev is_even : Configuration → Pace → List Event → List Event → Bool
+abbrev pub is_even : Configuration → Pace → List Event → List Event → Bool
 is_even configuration pace first [] = true
 is_even configuration pace first (event ∷ newest) =
     nat_le (clock (trace configuration (event ∷ (newest ++ first)))) (clock (trace configuration (newest ++ first)) + suc pace.skip) && is_even configuration pace first newest
 
-even-holds : (configuration : Configuration) (pace : Pace) (first newest : List Event) → is_even configuration pace first newest ≡ true → IsEven configuration pace first newest
+pub even-holds : (configuration : Configuration) (pace : Pace) (first newest : List Event) → is_even configuration pace first newest ≡ true → IsEven configuration pace first newest
 even-holds configuration pace first [] is = tt
 even-holds configuration pace first (event ∷ newest) is =
     let now = clock (trace configuration (event ∷ (newest ++ first))) in
@@ -64,7 +64,7 @@ even-holds configuration pace first (event ∷ newest) is =
     let parts = and_parts (nat_le now most) (is_even configuration pace first newest) is in
     (leb-true now most parts.0, even-holds configuration pace first newest parts.1)
 
-abbrev keeps : Pace → ℕ → List Entry → Bool
+abbrev pub keeps : Pace → ℕ → List Entry → Bool
 keeps pace i past = linked i past && is_prompt pace.delay (clock past) (outstanding i past)
 
 keeps-holds : (pace : Pace) (i : ℕ) (past : List Entry) → keeps pace i past ≡ true → (linked i past ≡ true) × IsPrompt pace i past
@@ -72,11 +72,11 @@ keeps-holds pace i past is =
     let parts = and_parts (linked i past) (is_prompt pace.delay (clock past) (outstanding i past)) is in
     (parts.0, λ asked waits. prompt-holds pace.delay (clock past) (outstanding i past) parts.1 asked waits)
 
-abbrev always : Configuration → (List Entry → Bool) → List Event → List Event → Bool
+abbrev pub always : Configuration → (List Entry → Bool) → List Event → List Event → Bool
 always configuration test first [] = test (trace configuration first)
 always configuration test first (event ∷ newest) = test (trace configuration (event ∷ (newest ++ first))) && always configuration test first newest
 
-always-holds : (configuration : Configuration) (pace : Pace) (i : ℕ) (first newest : List Event) → always configuration (keeps pace i) first newest ≡ true →
+pub always-holds : (configuration : Configuration) (pace : Pace) (i : ℕ) (first newest : List Event) → always configuration (keeps pace i) first newest ≡ true →
     Always configuration (λ past. (linked i past ≡ true) × IsPrompt pace i past) first newest
 always-holds configuration pace i first [] is = keeps-holds pace i (trace configuration first) is
 always-holds configuration pace i first (event ∷ newest) is =
@@ -99,11 +99,11 @@ given-holds i n Words (Some b) is a e link status late =
     let told : says Words (status_in b.asked.query b.outcome) ≡ true = rw (e1, e2, e3) at is in
     subst (λ (x : Answer). Says Words (status_in x.asked.query x.outcome)) same (says-holds Words (status_in b.asked.query b.outcome) told)
 
-abbrev each_given : ℕ → ℕ → (List (List ℕ) → Bool) → List Entry → Bool
+abbrev pub each_given : ℕ → ℕ → (List (List ℕ) → Bool) → List Entry → Bool
 each_given i n Words [] = true
 each_given i n Words (entry ∷ past) = is_given i n Words entry.answer && each_given i n Words past
 
-each_given-holds : (i n : ℕ) (Words : List (List ℕ) → Bool) (past : List Entry) → each_given i n Words past ≡ true → EachGiven i n Words past
+pub each_given-holds : (i n : ℕ) (Words : List (List ℕ) → Bool) (past : List Entry) → each_given i n Words past ≡ true → EachGiven i n Words past
 each_given-holds i n Words [] is = tt
 each_given-holds i n Words (entry ∷ past) is =
     let parts = and_parts (is_given i n Words entry.answer) (each_given i n Words past) is in

@@ -6,3 +6,4 @@ pub mod CutOffExamples
 pub mod SeveralExamples
 pub mod ReturningExamples
 pub mod AnyServersExamples
+pub mod RoomAsToldExamples

@@ -1,6 +1,7 @@
 -- A machine with a UPS at each of two servers, computed from the definitions: it stops as late as it may.
 use Rattle.std.specs.Prelude.{◌≡◌, ℕ, zero, suc, ◌-◌, List, [], ◌∷◌, ◌++◌, codes, length, take, true, false}
 use Rattle.nut_monitor_spec.specs.declared.Phase.TheVariants.{Final, Halted}
+use Rattle.nut_monitor_spec.specs.Configuration.{Configuration}
 use Rattle.nut_monitor_spec.specs.Event.{Event}
 use Rattle.nut_monitor_spec.specs.Trace.{begun, clock, has_begun, phase, trace}
 use Rattle.nut_monitor_spec.specs.examples.Examples.{Move, at_moment, opens, played, run, shows, shows_other, two_primaries}
@@ -12,9 +13,12 @@ use Rattle.nut_in_time.specs.examples.Examples.{all, pace}
 abbrev pub both_read : List Event
 both_read = run two_primaries (at_moment 0 ∷ opens true 0 ++ shows (codes "OL") ∷ opens true 1 ++ shows_other (codes "OL") ∷ [])
 
--- its events after that, in these moves
+-- the events of these moves, after the first ones
+abbrev pub newest_of : Configuration → List Move → List Event → List Event
+newest_of configuration moves first = take (length (played configuration moves first) - length first) (played configuration moves first)
+
 abbrev pub since_then : List Move → List Event
-since_then moves = take (length (played two_primaries moves both_read) - length both_read) (played two_primaries moves both_read)
+since_then moves = newest_of two_primaries moves both_read
 
 -- the moments of n seconds from this time
 abbrev pub moments : ℕ → ℕ → List Move
