@@ -1,5 +1,5 @@
 -- What an arrival and the server's answer to it do to `Served`.
-use Rattle.std.proofs.Common.{◌≡◌, ℕ, eqb, List, [], ◌∷◌, Option, Some, None, unwrap_or, Result, Ok, Err, if◌then◌else◌, refl, sym, ◌∙◌, ap, subst, inl, inr, Bool, true, false}
+use Rattle.std.proofs.Common.{◌≡◌, ℕ, eqb, List, [], ◌∷◌, Option, Some, unwrap_or, Result, Ok, Err, if◌then◌else◌, refl, sym, ◌∙◌, ap, subst, inl, inr, Bool, true, false}
 use Rattle.std.specs.Prelude.{option_map, is_err}
 use Rattle.std.proofs.lemmas.Bool.{cases_Bool, eqb-true, true≢false}
 use Rattle.nut_server_spec.specs.declared.Place.{Place}
@@ -211,13 +211,6 @@ gave_ending first o' s s' n items found arrival r lack known before stands is pl
     let e : Event = event_of arrival in
     let nothing = ends_nothing n items e plain (sym stands ∙ ap (λ a. option_map event_of a) is) in
     subst (λ w. Served first o' s' w) (ended_without s e r nothing ∙ ended ∙ ap ended_in same) (gave first before.0 o' s s' n items found arrival r before.1 before.2 stands is answer leads)
-
--- nothing came
-pub gave_nothing : (first : Configuration) (o' : Option (List Entry)) (s : Content) (n : Next) (items : List ℕ) (found : Option Arrival)
-    → ServedBefore first o' s n items → option_map event_of found ≡ arrival_of n items → found ≡ None → Served first o' s []
-gave_nothing first o' s n items found before stands is =
-    let same : arrival_of n items ≡ None = sym stands ∙ ap (λ a. option_map event_of a) is in
-    subst (λ q. Served first q s []) (sym (before.2 ∙ ap (λ a. tells_arrival a before.0) same)) before.1
 
 -- ---- a reload
 

@@ -1,5 +1,5 @@
 -- What the world over memory notes, and what it then has left to give.
-use Rattle.std.proofs.Common.{◌≡◌, ℕ, zero, suc, ◌+◌, Bool, true, cond, List, [], ◌∷◌, ◌++◌, map, reverse, get_or, Option, Some, None, unwrap_or, sym, ◌∙◌, ap, subst, zero-add, arith}
+use Rattle.std.proofs.Common.{◌≡◌, ℕ, zero, suc, ◌+◌, Bool, true, cond, List, [], ◌∷◌, ◌++◌, map, reverse, get_or, Option, Some, unwrap_or, sym, ◌∙◌, ap, subst, zero-add, arith}
 use Rattle.std.specs.Prelude.{slice_get, remove, count_by}
 use Rattle.std.proofs.lemmas.List.{reverse-append, map-append}
 use Rattle.std.proofs.lemmas.List.Quantifiers.{position-Some}
@@ -44,9 +44,6 @@ came s left left' i n items place gives =
     let here : get_or left i (Close 0) ≡ gives.0 = sym (unwrap_or-slice_get left i (Close 0)) ∙ ap (λ x. unwrap_or x (Close 0)) gives.1 in
     may_come_next s n items (event_of_given gives.0) (subst (λ g. may_come s (event_of_given g) ≡ true) here first.1) gives.2
 
-pub not_end : (left left' : List Given) (i : ℕ) (n : Next) (items : List ℕ) → GivesAt (Some i) left left' n items → n ≡ next.End → ⊥
-not_end left left' i n items gives end = let none : None ≡ Some (event_of_given gives.0) = sym (ap (λ m. arrival_of m items) end) ∙ gives.2 in cc
-
 count-cons : (p : Event → Bool) (e : Event) (es : List Event) → count_by p (e ∷ es) ≡ cond (p e) 1 0 + count_by p es
 count-cons p e es = sum_by-cons (λ x. cond (p x) 1 0) e es
 
@@ -65,14 +62,6 @@ goes_on_more a b e silent grown same =
       more = e ∷ [];
       grown = grown;
       each = λ p. sym (ap (λ g. count_by p g + count_by p (map event_of_given b.left)) silent ∙ ap (λ l. 0 + count_by p (map event_of_given l)) same ∙ zero-add (count_by p (map event_of_given a.left)));
-    }
-
-pub goes_on_same : (a b : MemoryState) → b.log ≡ a.log → b.left ≡ a.left → GoesOn a b
-goes_on_same a b grown same =
-    record {
-      more = [];
-      grown = grown;
-      each = λ p. sym (ap (λ l. 0 + count_by p (map event_of_given l)) same ∙ zero-add (count_by p (map event_of_given a.left)));
     }
 
 -- What was given moves from what is left into the log.

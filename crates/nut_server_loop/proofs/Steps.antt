@@ -1,5 +1,5 @@
 -- Each step of the loop keeps `Served`.
-use Rattle.std.proofs.Common.{◌≡◌, ℕ, ◌<◌, ◌≤◌, false, List, [], ◌∷◌, ◌++◌, length, take, drop, Option, Some, None, Result, Ok, Err, IfSome, OnOk, OnErr, refl, sym, ◌∙◌, ap, subst, arith, length-append}
+use Rattle.std.proofs.Common.{◌≡◌, ℕ, ◌≤◌, false, List, [], ◌∷◌, ◌++◌, length, take, drop, Option, Some, None, Result, Ok, Err, IfSome, OnOk, OnErr, refl, sym, ◌∙◌, ap, subst, arith, length-append}
 use Rattle.std.proofs.lemmas.List.{append-nil, drop_all, take-append-le}
 use Rattle.nut_queue.specs.Front.{IsFrontPart}
 use Rattle.nut_server_spec.specs.declared.Place.{Place}
@@ -170,8 +170,3 @@ length_of_front part all front = omega (arith, ap length front.front, length-app
 
 pub take_of_front : (n : ℕ) (part all : List ℕ) → IsFrontPart part all → n ≤ length part → take n part ≡ take n all
 take_of_front n part all front fits = sym (ap (take n) front.front ∙ take-append-le n part (drop (length part) all) fits)
-
--- If something waits, something is offered.
-pub offers_some : (part all : List ℕ) → IsFrontPart part all → 0 < length all → 0 < length part
-offers_some [] all front some = absurd (omega (arith, some, ap length (front.some refl)))
-offers_some (x ∷ part) all front some = omega arith

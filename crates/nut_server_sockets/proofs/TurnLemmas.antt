@@ -19,10 +19,6 @@ use Rattle.nut_server_sockets.specs.Turns.{is_piece, moment_of, IsGivenBy, IsOfL
 pub stays : (a b : Rounds) → b ≡ a → Comes a b
 stays a b same = (([], ap (λ r. r.ready.waiting) same ∙ sym (append-nil a.ready.waiting)), ap (λ r. r.seconds) same)
 
--- some came, and then others
-pub comes_on : (a b c : Rounds) → Comes a b → Comes b c → Comes a c
-comes_on a b c first then = (looks_go_on [] [] a.ready b.ready c.ready first.0 then.0, then.1 ∙ first.1)
-
 -- others were looked at before
 of_last_still : (n : Next) (before looked : List ℕ) → IsOfLast n looked → IsOfLast n (before ++ looked)
 of_last_still n before looked found is =
@@ -75,10 +71,6 @@ pub look_more : (looked : List ℕ) (token : Token) (a b c d : Queue) → Looks 
 look_more looked token a b c d before taken came =
     let here : Looks (token.0 ∷ []) b c = ([], sym taken.0 ∙ sym (append-nil b.waiting)) in
     looks_go_on looked (token.0 ∷ []) a b d before (looks_go_on (token.0 ∷ []) [] b c d here came)
-
--- nothing was found
-pub found_none : (looked : List ℕ) (a b : Rounds) → Looks looked a.ready b.ready → b.seconds ≡ a.seconds → ComesInTurn Again a b
-found_none looked a b looks still = ((looked, looks, λ is. absurd (false≢true is)), ap (λ s. s.full) still)
 
 -- a round began
 pub began : (a b : Rounds) → b.ready ≡ begun a.ready → b.seconds ≡ a.seconds → Comes a b

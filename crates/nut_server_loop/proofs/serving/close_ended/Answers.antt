@@ -24,3 +24,15 @@ returns-in_err-close_driver-clause-err g c = closed_some _ _ _ _ _ _ c.loop-u.in
 
 pub returns-in_err-close-clause-err : goal.returns-in_err-close-clause-err
 returns-in_err-close-clause-err g c = closed_some _ _ _ _ _ _ c.loop-c.invariant.served c.in_err-close.ensures.err
+
+pub returns-in_err-close_driver-clause-reached : goal.returns-in_err-close_driver-clause-reached
+returns-in_err-close_driver-clause-reached g c = g.met.W.World.reached_on _ _ _ c.loop-u.invariant.reached c.in_err-close_driver.ensures.reached
+
+pub returns-in_err-close-clause-reached : goal.returns-in_err-close-clause-reached
+returns-in_err-close-clause-reached g c = g.met.W.World.reached_on _ _ _ c.loop-c.invariant.reached c.in_err-close.ensures.reached
+
+pub returns-clause-counted : goal.returns-clause-counted
+returns-clause-counted g c = c.loop-c.invariant.same_count
+
+pub returns-clause-reached : goal.returns-clause-reached
+returns-clause-reached g c = c.loop-c.invariant.reached
