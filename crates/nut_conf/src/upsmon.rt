@@ -1,5 +1,5 @@
 //! The file upsmon.conf.
-ghost use Rattle.std.specs.Prelude.{◌≡◌, IfErr, IsTrue, nat_lt, sum_by};
+ghost use Rattle.std.specs.Prelude.{◌≡◌, ◌≤◌, IfErr, IfOk, IsTrue, nat_lt, sum_by};
 ghost use Rattle.nut_words.specs.Quoting.{IsPrintable};
 ghost use Rattle.nut_conf.specs.Files.{Means};
 ghost use Rattle.nut_conf.specs.Memory.{MayRunOut};
@@ -244,6 +244,7 @@ impl Directives for UpsmonConf {
 /// a fault that has `MONITOR`, `NOTIFYMSG` or `NOTIFYFLAG`.
 pub fn read_upsmon(alloc: Global, bytes: &[u8]) -> Result<UpsmonConf, ConfFault>
     ensures means { Means (upsmon_reading bytes.now) UpsmonHolds result }
+    ensures supplied { IfOk result (λ conf. conf.min_supplies.value ≤ sum_by (λ m. m.power.value) conf.monitors.lines.items) }
     ensures memory { IfErr result (λ fault. fault.kind ≡ FaultKind.Memory → MayRunOut upsmon_fault upsmon_grows bytes.now fault.line) }
 {
     let conf: UpsmonConf = read_draft(alloc, bytes)?;
