@@ -27,7 +27,7 @@ from tests.support.monitored import (
     put_program,
 )
 from tests.peers.server import NutRoom, needed
-from tests.support.room import ONLINE, STATUS, stopped, until
+from tests.support.room import stopped, until
 
 ADMIN = b"[admin]\npassword = pw\nactions = SET\ninstcmds = ALL\n"
 HALTS = 'POWERDOWNFLAG FOLDER/flag\nSHUTDOWNCMD "touch FOLDER/halted"\n'
@@ -42,7 +42,7 @@ class Tests:
         return NutRoom((None, None), self.folder)
 
     def begin(self, room, text):
-        """Starts NUT's driver and its server, and waits until they report a status."""
+        """Starts NUT's driver, with this text, and its server, and waits until they report its status."""
         driver = needed("dummy-ups", "nut-server")
         needed("upsd", "nut-server")
         needed("upsc", "nut-client")
@@ -52,7 +52,9 @@ class Tests:
             file.write(ADMIN + USERS)
         room.driver_process = room.start_nut(driver, "-a", "su700")
         self.begin_server(room)
-        until(lambda: room.tool("upsc", "ROOM", "ups.status")[0] == 0, "NUT's upsd tells a status")
+        # until NUT's server has heard its driver, it shows WAIT
+        shown = text.split(b": ")[1].decode()
+        until(lambda: room.tool("upsc", "ROOM", "ups.status") == (0, shown), "NUT's upsd tells its driver's status")
         return f"su700@127.0.0.1:{room.port}"
 
     def begin_server(self, room):
@@ -102,7 +104,7 @@ class Tests:
                 self.set_status(room, "OB LB")
                 expect((guest.status(30), primary.status(30)), (0, 0), "status of both")
                 wanted = {ON_BATTERY % target, BATTERY_LOW % target, FORCED % target, SHUTDOWN}
-                expect((set(guest.lines()) <= wanted, guest.lines()[-1]), (True, SHUTDOWN), "what the secondary prints")
+                expect((set(guest.lines()) <= wanted, guest.lines()[-1]), (True, SHUTDOWN), f"what the secondary prints: {guest.lines()}")
                 expect(guest.read("flag"), None, "a secondary writes no POWERDOWNFLAG")
                 expect((primary.read("flag"), primary.read("halted")), (FLAG, b""), "the primary's halt")
 
@@ -116,8 +118,6 @@ class Tests:
         with self.room() as room:
             target = self.begin(room, b"ups.status: OL\n")
             numlogins = b"GET NUMLOGINS su700\n"
-            # until NUT's server has heard its driver, it shows WAIT
-            room.until(STATUS, ONLINE)
             with self.watch(target, ("mon", "wrong", "primary"), QUICK) as stranger:
                 refused = (1, "", f"upsmon: {target}: FSD failed: ACCESS-DENIED\n")
                 expect(self.force(stranger.folder), refused, "a wrong password")
