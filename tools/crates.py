@@ -8,7 +8,7 @@ LIST = os.path.join(ROOT, "crates.txt")
 
 
 def rows():
-    """Returns the line of each crate, by its name, in the order of the list: a crate stands below those that it uses."""
+    """Returns the line of each crate, by its name, in the order of the list."""
     with open(LIST, encoding="utf-8") as file:
         lines = [line.partition("#")[0].strip() for line in file]
     return {line.split(":")[0].split()[0]: line for line in lines if line}
@@ -21,14 +21,18 @@ def uses():
 
 
 def below(crates):
-    """Returns these crates and all below them, in the order of the list."""
-    used, left, found = uses(), list(crates), set()
-    while left:
-        crate = left.pop()
+    """Returns these crates and all below them, each behind those that it uses."""
+    used, found = uses(), {}
+
+    def add(crate):
         if crate not in found:
-            found.add(crate)
-            left += used[crate]
-    return [it for it in used if it in found]
+            for it in used[crate]:
+                add(it)
+            found[crate] = True
+
+    for crate in crates:
+        add(crate)
+    return list(found)
 
 
 def is_program(crate):
