@@ -64,6 +64,8 @@ def free_port():
             PORTS[:] = PORTS or block_of_ports()
             port = PORTS.pop()
             with contextlib.suppress(OSError), socket.socket() as free:
+                # a program that another thread is about to start has this socket, too, until it begins, and may not hold the port
+                free.setsockopt(socket.SOL_SOCKET, socket.SO_REUSEADDR, 1)
                 free.bind(("", port))
                 return port
 
