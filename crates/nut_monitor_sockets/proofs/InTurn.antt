@@ -1,7 +1,7 @@
 -- Looks at links in turn, one after the other.
 use Rattle.std.proofs.Common.{◌≡◌, ℕ, List, [], ◌∷◌, ◌++◌, ap, sym, subst, ◌∙◌, append_assoc}
 use Rattle.std.proofs.lemmas.List.{append-nil}
-use Rattle.nut_poll.specs.Queue.{Queue, Looks}
+use Rattle.nut_poll.specs.Queue.{Queue, Looks, begun}
 use Rattle.nut_poll.proofs.TurnLemmas.{looks_go_on}
 use Rattle.nut_monitor_loop.specs.declared.types.Next.{Next}
 use Rattle.nut_monitor_loop.specs.declared.types.Next.TheVariants.{Moment, Linked, LinkBytes, LinkLost, Again, End}
@@ -34,8 +34,17 @@ pub none_looked : (a b : Queue) → Looks [] a b → ComesInTurn Again a b
 none_looked a b came = ([], came, tt)
 
 -- a link was lost, and none was looked at
-pub lost_in_turn : (n : Next) (a b : Queue) → IsLoss n → Looks [] a b → ComesInTurn n a b
-lost_in_turn n a b loss came = subst (λ m. ComesInTurn m a b) (sym loss.1) ([], came, tt)
+pub lost_in_turn : (n : Next) (a b : Queue) → IsLoss n → b ≡ a → ComesInTurn n a b
+lost_in_turn n a b loss same = subst (λ m. ComesInTurn m a b) (sym loss.1) ([], stays a b same, tt)
+
+-- nothing came, others came to wait, and then this came
+pub waited : (n : Next) (a b c d : Queue) → ComesInTurn Again a b → Looks [] b c → ComesInTurn n c d → ComesInTurn n a d
+waited n a b c d first came then = in_turn n a c d (in_turn Again a b c first (none_looked b c came)) then
+
+-- a round began after those that were reported came to wait
+pub began : (a b c d e f : Queue) → Looks [] a b → c ≡ b → Looks [] c d → Looks [] d e → f ≡ begun e → Looks [] a f
+began a b c d e f first same then more is =
+    comes_on a b f first (comes_on b c f (stays b c same) (comes_on c d f then (comes_on d e f more ([], ap (λ q. q.waiting) is ∙ sym (append-nil e.waiting)))))
 
 -- the link that was looked at last gave this
 of_last : (n : Next) (others : List ℕ) (i : ℕ) → IsGivenBy i n → IsOfLast n (others ++ i ∷ [])

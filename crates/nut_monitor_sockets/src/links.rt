@@ -174,6 +174,7 @@ impl Links {
     /// # Errors
     ///
     /// The error of the wait or of the clock.
+    #[tactic(auto, using(crate::proofs::InTurn::in_turn, crate::proofs::InTurn::lost_in_turn, crate::proofs::InTurn::waited))]
     pub fn next<R: Net + Clock + Processes>(
         &mut self,
         services: &mut Services<'_, '_, R>,
@@ -652,6 +653,7 @@ fn unserved(name: &str, loss: Loss) -> Report<'_> {
 }
 
 /// Notes the events of the links.
+#[tactic(auto, using(crate::proofs::InTurn::stays, crate::proofs::InTurn::comes_on))]
 fn note(events: &Events, ready: &mut Ready, upstreams: &mut [Upstream])
     ensures { Looks [] ready.old ready.new }
 {

@@ -1,7 +1,6 @@
 -- What is handed on by calls after calls.
 use Rattle.std.specs.Prelude.{◌≡◌, ◌⊎◌, ℕ, Bool, true, false, List, [], ◌∷◌, ◌++◌, if◌then◌else◌, refl}
 use Rattle.std.proofs.Common.{sym, ◌∙◌, ap, append_assoc, append-nil, inl, inr}
-use Rattle.nut_conf.specs.declared.upsmon.UpsmonConf.{UpsmonConf}
 use Rattle.nut_conf.specs.declared.notice.Notice.TheVariants.{Commbad, Commok}
 use Rattle.nut_monitor_spec.specs.declared.Notice.{Notice}
 use Rattle.nut_monitor_loop.specs.Record.{Entry, given_by, Gave, TookBytes, WasLate, WriteBroke, WasClosed, WasTold}

@@ -1,0 +1,16 @@
+use Rattle.std.proofs.Common.{◌≡◌, sym, subst, ◌∙◌}
+use Rattle.nut_monitor_loop.specs.declared.types.Next.TheVariants.{Again}
+use Rattle.nut_monitor_sockets.specs.Turns.{ComesInTurn}
+use Rattle.nut_monitor_sockets.proofs.InTurn.{waited}
+use Rattle.nut_monitor_sockets.proofs.links.Links.next.Goals as goal
+
+pub returns-clause-turns : goal.returns-clause-turns
+returns-clause-turns g c =
+    let start = c.args.self.now.rounds.ready in
+    let looked = c.look.new.self.rounds.ready in
+    let came = c.wait.new.self.rounds.ready in
+    let end = c.look-next.new.self.rounds.ready in
+    let same : c.follow_up.new.self.rounds.ready ≡ start = c.follow_up.ensures.turns ∙ c.follow.ensures in
+    let first : ComesInTurn Again start looked = subst (λ q. ComesInTurn Again q looked) same c.in_default-look.ensures.turns in
+    let then : ComesInTurn c.unwrap_or.result came end = subst (λ n. ComesInTurn n came end) (sym c.unwrap_or.ensures) c.look-next.ensures.turns in
+    waited c.unwrap_or.result start looked came end first c.in_ok-wait.ensures then
