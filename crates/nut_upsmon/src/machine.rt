@@ -50,7 +50,7 @@ pub struct MachineStarter<'r, R> {
     pub rt: &'r R,
     pub alloc: Global,
     /// Where its halts take their memory from, unless none is available for that.
-    pub heap: Option<&'r LocalHeap>,
+    pub heap: &'r Option<LocalHeap>,
     pub reloader: Reloader,
     pub streams: Streams,
 }

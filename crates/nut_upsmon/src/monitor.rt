@@ -217,7 +217,7 @@ where
     let starter = MachineStarter {
         rt,
         alloc,
-        heap: heap.as_ref(),
+        heap: &heap,
         reloader,
         streams,
     };
