@@ -1,5 +1,6 @@
 -- What upsmon did, with a halt in the end.
-use Rattle.std.proofs.Common.{◌≡◌, ℕ, Bool, true, false, List, ◌∷◌, Option, Some, None, IfSome, if◌then◌else◌, refl, sym, ap, subst}
+use Rattle.std.proofs.Common.{◌≡◌, ℕ, Bool, true, false, List, [], ◌∷◌, Option, Some, None, IfSome, if◌then◌else◌, refl, sym, ap, subst}
+use Rattle.std.specs.List.{AllByRecursion}
 use Rattle.nut_conf.specs.declared.upsmon.UpsmonConf.{UpsmonConf}
 use Rattle.nut_conf.specs.declared.notice.NoticeFlags.{NoticeFlags}
 use Rattle.nut_conf.specs.Upsmon.{flags_of}
@@ -7,12 +8,41 @@ use Rattle.nut_monitor.specs.Texts.{text_of}
 use Rattle.nut_monitor_spec.specs.declared.Notice.{Notice}
 use Rattle.nut_monitor_spec.specs.declared.Phase.TheVariants.{Halted}
 use Rattle.nut_upsmon.specs.declared.beginning.Beginning.{Beginning}
-use Rattle.nut_upsmon.specs.Acts.{Act, Printed, Called, TriedFlag, RanShutdown, ClearsFirst, does, printed, called, is_to_call, is_to_print, told_by, told, IsHalted, Says}
+use Rattle.nut_upsmon.specs.Acts.{Act, ClearedFlag, Readied, Changed, Printed, Called, TriedFlag, RanShutdown, ClearsFirst, IsQuiet, readied, does, printed, called, is_to_call, is_to_print, told_by, told, IsHalted, Says}
 use Rattle.nut_upsmon.specs.inside.Ready.{IsReady}
 
 -- one more act
 pub clears_first : (act : Act) (acts : List Act) → ClearsFirst acts → ClearsFirst (act ∷ acts)
 clears_first act acts is = (is.0, act ∷ is.1, ap (λ l. act ∷ l) is.2)
+
+-- after the first acts this configuration is in force
+pub ready_first : (log log' : Option (List Act)) (next : Option Beginning) (config : UpsmonConf) → IfSome log (λ acts. acts ≡ ClearedFlag config ∷ []) → next ≡ None
+    → log' ≡ does Changed (does (Readied config) log) → IsReady log' next config
+ready_first None log' next config blank none same = subst (λ o. IsReady o next config) (sym same) tt
+ready_first (Some acts) log' next config blank none same =
+    subst (λ o. IsReady o next config) (sym same)
+    (subst (λ n. IsReady (Some (Changed ∷ Readied config ∷ acts)) n config) (sym none) (
+      subst (λ l. AllByRecursion IsQuiet (Changed ∷ Readied config ∷ l)) (sym blank) (tt, (tt, (tt, tt))),
+      refl,
+      tt,
+      (config, Changed ∷ [], ap (λ l. Changed ∷ Readied config ∷ l) blank),
+    ))
+
+-- that of the next watch was readied
+pub ready_next : (log log' : Option (List Act)) (next : Option Beginning) (b : Beginning) (config : UpsmonConf) → log' ≡ does (Readied b.monitor.config) log
+    → IsReady log next config → IsReady log' (Some b) config
+ready_next None log' next b config same ready = subst (λ o. IsReady o (Some b) config) (sym same) tt
+ready_next (Some acts) log' next b config same ready =
+    subst (λ o. IsReady o (Some b) config) (sym same) ((tt, ready.0), ready.1, refl, clears_first (Readied b.monitor.config) acts ready.3)
+
+-- and is in force
+pub ready_changed : (log log' : Option (List Act)) (next next' : Option Beginning) (b : Beginning) (config : UpsmonConf) → next ≡ Some b → next' ≡ None → log' ≡ does Changed log
+    → IsReady log next config → IsReady log' next' b.monitor.config
+ready_changed None log' next next' b config some none same ready = subst (λ o. IsReady o next' b.monitor.config) (sym same) tt
+ready_changed (Some acts) log' next next' b config some none same ready =
+    subst (λ o. IsReady o next' b.monitor.config) (sym same)
+    (subst (λ n. IsReady (Some (Changed ∷ acts)) n b.monitor.config) (sym none)
+    ((tt, ready.0), subst (λ (n : Option Beginning). IfSome n (λ b. readied acts ≡ Some b.monitor.config)) some ready.2, tt, clears_first Changed acts ready.3))
 
 -- the halt of the configuration in force
 pub halted : (log log' : Option (List Act)) (next : Option Beginning) (config : UpsmonConf) (flag : Bool)
