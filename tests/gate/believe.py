@@ -52,6 +52,8 @@ PROMISES = (
     ("The monitor's loop", "what a world gives and takes is what a monitor is told and asks", (
         ("nut_monitor_loop", "watching.rt", ("watch",)), ("nut_monitor_loop", "world.rt", ("MonWorld.*",)),
         ("nut_monitor_loop", None, ("watch_memory",)))),
+    ("A monitor's sockets", "which link is looked at next", (
+        ("nut_monitor_sockets", "links.rt", ("Links.next",)),)),
     ("What upsmon does to its machine", "when SHUTDOWNCMD is run, and who is told a notice", (
         ("nut_upsmon", "watching.rt", ("watch_in_turn",)), ("nut_upsmon", "guard.rt", ("tell",)),
         ("nut_upsmon", "actor.rt", ("Actor.*",)))),
