@@ -60,9 +60,10 @@ class Poller:
             time.sleep(self.pause)
 
     def stop(self, least):
-        """Ends it once it was answered so often, and each of its requests once more."""
-        least = max(least, self.asked + len(self.requests))
-        until(lambda: self.asked > least or self.wrong, f"a client that asks all the time is answered {least} times", 60)
+        """Ends it. It has been answered more often than this by now, and is answered each of its requests once more."""
+        ensure(self.asked > least, "a client that asks all the time was hardly served")
+        wanted = self.asked + len(self.requests)
+        until(lambda: self.asked > wanted or self.wrong, "a client that asks all the time is served on", 60)
         self.goes_on = False
         self.thread.join(SOON)
         self.client.close()
