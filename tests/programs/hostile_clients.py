@@ -21,7 +21,7 @@ import tempfile
 import time
 
 from tests.support.harness import build_library, cannot_read, ensure, expect, needs_proved_build, patience, processor_time, run_tests
-from tests.support.room import NOT_CONNECTED, ONLINE, SOON, STATUS, VERSION, Client, Lines, Room
+from tests.support.room import NOT_CONNECTED, ONLINE, NO_PINGS, SOON, STATUS, VERSION, Client, Lines, Room
 from tests.support.room import accepted, descriptors, said, stopped, until
 
 # the default of MAXCONN
@@ -260,7 +260,7 @@ class Tests:
 
     def test_silent_login(self):
         """Ten minutes of the server's clock last twelve seconds here."""
-        with self.room(conf=b"MAXAGE 86400\n") as room:
+        with self.room(conf=NO_PINGS) as room:
             room.dummy()
             upsd = self.hastened(room, 50)
             begun = time.monotonic()

@@ -16,7 +16,7 @@ import tempfile
 import time
 
 from tests.support.harness import ensure, expect, run_tests
-from tests.support.room import Client, Lines, ONLINE, Room, STATUS, accepted, stopped, until
+from tests.support.room import Client, Lines, ONLINE, Room, NO_PINGS, STATUS, accepted, stopped, until
 
 UPS = "upsd: UPS su700: "
 ADMIN, MON = "admin@127.0.0.1", "mon@127.0.0.1"
@@ -152,7 +152,7 @@ class Tests:
             room.expect_told([], "refused requests")
 
     def test_a_full_queue(self):
-        with self.room(conf=b"MAXAGE 86400\n") as room, room.driver() as listener:
+        with self.room(conf=NO_PINGS) as room, room.driver() as listener:
             room.serve()
             with accepted(listener) as driver:
                 driver.sendall(b'SETINFO ups.id "x"\nSETFLAGS ups.id RW STRING\nSETAUX ups.id 512\nDATAOK\nDUMPDONE\n')
@@ -207,7 +207,7 @@ class Tests:
 
     def test_clients_that_do_not_stay(self):
         """Clients that are gone before they are answered: each request that the driver gets is told, and no other."""
-        with self.room(conf=b"MAXAGE 86400\n") as room, room.driver() as listener:
+        with self.room(conf=NO_PINGS) as room, room.driver() as listener:
             room.serve()
             with accepted(listener) as driver, driver.makefile("rb") as asked:
                 driver.sendall(b'SETINFO ups.status "OL"\nSETINFO ups.id "x"\nDATAOK\n')
@@ -290,7 +290,7 @@ class Tests:
 
     def test_many_requests_at_once(self):
         """Requests between a great many others, in pieces that end anywhere."""
-        with self.room(conf=b"MAXAGE 86400\n") as room:
+        with self.room(conf=NO_PINGS) as room:
             room.dummy()
             room.serve()
             room.until(STATUS, ONLINE)
@@ -417,7 +417,7 @@ class Tests:
     def test_lines_of_a_driver_that_cannot_be_read(self):
         """A value with a quote that isn't escaped: the earlier one stays until the driver connects again, and that is told once."""
         for words in ((), ("-q",)):
-            with self.room(conf=b"MAXAGE 86400\n") as room, room.driver() as listener:
+            with self.room(conf=NO_PINGS) as room, room.driver() as listener:
                 room.serve(*words)
                 with accepted(listener) as driver:
                     driver.sendall(b'SETINFO ups.status "OL"\nSETINFO ups.id "old"\nDATAOK\nDUMPDONE\n')
@@ -439,7 +439,7 @@ class Tests:
 
     def test_many_lines_of_a_driver_that_cannot_be_read(self):
         nameless, more = f"{UPS}cannot read a line of its driver", f"{UPS}cannot read what its driver says of more variables"
-        with self.room(conf=b"MAXAGE 86400\n") as room, room.driver() as listener:
+        with self.room(conf=NO_PINGS) as room, room.driver() as listener:
             room.serve()
             with accepted(listener) as driver:
                 driver.sendall(b'SETINFO ups.status "OL"\nDATAOK\nDUMPDONE\n')

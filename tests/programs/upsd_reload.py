@@ -17,7 +17,7 @@ import time
 from concurrent import futures
 
 from tests.support.harness import apart, ensure, expect, Failed, fewer, Missing, needed, patience, processor_time, refusal, run_tests, Shimmed
-from tests.support.room import Client, DEVICE, Lines, NOT_CONNECTED, ONLINE, Room, SOON, STATUS, USERS, VERSION
+from tests.support.room import Client, DEVICE, Lines, NOT_CONNECTED, ONLINE, Room, NO_PINGS, SOON, STATUS, USERS, VERSION
 from tests.support.room import accepted, descriptors, first_lines, stopped, until
 
 ONE = b'[su700]\ndesc = "Server room"\n'
@@ -25,8 +25,6 @@ TWO = ONE + b"[old]\n"
 MONITOR = b"[mon]\npassword = m1\nupsmon primary\n"
 NOTHING = "upsd: reloaded: nothing changed"
 ORDER = "upsd: reloaded: order of UPSes"
-# for drivers that the test plays: they are asked for no sign of life
-SILENT = b"MAXAGE 86400\n"
 # a moment in which upsd looks for the file at least twice, in seconds
 LOOKS = 2.5
 # how many allocations in turn no reload has met before the rest are taken to come after it
@@ -214,7 +212,7 @@ class Tests(Shimmed):
                 expect(room.upses(), names, said)
 
     def test_same_link_to_a_driver_that_stays(self):
-        with self.room(ups=TWO, conf=SILENT) as room, room.driver() as listener:
+        with self.room(ups=TWO, conf=NO_PINGS) as room, room.driver() as listener:
             room.serve()
             with play_driver(listener) as link:
                 room.until(STATUS, ONLINE)
@@ -229,7 +227,7 @@ class Tests(Shimmed):
                 raise Failed("a driver that stays is dialled again")
 
     def test_other_driver(self):
-        with self.room(ups=ONE, conf=SILENT) as room, room.driver() as listener, room.listener("other-su700") as other:
+        with self.room(ups=ONE, conf=NO_PINGS) as room, room.driver() as listener, room.listener("other-su700") as other:
             room.serve()
             with play_driver(listener) as link, room.client() as client:
                 room.until(STATUS, ONLINE)
@@ -671,7 +669,7 @@ class Tests(Shimmed):
         """It is told, of clients at most once a second, and of those that leave by themselves never."""
         once = os.path.join(self.folder, "parched")
         driver_told, client_told = "upsd: UPS su700: driver disconnected: out of memory", "upsd: client 127.0.0.1 closed: out of memory"
-        with self.room(conf=SILENT) as room, room.driver() as listener:
+        with self.room(conf=NO_PINGS) as room, room.driver() as listener:
             lines, (upsd,) = room.serve(env=self.refusing_memory(once)), room.running
             with play_driver(listener) as link, contextlib.ExitStack() as closing:
                 room.until(STATUS, ONLINE)

@@ -17,7 +17,7 @@ import time
 from concurrent import futures
 
 from tests.support.harness import Failed, Missing, apart, built_without_proof, cannot_read, expect, patience, processor_time, run_tests
-from tests.support.room import Client, DEVICE, Lines, NOT_CONNECTED, ONLINE, Room, SOON, STATUS, VERSION
+from tests.support.room import Client, DEVICE, Lines, NOT_CONNECTED, ONLINE, Room, NO_PINGS, SOON, STATUS, VERSION
 from tests.support.room import accepted, connected, family_of, first_lines, free_port, give_address, has_ipv6, heed_modes, raise_loopback
 from tests.support.room import said, stopped, until
 
@@ -263,7 +263,7 @@ class Tests:
 
     def test_driver_that_never_reads(self):
         # the driver says nothing more, and its data must not become stale meanwhile
-        with self.room(conf=b"MAXAGE 86400\n") as room, room.driver() as listener:
+        with self.room(conf=NO_PINGS) as room, room.driver() as listener:
             upsd = room.upsd()
             with accepted(listener) as driver, room.client() as client:
                 driver.sendall(b'SETINFO ups.id "x"\nSETFLAGS ups.id RW STRING\nSETAUX ups.id 128\nDATAOK\nDUMPDONE\n')

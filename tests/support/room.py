@@ -24,6 +24,8 @@ ONLINE = b'VAR su700 ups.status "OL"\n'
 NOT_CONNECTED = b"ERR DRIVER-NOT-CONNECTED\n"
 # how long a thing may take that should come soon, in seconds: upsd connects to a driver once a second
 SOON = 10.0
+# the upsd.conf of a server that asks drivers for no sign of life, such as those that a test plays
+NO_PINGS = b"MAXAGE 86400\n"
 
 
 def until(test, what, within=SOON, pause=0.02):
