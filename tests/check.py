@@ -30,6 +30,7 @@ TESTS = (
     ("programs.upsd_stdio", ("upsd",)),
     ("programs.files", ("upsd", "upsmon")),
     ("rehearsals.server", ("rehearse",)),
+    ("rehearsals.serving", ("rehearse",)),
     ("rehearsals.dummy", ("rehearse",)),
     ("rehearsals.monitor", ("rehearse",)),
     ("rehearsals.links", ("rehearse",)),

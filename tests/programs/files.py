@@ -11,12 +11,13 @@ import subprocess
 import sys
 import tempfile
 
+from tests.support import manual
 from tests.support.harness import ensure, expect, run_tests
 
 
 def numbered(line, count):
     """Returns that many lines, each with its number, from 0 on."""
-    return b"".join(line % number for number in range(count))
+    return line[:0].join(line % number for number in range(count))
 
 
 # For each file texts of it with the line and the kind of their fault, which is None if they have none.
@@ -143,9 +144,7 @@ FILES = {
     ],
     "upsd.conf": [
         (b"", None),
-        (b"MAXAGE 15\nMAXAGE 0\n", "2: BadNumber"),
         (b"MAXAGE 15\nMAXAGE 16\n", "2: Repeated"),
-        (b"MAXAGE\n", "1: BadForm"),
         (b"MAXAGE = 5\n", "1: BadForm"),
         (b"MAXAGE 0 0\n", "1: BadForm"),
         (b"MAXAGE 1x\n", "1: BadNumber"),
@@ -154,8 +153,6 @@ FILES = {
         (b"MAXAGE +1\n", "1: BadNumber"),
         (b"maxage 5\n", "1: UnknownDirective"),
         (b"[a]\n", "1: UnknownDirective"),
-        (b"MAXCONN 256\nMAXCONN 257\n", "2: BadNumber"),
-        (b"MAXCONN 1\nMAXCONN 1\n", "2: Repeated"),
         (b"LISTEN\n", "1: BadForm"),
         (b"LISTEN a 1 2\n", "1: BadForm"),
         (b"LISTEN a_b 1 2\n", "1: BadForm"),
@@ -168,12 +165,6 @@ FILES = {
         # numbers
         (b"LISTEN a 1\nLISTEN a 65535", None),
         (b"LISTEN a 65536", "1: BadNumber"),
-        (b"MAXAGE 1\nMAXCONN 1", None),
-        (b"MAXAGE 86400\nMAXCONN 256", None),
-        (b"MAXAGE 0", "1: BadNumber"),
-        (b"MAXAGE 86401", "1: BadNumber"),
-        (b"MAXCONN 0", "1: BadNumber"),
-        (b"MAXCONN 257", "1: BadNumber"),
         (b"MAXAGE 000000015", None),
         (b"MAXAGE 0000000015", "1: BadNumber"),
         # limits, at each of them and just past it
@@ -237,7 +228,6 @@ FILES = {
         (b"MINSUPPLIES 0\nNOTIFYCMD a\nPOWERDOWNFLAG a\nNOTIFYCMD a\n", "4: Repeated"),
         (b"MINSUPPLIES 0\nPOWERDOWNFLAG a\nPOWERDOWNFLAG a\n", "3: Repeated"),
         (b"MINSUPPLIES 0\nMINSUPPLIES x\n", "2: BadNumber"),
-        (b"MINSUPPLIES 0\nMINSUPPLIES 0\n", "2: Repeated"),
         # notices
         (b"MINSUPPLIES 0\nNOTIFYMSG ONLINE x\nNOTIFYMSG ONBATT x\n", None),
         (b"MINSUPPLIES 0\nNOTIFYMSG ONLINE x\nNOTIFYMSG ONLINE y\n", "3: Repeated"),
@@ -257,19 +247,10 @@ FILES = {
         (b"MINSUPPLIES 0\nNOTIFYFLAG ONLINE exec\n", "2: UnknownWord"),
         (b"MINSUPPLIES 0\nNOTIFYFLAG ONLINE EXEC + WALL\n", "2: BadForm"),
         (b"MINSUPPLIES 0\nNOTIFYFLAG TEST EXEC\n", "2: UnknownWord"),
-        (b"MINSUPPLIES 0\nPOLLFREQ 5\nPOLLFREQ 5\n", "3: Repeated"),
         # numbers
         (b"MONITOR u@h 1000 m p primary", None),
         (b"MONITOR u@h 1001 m p primary", "1: BadNumber"),
         (b"MINSUPPLIES 32000", "0: PastLimit"),
-        (b"MINSUPPLIES 32001", "1: BadNumber"),
-        (b"MINSUPPLIES 0\nPOLLFREQ 1\nDEADTIME 1\nRBWARNTIME 1\nNOCOMMWARNTIME 1\nHOSTSYNC 0\nFINALDELAY 0", None),
-        (b"MINSUPPLIES 0\nPOLLFREQ 1000000\nHOSTSYNC 1000000", None),
-        (b"POLLFREQ 0", "1: BadNumber"),
-        (b"DEADTIME 0", "1: BadNumber"),
-        (b"RBWARNTIME 1000001", "1: BadNumber"),
-        (b"NOCOMMWARNTIME 0", "1: BadNumber"),
-        (b"HOSTSYNC 1000001", "1: BadNumber"),
         # limits, at each of them and just past it
         (b"MONITOR " + b"u" * 33 + b"@h 1 m p primary", "1: BadName"),
         (b"MONITOR " + b"u" * 32 + b"@" + b"h" * 64 + b" 1 m p primary", None),
@@ -351,7 +332,7 @@ def named(most):
     return f"a name is meant, of 1 to {most} letters, digits, '.', '_' and '-'"
 
 
-TYPES = "'ONLINE', 'ONBATT', 'LOWBATT', 'FSD', 'COMMOK', 'COMMBAD', 'SHUTDOWN', 'REPLBATT' or 'NOCOMM'"
+TYPE = manual.type_meant()
 FLAGS = "SYSLOG, WALL, EXEC and IGNORE are meant, with '+' between them"
 TARGET = "UPS@HOST[:PORT] is meant, HOST a name or an IPv4 address (an IPv6 address needs a name in /etc/hosts)"
 ADDRESS = "the name or the address of a host is meant, without brackets; a port is a word of its own"
@@ -426,25 +407,12 @@ MEANT = {
         (b"LISTEN\n", "BadForm", "LISTEN ADDRESS [PORT] is meant"),
         (b"LISTEN a 65536\n", "BadNumber", "65536: a number from 1 to 65535 is meant"),
         (b"LISTEN a\n" * 17, "PastLimit", "at most 16 LISTEN lines are taken"),
-        (b"MAXAGE 86401\n", "BadNumber", "86401: a number from 1 to 86400 is meant"),
         (b'MAXAGE ""\n', "BadNumber", "SECONDS: a number from 1 to 86400 is meant"),
         (b"MAXAGE = 5\n", "BadForm", "MAXAGE SECONDS is meant"),
-        (b"MAXAGE 5\nMAXAGE 5\n", "Repeated", "MAXAGE: a line before has it"),
-        (b"MAXCONN 257\n", "BadNumber", "257: a number from 1 to 256 is meant"),
-        (b"MAXCONN\n", "BadForm", "MAXCONN NUMBER is meant"),
         (b"STATEPATH x\n", "UnknownDirective", "STATEPATH isn't taken here: see from-nut(7)"),
     ],
     "upsmon.conf": [
         (b"", "PastLimit", POWER),
-        (b"MINSUPPLIES 32001\n", "BadNumber", "32001: a number from 0 to 32000 is meant"),
-        (b"MINSUPPLIES\n", "BadForm", "MINSUPPLIES NUMBER is meant"),
-        (b"POLLFREQ 1000001\n", "BadNumber", "1000001: a number from 1 to 1000000 is meant"),
-        (b"DEADTIME 0\n", "BadNumber", "0: a number from 1 to 1000000 is meant"),
-        (b"RBWARNTIME 0\n", "BadNumber", "0: a number from 1 to 1000000 is meant"),
-        (b"NOCOMMWARNTIME 0\n", "BadNumber", "0: a number from 1 to 1000000 is meant"),
-        (b"HOSTSYNC 1000001\n", "BadNumber", "1000001: a number from 0 to 1000000 is meant"),
-        (b"FINALDELAY -1\n", "BadNumber", "-1: a number from 0 to 1000000 is meant"),
-        (b"FINALDELAY\n", "BadForm", "FINALDELAY SECONDS is meant"),
         (b"SHUTDOWNCMD /sbin/shutdown -h\n", "BadForm", 'SHUTDOWNCMD "COMMAND" is meant'),
         (b'SHUTDOWNCMD ""\n', "PastLimit", "COMMAND: 1 to 256 bytes are meant"),
         (b"NOTIFYCMD a b\n", "BadForm", 'NOTIFYCMD "COMMAND" is meant'),
@@ -452,12 +420,12 @@ MEANT = {
         (b"POWERDOWNFLAG a b\n", "BadForm", 'POWERDOWNFLAG "FILE" is meant'),
         (b"POWERDOWNFLAG " + b"c" * 257, "PastLimit", "FILE: 1 to 256 bytes are meant"),
         (b"NOTIFYMSG ONLINE on line\n", "BadForm", 'NOTIFYMSG TYPE "TEXT" is meant'),
-        (b"NOTIFYMSG NOPARENT x\n", "UnknownWord", f"NOPARENT: {TYPES} is meant"),
+        (b"NOTIFYMSG NOPARENT x\n", "UnknownWord", f"NOPARENT: {TYPE}"),
         (b"NOTIFYMSG FSD " + b"c" * 129, "PastLimit", "TEXT: 0 to 128 bytes are meant"),
         (b"NOTIFYMSG FSD a\nNOTIFYMSG FSD b\n", "Repeated", "FSD: a line before has it"),
         (b"NOTIFYFLAG ONLINE EXEC + WALL\n", "BadForm", "NOTIFYFLAG TYPE FLAG[+FLAG].. is meant"),
         (b"NOTIFYFLAG ONLINE MAIL\n", "UnknownWord", f"MAIL: {FLAGS}"),
-        (b"NOTIFYFLAG TEST MAIL\n", "UnknownWord", f"TEST: {TYPES} is meant"),
+        (b"NOTIFYFLAG TEST MAIL\n", "UnknownWord", f"TEST: {TYPE}"),
         (b"RUN_AS_USER nut\n", "UnknownDirective", "RUN_AS_USER isn't taken here: see from-nut(7)"),
         (numbered(b"MONITOR u%d@h 1 m p primary\n", 33), "PastLimit", "at most 32 MONITOR lines are taken"),
         # lines with a password, which may be in a wrong place
@@ -486,6 +454,24 @@ MEANT = {
         (b"DESC a x\n", "UnknownDirective", "DESC isn't taken here: see from-nut(7)"),
     ],
 }
+
+
+def texts_of_numbers(page):
+    """Yields texts about each directive that has one number, with the kind of the fault in the last line, which is None if it has
+    none, and what is said to be meant. Limits and forms are those of the manual page."""
+    head = numbered("MONITOR u%d@h 1000 m p primary\n", 32) if page == "upsmon.conf" else ""
+    for word, (name, least, most, _) in manual.numbers(page).items():
+        right = f"a number from {least} to {most} is meant"
+        for line, kind, meant in (
+            (f"{word} {least}", None, None),
+            (f"{word} {most}", None, None),
+            (f"{word} {least - 1}", "BadNumber", f"{least - 1}: {right}"),
+            (f"{word} {most + 1}", "BadNumber", f"{most + 1}: {right}"),
+            (f"{word} {least}\n{word} {most + 1}", "BadNumber", f"{most + 1}: {right}"),
+            (f"{word} {least}\n{word} {least}", "Repeated", f"{word}: a line before has it"),
+            (f"{word}", "BadForm", f"{word} {name} is meant"),
+        ):
+            yield head + line, kind, meant
 
 
 class Tests:
@@ -528,6 +514,18 @@ class Tests:
 
     def test_cmdvartab(self):
         self.compare("cmdvartab", self.upsd, ups_conf=b"", upsd_users=b"", upsd_conf=b"")
+
+    def test_numbers(self):
+        for page, program, others in (("upsd.conf", self.upsd, {"ups_conf": b"", "upsd_users": b""}), ("upsmon.conf", self.upsmon, {})):
+            for text, kind, meant in texts_of_numbers(page):
+                status, out, err = self.checked(program, **others, **{page.replace(".", "_"): text.encode()})
+                own = os.path.basename(program)
+                what = f"{page}: {text[-60:]!r}"
+                if kind is None:
+                    ensure(status == 0 and f"{own}: {page}:".encode() not in err, f"{what}: found {status}, {err!r}")
+                    continue
+                said = [f"{own}: {page}:{len(text.splitlines())}: {kind}", f"{own}: {meant}"]
+                expect((status, out, err.decode().splitlines()), (1, b"", said), what)
 
     def test_what_is_meant(self):
         """The second line of a fault. No password is in either."""

@@ -13,6 +13,7 @@ import subprocess
 import sys
 import tempfile
 
+from tests.support import manual
 from tests.support.harness import ensure, expect, Missing, ROOT, run_tests
 
 SOURCE = os.path.join(ROOT, "docs", "from-nut.md")
@@ -219,12 +220,16 @@ class Tests:
                 expect(len(row), 2, f"the cells of {row}")
 
     def test_taken_directives_are_those_of_the_readers(self):
-        """What is called taken here is in docs/configuration.md, and what isn't is not."""
+        """What is called taken here is in the file's manual page, or for cmdvartab in docs/configuration.md, and what isn't is not.
+        The page says of a directive if NUT has none of that name."""
         for section, found in self.sections().items():
             if section not in LINES:
                 continue
-            table = re.search(rf"^## {section}\n(.*?)(?=^## )", text_of(os.path.join(ROOT, "docs/configuration.md")), re.MULTILINE | re.DOTALL)[1]
-            ours = set(re.findall(r"^\| `([A-Za-z]+)", table, re.MULTILINE)) - {"ONLINE", "ONBATT", "LOWBATT", "FSD", "COMMOK", "COMMBAD", "SHUTDOWN", "REPLBATT", "NOCOMM"}
+            if section == "cmdvartab":
+                table = text_of(os.path.join(ROOT, "docs/configuration.md")).partition(f"\n## {section}\n")[2].partition("\n## ")[0]
+                ours = re.findall(r"^\| `([A-Za-z]+)", table, re.MULTILINE)
+            else:
+                ours = [word for word, text in manual.directives(section).items() if "NUT has no such directive." not in text]
             taken = {row[0].strip("`") for row in found if row[1].startswith("taken")}
             expect(sorted(taken), sorted(ours), f"what {section} takes")
 

@@ -326,7 +326,7 @@ class Tests:
 
     def test_host_sync_that_is_too_short(self):
         needs_proved_build("what takes many runs or long ones")
-        files = {**FILES, "m1.conf": Rules([Watched(b"su700", "primary")], host_sync=5)}
+        files = {**FILES, "m1.conf": Rules([Watched(b"su700", "primary")], HOSTSYNC=5)}
         path = self.room("machine m1 m1.conf delay 0 1\nmachine m2 m2.conf delay 0 1\nmachine m3 m2.conf delay 0 3\n" + LOW, files=files)
         lines = self.printed("-n", "40", "-s", "1", path).splitlines()
         ensure("HOSTSYNC 5 of m1 may be too short for m2 (12), m3 (14); in brackets what is enough" in lines, lines)
@@ -337,7 +337,7 @@ class Tests:
         """With the HOSTSYNC that is called enough, the primary never stops first. With two seconds less it sometimes does."""
         needs_proved_build("what takes many runs or long ones")
         for sync, is_enough in ((4, True), (2, False)):
-            files = {name: Rules(it.lines, poll_freq=1, final_delay=0, host_sync=sync) for name, it in FILES.items()}
+            files = {name: Rules(it.lines, POLLFREQ=1, FINALDELAY=0, HOSTSYNC=sync) for name, it in FILES.items()}
             path = self.room("machine m1 m1.conf delay 1 1\nmachine m2 m2.conf delay 1 1\nat 3 su700 OB LB\n", files=files)
             room, nutsim = read_room(path, Nutsim(self.nutsim)), Nutsim(self.nutsim)
             expect(needed_host_sync(room, *room.machines), 4, "what is enough")
@@ -351,7 +351,7 @@ class Tests:
         """An answer of 3 seconds if the primary is patient; a second less than two if it isn't, has read nothing before or was
         cut off; and two if it has several lines."""
         patient = {name: FILES[name] for name in ("m1.conf", "m2.conf", "both.conf")}
-        hasty = {**patient, "m1.conf": Rules([Watched(b"su700", "primary")], dead_time=7)}
+        hasty = {**patient, "m1.conf": Rules([Watched(b"su700", "primary")], DEADTIME=7)}
         low, early = "at 20 su700 OB LB\n", "at 8 su700 OB LB\n"
         cut = "at 1 m1 cut\nat 2 m1 back\n"
         for conf, files, changes, due in (
@@ -628,7 +628,7 @@ class RandomRoom:
 
     def model(self):
         """Returns the plain model of this room."""
-        clients = [Rules([Watched(name, "secondary", 0, b"client", b"x", host.encode())], min_supplies=0) for name, host in self.watched]
+        clients = [Rules([Watched(name, "secondary", 0, b"client", b"x", host.encode())], MINSUPPLIES=0) for name, host in self.watched]
         return RoomOfServers({host.encode(): it for host, it in self.configs.items()}, [*self.rules, *clients])
 
     def pick(self, *items):
@@ -640,8 +640,8 @@ class RandomRoom:
         user, password = (b"mon", b"m1") if role == "primary" else (b"sec", b"m2")
         lines = [Watched(name, role, 1, user, password, host.encode()) for name, host in upses]
         return Rules(
-            lines, min_supplies=self.random.randint(1, len(lines)), poll_freq=self.pick(1, 2, 3, 5), dead_time=self.pick(5, 15, 15, 30),
-            host_sync=self.pick(0, 1, 3, 5, 8, 12, 15, 20), final_delay=self.pick(0, 1, 2, 5),
+            lines, MINSUPPLIES=self.random.randint(1, len(lines)), POLLFREQ=self.pick(1, 2, 3, 5), DEADTIME=self.pick(5, 15, 15, 30),
+            HOSTSYNC=self.pick(0, 1, 3, 5, 8, 12, 15, 20), FINALDELAY=self.pick(0, 1, 2, 5),
         )
 
     def delays(self):

@@ -17,7 +17,7 @@ import tempfile
 import time
 import unittest.mock
 
-from tests.support import room_model
+from tests.support import manual, room_model
 from tests.support.harness import NUTS_OPTIONS, ROOT, VERSION_SHOWN, Failed, Shimmed, build_library, cannot_read, ensure, expect, refusals
 from tests.support.monitored import (
     BATTERY_LOW,
@@ -61,7 +61,8 @@ def random_machines(chance):
         lines = tuple(Line(u, chance.choice((0, 1, 1, 1, 2)), chance.random() < 0.5, "mon", "m1") for u in upses)
         settings = min(chance.randint(0, 3), sum(it.power for it in lines)), *(chance.choice(it) for it in ((1, 5, 9), (5, 15, 30), (0, 3, 15, 40), (0, 1, 5)))
         watched = [Watched((b"a", b"b")[it.ups], "primary" if it.is_primary else "secondary", it.power) for it in lines]
-        text = room_model.Rules(watched, *settings).text().decode() + "SHUTDOWNCMD true\n"
+        numbers = dict(zip(("MINSUPPLIES", "POLLFREQ", "DEADTIME", "HOSTSYNC", "FINALDELAY"), settings))
+        text = room_model.Rules(watched, **numbers).text().decode() + "SHUTDOWNCMD true\n"
         machines.append(Machine(f"m{m}", text, 0, chance.randint(0, 5) * SECOND, Rules(lines, *settings)))
     return machines
 
@@ -518,7 +519,6 @@ class Tests(Shimmed):
     def test_faults_of_files(self):
         line = "MONITOR su700@h 1 mon m1 primary\n"
         power = "the power values of the MONITOR lines sum to less than MINSUPPLIES, which is 1 unless it is set"
-        types = "'ONLINE', 'ONBATT', 'LOWBATT', 'FSD', 'COMMOK', 'COMMBAD', 'SHUTDOWN', 'REPLBATT' or 'NOCOMM'"
         target = "UPS@HOST[:PORT] is meant, HOST a name or an IPv4 address (an IPv6 address needs a name in /etc/hosts)"
         for text, said, meant in (
             (None, None, None),
@@ -530,7 +530,7 @@ class Tests(Shimmed):
             ("MONITOR su700@h 1 mon m1 master\n", "1: UnknownWord", "master: 'primary' or 'secondary' is meant"),
             (line + "MONITOR su700@h:3493 1 mon m1 secondary\n", "2: Repeated", "su700@h:3493: a line before has it"),
             (line + "NOTIFYFLAG ONBATT PRINT\n", "2: UnknownWord", "PRINT: SYSLOG, WALL, EXEC and IGNORE are meant, with '+' between them"),
-            (line + "NOTIFYMSG NOPARENT x\n", "2: UnknownWord", f"NOPARENT: {types} is meant"),
+            (line + "NOTIFYMSG NOPARENT x\n", "2: UnknownWord", f"NOPARENT: {manual.type_meant()}"),
             (line + "\nPOLLFREQ 0\n", "3: BadNumber", "0: a number from 1 to 1000000 is meant"),
             (line + 'SHUTDOWNCMD ""\n', "2: PastLimit", "COMMAND: 1 to 256 bytes are meant"),
             (line + 'SHUTDOWNCMD "a\n', "2: Unreadable", "the line can't be read as words: a quote is not closed"),

@@ -11,6 +11,7 @@ import os
 import sys
 import time
 
+from tests.support import manual
 from tests.support.harness import expect, Shimmed
 from tests.support.monitored import FLAG, ON_BATTERY, QUICK, SHUTDOWN, Upstream, Watch, children_of, play, put_program
 from tests.support.room import ONLINE, Room, SOON, STATUS, USERS, descriptors, until
@@ -92,15 +93,15 @@ class Tests(Shimmed):
             until(lambda: watch.lines("err").count(told) == 2, "that the UPS is watched")
 
     def test_each_directive_is_reported(self):
-        changed = {
-            "MINSUPPLIES": "0", "SHUTDOWNCMD": "true", "NOTIFYCMD": "true", "POWERDOWNFLAG": "FOLDER/flag", "POLLFREQ": "2",
-            "DEADTIME": "16", "RBWARNTIME": "9", "NOCOMMWARNTIME": "9", "HOSTSYNC": "3", "FINALDELAY": "1",
+        changed = {word: it.default + 1 for word, it in manual.numbers("upsmon.conf").items()} | {
+            "MINSUPPLIES": 0, "SHUTDOWNCMD": "true", "NOTIFYCMD": "true", "POWERDOWNFLAG": "FOLDER/flag",
             "NOTIFYMSG": "ONLINE x", "NOTIFYFLAG": "ONLINE IGNORE",
         }
+        words = [it for it in manual.directives("upsmon.conf") if it != "MONITOR"]
         with Upstream() as server, self.watch(line_of(server) + QUICK + OLD) as watch:
             until_asked(server)
-            watch.reload(line_of(server) + "".join(f"{word} {values}\n" for word, values in changed.items()))
-            watch.until_reloaded(", ".join(f"{word} changed" for word in changed))
+            watch.reload(line_of(server) + "".join(f"{word} {changed[word]}\n" for word in words))
+            watch.until_reloaded(", ".join(f"{word} changed" for word in words))
 
     def test_quiet(self):
         with Upstream() as server, self.watch(line_of(server) + QUICK + OLD, "-q") as watch:

@@ -11,8 +11,9 @@ import sys
 import tempfile
 import urllib.parse
 
+from tests.support import manual
 from tests.support.harness import ROOT, expect, run_tests
-from tests.support.monitor_rows import SECONDARY, STALE, Run, ask, check_run, opens, phase, status, steps_of, tell, tells, waits
+from tests.support.monitor_rows import ONLINE, RUNS, Check, Run, ask, check_run, notice, phase, status, steps_of, tell, tells, waits
 from tests.support.server_rows import err, listed, live
 from tests.support.stage import Stage
 
@@ -40,36 +41,6 @@ EXAMPLE_RIGHTS = (
 OTHER_RIGHTS = (
     (b"a", b"p", "-++----+"),
     (b"b", b"p", "--------"),
-)
-# the types of notices, and the texts that upsmon.conf(5) gives them
-TEXTS = {
-    "ONLINE": "UPS %s on line power",
-    "ONBATT": "UPS %s on battery",
-    "LOWBATT": "UPS %s battery is low",
-    "FSD": "UPS %s: forced shutdown in progress",
-    "COMMOK": "Communications with UPS %s established",
-    "COMMBAD": "Communications with UPS %s lost",
-    "SHUTDOWN": "Auto logout and shutdown proceeding",
-    "REPLBATT": "UPS %s battery needs to be replaced",
-    "NOCOMM": "UPS %s is unavailable",
-}
-# what a monitor is told, and the notices that it gives then
-TOLD = (
-    (tell("moment", 301), ("NOCOMM",)),
-    (opens(0), ()),
-    (status(0, b"OL"), ()),
-    (tell("moment", 306), ()),
-    (STALE, ("COMMBAD",)),
-    (tell("moment", 311), ()),
-    (status(0, b"OL RB"), ("COMMOK", "REPLBATT")),
-    (tell("moment", 316), ()),
-    (status(0, b"OB"), ("ONBATT",)),
-    (tell("moment", 321), ()),
-    (status(0, b"OL"), ("ONLINE",)),
-    (tell("moment", 326), ()),
-    (status(0, b"OB LB"), ("ONBATT", "LOWBATT")),
-    (tell("moment", 331), ()),
-    (status(0, b"FSD OB LB"), ("FSD", "SHUTDOWN")),
 )
 
 
@@ -154,12 +125,11 @@ class Tests:
     def test_upsmon_conf(self):
         logins = [ask(0, b"%b\n" % it, b"OK\n") for it in (b"USERNAME monuser", b"PASSWORD m1", b"LOGIN su700", b"PRIMARY su700")]
         lost = ("Onbatt", 0, b"UPS su700@localhost: mains lost")
-        online = ("Online", 0, b"UPS su700@localhost on line power")
-        low = ("Lowbatt", 0, b"UPS su700@localhost battery is low")
+        low = notice("LOWBATT")
         count = ask(0, b"GET NUMLOGINS su700\n", b"NUMLOGINS su700 2\n")
         self.play_run(
             "the example", example("upsmon.conf"), tell("moment", 0), tell("linked", 0), *logins, status(0, b"OB"), tells(lost),
-            tell("moment", 4), waits(0, b""), tell("moment", 5), status(0, b"OL"), tells(online), tell("moment", 10),
+            tell("moment", 4), waits(0, b""), tell("moment", 5), status(0, b"OL"), tells(ONLINE), tell("moment", 10),
             status(0, b"OB LB"), tells(lost, low), phase("Forcing"), ask(0, b"FSD su700\n", b"OK FSD-SET\n"), count,
             tell("moment", 30), phase("Forcing"), tell("moment", 31), phase("Final"),
         )
@@ -179,17 +149,20 @@ class Tests:
         expect(self.play([], [("monitor new", line + b"MINSUPPLIES 3\n")]), [b"0: PastLimit"], "more supplies than there are")
 
     def test_texts_of_notices(self):
-        """Each type of notice has a text, and the word by which a line sets another."""
-        for file, text_of in (
-            (b"", lambda kind: TEXTS[kind] % "su700@localhost" if "%s" in TEXTS[kind] else TEXTS[kind]),
-            ("".join(f'NOTIFYMSG {kind} "the text of {kind}"\n' for kind in TEXTS).encode(), lambda kind: f"the text of {kind}"),
-        ):
-            steps = []
-            for step, kinds in TOLD:
-                line = [None if kind == "SHUTDOWN" else 0 for kind in kinds]
-                steps += [step, tells(*zip(map(str.capitalize, kinds), line, (text_of(kind).encode() for kind in kinds)))]
-            self.play_run("the texts of notices", SECONDARY + file, *steps)
-        expect({kind for _, kinds in TOLD for kind in kinds}, set(TEXTS), "the types of notices")
+        """Each type of notice is given in a run, and a line sets another text for it by its word."""
+        texts = {kind.encode(): b"the text of " + kind.encode() for kind in manual.notices()}
+        lines = b"".join(b'NOTIFYMSG %b "%b"\n' % it for it in texts.items())
+        told = set()
+        for run in RUNS:
+            other = Run(run.name, run.file + lines, ())
+            for check in run.checks[2:]:
+                if check.step == ("monitor notice",) and check.line != b"none":
+                    kind, line, _ = check.line.split(b" ", 2)
+                    told.add(kind.upper())
+                    check = Check(check.step, b" ".join((kind, line, texts[kind.upper()])))
+                other.checks.append(check)
+            check_run(other, self.stage.play(steps_of(other)))
+        expect(told, set(texts), "the types of notices that are given")
 
 
 def main():

@@ -14,8 +14,8 @@ import sys
 import tempfile
 
 from tests.support.harness import Failed, ensure, expect, fewer, run_tests
-from tests.support.monitor_rows import MEMORY_RUNS, PRIMARY, RUNS, SCENES, Starved, check_run, steps_of
-from tests.support.player import places
+from tests.support.monitor_rows import MEMORY_RUNS, NEVER_TAKEN, ON_BATTERY, PRIMARY, RUNS, SCENES, Starved, check_run, steps_of
+from tests.support.player import broken, joined, places
 from tests.support.stage import Stage
 
 LACK = re.compile(rb"Memory \{ link: Some\(([0-9]+)\), lines: ([0-9]+) \} .*")
@@ -40,8 +40,9 @@ class Loop:
         self.events = [line[2:] for line in self.wanted if line[:2] in ("> ", "- ")]
         self.wanted = [line for line in self.wanted if not line.startswith("- ")]
 
-    def steps(self, lost=None):
-        """Returns the steps; with `lost` those in which the link is lost instead of the piece of this number."""
+    def steps(self, lost=None, run=("watch run",)):
+        """Returns the steps, of which the last runs the scene; with `lost` those in which the link is lost instead of the piece of
+        this number."""
         steps = []
         for at, event in enumerate(self.events):
             verb, *words = event.split(" ", 2)
@@ -49,7 +50,7 @@ class Loop:
             steps.append(("watch lost", words[0]) if at == lost else (f"watch {verb}", *words))
         again = [("? " + step[0], *step[1:]) for step in steps]
         pushed = [step for pair in zip(steps, again) for step in pair]
-        return [*pushed, ("watch run", self.scene.file)]
+        return [*pushed, (*run, self.scene.file)]
 
     def printed(self, lines):
         """Returns what a run of the loop printed, behind the lines of its events."""
@@ -203,6 +204,51 @@ class Tests:
                     seen.add("what is to come")
         missing = {"bytes", "event", "notice", "piece", "what is to come"} - seen
         ensure(not missing, f"never refused: {', '.join(sorted(missing))}")
+
+    def failing(self, loop, trouble, call=0):
+        """Plays a scene in a world in which the server of the first link is in trouble, and this call is a fault."""
+        return loop.printed(self.stage.play(loop.steps(run=("watch failing", trouble, call))))
+
+    def test_the_loop_with_slow_servers(self):
+        """What is taken, told and closed doesn't depend on how many bytes a server takes at a time."""
+        for scene in [ON_BATTERY, *SCENES]:
+            loop = Loop(scene)
+            for trouble in ("sound", "slow"):
+                expect(joined(self.failing(loop, trouble)), loop.wanted, f"{scene.title}, {trouble}")
+        # a notice would be told before the bytes that were put off
+        loop = Loop(ON_BATTERY)
+        expect(joined(self.failing(loop, "reluctant")), loop.wanted, "a reluctant server")
+
+    def test_the_loop_with_a_server_that_takes_nothing(self):
+        loop = Loop(NEVER_TAKEN)
+        expect(joined(self.failing(loop, "late")), loop.wanted, loop.scene.title)
+
+    def test_the_loop_with_each_write_failing(self):
+        """The first link is lost in the write behind these bytes, and all else goes on."""
+        loop = Loop(ON_BATTERY)
+        loss = ["link 0 breaks", "link 0 is closed", "told Commbad 0 Communications with UPS a@localhost lost"]
+        for behind in range(55):
+            wanted = broken(loop.wanted, "link 0 is asked ", behind, loss)
+            expect(joined(self.failing(loop, behind)), wanted, f"behind {behind} bytes")
+
+    def test_the_loop_with_each_call_a_fault(self):
+        """The loop ends behind the calls before, and what wasn't taken and told waits."""
+        loop = Loop(ON_BATTERY)
+        whole = self.failing(loop, "slow")
+        # the last line stands for the call that gives the end: eleven events, 54 bytes, four writes, and one notice
+        expect(len(whole), 11 + 54 + 4 + 1 + 1, "calls")
+        for call in range(1, len(whole) + 1):
+            done, todo = whole[: call - 1], whole[call - 1 :]
+            asked = [ASKED.fullmatch(line) for line in todo]
+            ahead = next(it for it, one in enumerate(asked) if one is None or one[1] != (asked[0] or one)[1])
+            waits = [sum(len(one[2].replace("%0A", "\n")) for one in asked[:ahead] if one[1] == link) for link in "01"]
+            notice = f" to be {todo[0]}" if todo[0].startswith("told ") else ""
+            expect(self.failing(loop, "slow", call), [*done, f"fault {waits[0]} {waits[1]}{notice}"], f"call {call}")
+        expect(self.failing(loop, "slow", len(whole) + 1), whole, "no call")
+
+    def test_the_loop_with_a_close_that_is_a_fault(self):
+        wanted = ["> moment 0", "> linked 0", "link 0 breaks", "fault 0 0 to be told Commbad 0 Communications with UPS a@localhost lost"]
+        expect(self.failing(Loop(ON_BATTERY), 0, 4), wanted, "a close")
 
     def losses(self, loop):
         """Returns what a scene has to print if memory is refused for one of its pieces: what it prints if the link is lost

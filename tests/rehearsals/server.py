@@ -22,8 +22,8 @@ from tests.support.harness import Failed, ensure, expect, fewer, needs_proved_bu
 from tests.support.model import OPENED_MAX, Config
 from tests.support.player import Player, conf_steps, escaped, line_of, places, reload_steps
 from tests.support.reload_rows import RELOADS
-from tests.support.request_rows import FORMS, NO_FORMS
-from tests.support.server_rows import ONLINE, OPEN, PROBE, ROOM, ROWS, STATUS, Row, ask, err, listed, live, told
+from tests.support.request_rows import FORMS, NO_FORMS, QUERIES
+from tests.support.server_rows import ID, LOGIN, ONLINE, OPEN, PROBE, ROOM, ROWS, SENSITIVITY, STATUS, Row, ask, err, listed, live, told
 from tests.support.schedules import UPSES, USERS, ScheduleMaker, shifted, variants
 from tests.support.stage import Stage
 from tests.support.table_rows import NOTHING_NEW, TABLES
@@ -284,6 +284,20 @@ class Tests:
             rows = [row.replace(" su700", "", 1) for row in urllib.parse.unquote(taken.decode()).splitlines()]
             found = sorted(row for row in rows if row and not row.startswith(("BEGIN ", "END ")))
             expect(found, table.listed, table.title)
+
+    def test_examples_of_the_page(self):
+        """docs/protocol.md shows what this room answers: each GET, and of each LIST a row."""
+        low = [b"SETINFO battery.charge.low 20", b"ADDRANGE battery.charge.low 0 100"]
+        driver = live(*ID[:2], b"SETAUX ups.id 16", *SENSITIVITY, *low, b"ADDCMD load.off")
+        steps = [*driver, ("open", b"192.0.2.7"), *Row("a login", LOGIN).steps]
+        asked = [step for it in QUERIES for step in (("bytes", 1, it.line + b"\n"), ("take", 1))]
+        schedule, _ = self.rehearse(ROOM, steps + asked)
+        for query, taken in zip(QUERIES, schedule.due[-len(asked) :][1::2]):
+            rows = urllib.parse.unquote_to_bytes(taken.strip()).splitlines()
+            if query.is_list:
+                ensure(query.example in rows[1:-1], f"{query.line}: {rows}")
+            else:
+                expect(rows, [query.example], query.line)
 
     def test_lines_that_change_nothing(self):
         """A line of a driver shows that it is alive if its data isn't stale 16 seconds after the word before it."""

@@ -94,6 +94,9 @@ class Tests:
         for (line, fault), it in zip(FAULTS, found):
             expect(it.decode(), fault, f"the fault of {line!r}")
 
+    def test_a_line_is_written(self):
+        expect(self.stage.play([("words line",)]), [rb'VAR "a b" "" "a\"\#\\"%0A'], "a line of words")
+
     def fed(self, pieces):
         """Returns the lines that pieces of a new stream complete, and how much is kept then."""
         found = self.stage.play([("words new",), *map(feed, pieces)])[1:]

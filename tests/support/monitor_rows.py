@@ -2,6 +2,7 @@
 
 import re
 
+from tests.support import manual
 from tests.support.harness import Failed, expect
 from tests.support.player import escaped
 
@@ -91,6 +92,12 @@ def name_of(i):
     return (b"su700", b"su900")[i]
 
 
+def notice(kind, i=0):
+    """A notice about the UPS of this line, or about none, with the text that upsmon.conf(5) gives it."""
+    text = manual.notices()[kind].encode()
+    return kind.capitalize(), i, text if i is None else text.replace(b"%s", name_of(i) + b"@localhost")
+
+
 def opens(i):
     """The link of this line is made, and its first queries are answered OK."""
 
@@ -143,25 +150,19 @@ START = tell("moment", 0)
 SILENT = tells()
 FORCED = ask(0, FSD, b"OK FSD-SET\n")
 STALE = ask(0, STATUS, b"ERR DATA-STALE\n")
-ONLINE = ("Online", 0, b"UPS su700@localhost on line power")
-ONBATT = ("Onbatt", 0, b"UPS su700@localhost on battery")
-LOWBATT = ("Lowbatt", 0, b"UPS su700@localhost battery is low")
-FORCES = ("Fsd", 0, b"UPS su700@localhost: forced shutdown in progress")
-COMMOK = ("Commok", 0, b"Communications with UPS su700@localhost established")
-COMMBAD = ("Commbad", 0, b"Communications with UPS su700@localhost lost")
-REPLBATT = ("Replbatt", 0, b"UPS su700@localhost battery needs to be replaced")
-NOCOMM = ("Nocomm", 0, b"UPS su700@localhost is unavailable")
-SHUTDOWN = ("Shutdown", None, b"Auto logout and shutdown proceeding")
+ONLINE, ONBATT, LOWBATT, FORCES = map(notice, ("ONLINE", "ONBATT", "LOWBATT", "FSD"))
+COMMOK, COMMBAD, REPLBATT, NOCOMM = map(notice, ("COMMOK", "COMMBAD", "REPLBATT", "NOCOMM"))
+SHUTDOWN = notice("SHUTDOWN", None)
 LONG = b"A" * 513
 WHOLE = b"A" * 512
 WHOLE_LINE = [tell("bytes", 0, WHOLE)] * 4
 PATIENT = b"MONITOR su700@localhost 1 mon m1 secondary\nNOCOMMWARNTIME 1000000\n"
-OTHER_NOCOMM = ("Nocomm", 1, b"UPS su900@localhost is unavailable")
+OTHER_NOCOMM = notice("NOCOMM", 1)
 PRIMARIES = b"MONITOR su700@localhost 1 mon m1 primary\nMONITOR su900@localhost 1 mon m1 primary\n"
 HALTED = phase("Halted { flag: true }")
 COUNTS_1 = ask(0, COUNT, b"NUMLOGINS su700 1\n")
 COUNTS_2 = ask(0, COUNT, b"NUMLOGINS su700 2\n")
-OTHER_LOW = [("Onbatt", 1, b"UPS su900@localhost on battery"), ("Lowbatt", 1, b"UPS su900@localhost battery is low")]
+OTHER_LOW = [notice("ONBATT", 1), notice("LOWBATT", 1)]
 
 REFUSAL_RUNS = [
     Run(
@@ -784,3 +785,59 @@ link 0 is asked USERNAME mon
 """,
     ),
 ]
+
+# the first UPS is on line, and the second on battery
+SECONDARIES = b"MONITOR a@localhost 1 mon m1 secondary\nMONITOR b@localhost 1 mon m1 secondary\n"
+ON_BATTERY = Scene(
+    "All is taken of both links",
+    SECONDARIES,
+    """\
+> moment 0
+> linked 0
+link 0 is asked USERNAME mon
+> linked 1
+link 1 is asked USERNAME mon
+> bytes 0 OK
+link 0 is asked PASSWORD m1
+> bytes 1 OK
+link 1 is asked PASSWORD m1
+> bytes 0 OK
+link 0 is asked LOGIN a
+> bytes 1 OK
+link 1 is asked LOGIN b
+> bytes 0 OK
+link 0 is asked GET VAR a ups.status
+> bytes 1 OK
+link 1 is asked GET VAR b ups.status
+> bytes 0 VAR a ups.status "OL"
+> bytes 1 VAR b ups.status "OB"
+told Onbatt 1 UPS b@localhost on battery
+= Watching
+""",
+)
+# an answer to bytes that were never taken loses the link
+NEVER_TAKEN = Scene(
+    "The server of the first link takes nothing",
+    SECONDARIES,
+    """\
+> moment 0
+> linked 0
+> linked 1
+link 1 is asked USERNAME mon
+> bytes 0 OK
+link 0 is closed
+told Commbad 0 Communications with UPS a@localhost lost
+> bytes 1 OK
+link 1 is asked PASSWORD m1
+> bytes 0 OK
+> bytes 1 OK
+link 1 is asked LOGIN b
+> bytes 0 OK
+> bytes 1 OK
+link 1 is asked GET VAR b ups.status
+> bytes 0 VAR a ups.status "OL"
+> bytes 1 VAR b ups.status "OB"
+told Onbatt 1 UPS b@localhost on battery
+= Watching
+""",
+)

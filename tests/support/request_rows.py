@@ -1,20 +1,58 @@
-"""The forms of requests, lines that have none, and what a link makes of the answers to queries."""
+"""The forms of requests, lines that have none, and what a link makes of the answers to queries. The queries are those of
+docs/protocol.md, with the examples there."""
+
+import os
+import re
+
+from tests.support.harness import ROOT
+from tests.support.model import words_of
+
+# what stands in a form for the names of docs/protocol.md
+NAMES = {"u": "Su700", "v": "ups.Status", "k": "load.Off"}
+
+
+class Query:
+    """A query, and the answer to an example of it, or a row of that if it is a LIST."""
+
+    def __init__(self, form, example):
+        self.form = form
+        self.example = example.encode()
+        command, *words = form.split()
+        # an answer repeats the words behind the command
+        spelled = words_of(self.example)
+        self.repeated, self.said = b" ".join(spelled[: len(words)]), spelled[len(words) :]
+        self.is_list = command == "LIST"
+        self.line = command.encode() + b" " + self.repeated
+
+    def forms(self):
+        """Returns a row of FORMS."""
+        command, subject, *names = self.form.split()
+        names = [NAMES[it] for it in names]
+        whole = " ".join([command, subject, *names])
+        return " ".join([command.title(), subject.title(), *names]).encode(), whole.encode(), whole.rpartition(" ")[0].encode()
+
+    def link_row(self):
+        """Returns a row of LINK_ROWS."""
+        said = "".join(f"{it.decode()}|" for it in self.said)
+        if not self.is_list:
+            return self.line, self.example + b"\n", f"said {said}", None
+        answer = b"BEGIN LIST %b\n%b\nEND LIST %b\n" % (self.repeated, self.example, self.repeated)
+        return self.line, answer, f"list {said};", None
+
+
+def queries():
+    with open(os.path.join(ROOT, "docs", "protocol.md")) as file:
+        tables = re.search(r"^## Asking$.*?(?=^## Who you are$)", file.read(), re.MULTILINE | re.DOTALL)[0]
+    # the example of a GET is in its last cell, that of a LIST in the next
+    found = re.findall(r"^\| `(GET [^`]+)` \| .* \| `([^`]+)` \|$", tables, re.MULTILINE)
+    return [Query(*it) for it in found + re.findall(r"^\| `(LIST [^`]+)` \| `([^`]+)`", tables, re.MULTILINE)]
+
+
+QUERIES = queries()
 
 # a form with its commands in mixed case, as it is written, and without its last word, unless nothing is left then
 FORMS = [
-    (b"get NumLogins Su700", b"GET NUMLOGINS Su700", b"GET NUMLOGINS"),
-    (b"Get upsdesc Su700", b"GET UPSDESC Su700", b"GET UPSDESC"),
-    (b"gEt vAr Su700 ups.Status", b"GET VAR Su700 ups.Status", b"GET VAR Su700"),
-    (b"get type Su700 ups.ID", b"GET TYPE Su700 ups.ID", b"GET TYPE Su700"),
-    (b"get Desc Su700 ups.id", b"GET DESC Su700 ups.id", b"GET DESC Su700"),
-    (b"get CmdDesc Su700 load.Off", b"GET CMDDESC Su700 load.Off", b"GET CMDDESC Su700"),
-    (b"list ups", b"LIST UPS", b"LIST"),
-    (b"List var Su700", b"LIST VAR Su700", b"LIST VAR"),
-    (b"LIST rw Su700", b"LIST RW Su700", b"LIST RW"),
-    (b"lisT Cmd Su700", b"LIST CMD Su700", b"LIST CMD"),
-    (b"list eNum Su700 ups.id", b"LIST ENUM Su700 ups.id", b"LIST ENUM Su700"),
-    (b"list range Su700 ups.id", b"LIST RANGE Su700 ups.id", b"LIST RANGE Su700"),
-    (b"list Client Su700", b"LIST CLIENT Su700", b"LIST CLIENT"),
+    *(it.forms() for it in QUERIES),
     (b"set var Su700 ups.id X", b'SET VAR Su700 ups.id "X"', b"SET VAR Su700 ups.id"),
     (b"instcmd Su700 load.Off X", b'INSTCMD Su700 load.Off "X"', b"INSTCMD Su700"),
     (b"get tracking 7", b"GET TRACKING 7", b"GET"),
@@ -56,7 +94,7 @@ NO_FORMS = [
 # worked rows of a link: a query as it is typed, the lines that its server sends, the answer that is taken out then, and the
 # fault, if a line fails the link; words of an answer are followed by `|`, and rows of a list by `;`
 LINK_ROWS = [
-    (b"GET VAR su700 ups.status", b'VAR su700 ups.status "OL"\n', "said OL|", None),
+    *(it.link_row() for it in QUERIES),
     (b"get var su700 ups.mfr", b'VAR su700 ups.mfr "a \\"b\\" \\\\c"\r\n', 'said a "b" \\c|', None),
     (b"GET VAR su700 ups.status", b'VAR su700 ups.status "OL" x\n', "none", "NotMine"),
     (b"GET VAR su700 ups.status", b"VAR su700 ups.status\n", "none", "NotMine"),
@@ -67,15 +105,9 @@ LINK_ROWS = [
     (b"GET VAR su700 ups.status", b"ERR\n", "none", "NotMine"),
     (b"GET VAR su700 ups.status", b"\n", "none", "BadLine"),
     (b"GET VAR su700 ups.status", b'VAR su700 "ups.status\n', "none", "BadLine"),
-    (b"GET NUMLOGINS su700", b"NUMLOGINS su700 2\n", "said 2|", None),
     (b"GET NUMLOGINS su700", b"NUMLOGINS su700 1234567890\n", "none", "NotMine"),
     (b"GET NUMLOGINS su700", b"NUMLOGINS su700 -1\n", "none", "NotMine"),
-    (b"GET TYPE su700 ups.id", b"TYPE su700 ups.id RW STRING:16\n", "said RW|STRING:16|", None),
     (b"GET TYPE su700 ups.id", b"TYPE su700 ups.id\n", "none", "NotMine"),
-    (b"GET UPSDESC su700", b'UPSDESC su700 "Server room"\n', "said Server room|", None),
-    (b"GET DESC su700 a", b'DESC su700 a "b c"\n', "said b c|", None),
-    (b"GET CMDDESC su700 a", b'CMDDESC su700 a "b c"\n', "said b c|", None),
-    (b"LIST UPS", b'BEGIN LIST UPS\nUPS su700 "Server room"\nEND LIST UPS\n', "list su700|Server room|;", None),
     (b"LIST VAR u", b'BEGIN LIST VAR u\nVAR u a "1"\nVAR u b "2"\nEND LIST VAR u\n', "list a|1|;b|2|;", None),
     (b"LIST VAR u", b"BEGIN LIST VAR u\nEND LIST VAR u\n", "list ", None),
     (b"LIST VAR u", b'BEGIN LIST VAR u\nVAR u a "1"\n', "none", None),
@@ -86,11 +118,6 @@ LINK_ROWS = [
     (b"LIST VAR u", b"BEGIN LIST RW u\n", "none", "NotMine"),
     (b"LIST VAR u", b'VAR u a "1"\n', "none", "NotMine"),
     (b"LIST VAR u", b"ERR UNKNOWN-UPS\n", "refused UNKNOWN-UPS", None),
-    (b"LIST RANGE u v", b'BEGIN LIST RANGE u v\nRANGE u v "0" "100"\nEND LIST RANGE u v\n', "list 0|100|;", None),
-    (b"LIST ENUM u v", b'BEGIN LIST ENUM u v\nENUM u v "low"\nEND LIST ENUM u v\n', "list low|;", None),
-    (b"LIST CMD u", b"BEGIN LIST CMD u\nCMD u load.off\nEND LIST CMD u\n", "list load.off|;", None),
-    (b"LIST CLIENT u", b"BEGIN LIST CLIENT u\nCLIENT u ::1\nEND LIST CLIENT u\n", "list ::1|;", None),
-    (b"LIST RW u", b'BEGIN LIST RW u\nRW u a "1"\nEND LIST RW u\n', "list a|1|;", None),
     (b"LOGIN su700", b"OK\n", "done", None),
     (b"FSD su700", b"OK FSD-SET\n", "done", None),
     (b"LOGOUT", b"OK Goodbye\n", "done", None),

@@ -7,7 +7,7 @@ FLAG)`, where FLAG says whether POWERDOWNFLAG is to be set."""
 
 import re
 
-from tests.support import model
+from tests.support import manual, model
 from tests.support.model import PIECE_MAX, quoted, words_of
 
 WATCHING, FORCING, FINAL, HALTED = "Watching", "Forcing", "Final", "Halted"
@@ -27,17 +27,15 @@ class Watched:
 
 
 class Rules:
-    """The contents of an upsmon.conf, with the defaults."""
+    """The contents of an upsmon.conf: its MONITOR lines, and by its word each directive that has a number. One that isn't given
+    has the default of upsmon.conf(5)."""
 
-    def __init__(self, lines, min_supplies=1, poll_freq=5, dead_time=15, host_sync=15, final_delay=5, rb_warn_time=43200, no_comm_warn_time=300):
+    def __init__(self, lines, **numbers):
         self.lines = lines
-        self.min_supplies = min_supplies
-        self.poll_freq = poll_freq
-        self.dead_time = dead_time
-        self.host_sync = host_sync
-        self.final_delay = final_delay
-        self.rb_warn_time = rb_warn_time
-        self.no_comm_warn_time = no_comm_warn_time
+        self.numbers = {word: it.default for word, it in manual.numbers("upsmon.conf").items()} | numbers
+
+    def __getitem__(self, word):
+        return self.numbers[word]
 
     def text(self):
         """Returns the upsmon.conf that sets this."""
@@ -45,8 +43,7 @@ class Rules:
             b"MONITOR %s %d %s %s %s" % (it.target, it.power, it.user, quoted(it.password), b"primary" if it.is_primary else b"secondary")
             for it in self.lines
         ]
-        numbers = ("min_supplies", "poll_freq", "dead_time", "host_sync", "final_delay", "rb_warn_time", "no_comm_warn_time")
-        lines += [b"%s %d" % (it.replace("_", "").upper().encode(), getattr(self, it)) for it in numbers]
+        lines += [b"%s %d" % (word.encode(), number) for word, number in self.numbers.items()]
         return b"".join(it + b"\n" for it in lines)
 
 
@@ -140,7 +137,7 @@ class Monitor:
         self.notices.append((kind, watch))
 
     def tell_silence(self, watch):
-        pause = self.rules.no_comm_warn_time
+        pause = self.rules["NOCOMMWARNTIME"]
         polled = watch.polled if watch.status is not None else 0
         if self.now - polled > pause and (watch.silence_told is None or self.now - watch.silence_told > pause):
             watch.silence_told = self.now
@@ -196,7 +193,7 @@ class Monitor:
                 if word in new:
                     self.tell(kind, watch)
             told = watch.replace_told
-            if b"RB" in words and (b"RB" in new or told is None or self.now - told > self.rules.rb_warn_time):
+            if b"RB" in words and (b"RB" in new or told is None or self.now - told > self.rules["RBWARNTIME"]):
                 watch.replace_told = self.now
                 self.tell("REPLBATT", watch)
         watch.communication = "good"
@@ -211,28 +208,28 @@ class Monitor:
         if watch.has(b"FSD"):
             return True
         if watch.has(b"OB") and watch.has(b"LB") and not watch.has(b"CAL"):
-            if watch.line.is_primary or self.now - watch.calm > self.rules.host_sync:
+            if watch.line.is_primary or self.now - watch.calm > self.rules["HOSTSYNC"]:
                 return True
-        return watch.has(b"OB") and self.now - watch.polled > self.rules.dead_time
+        return watch.has(b"OB") and self.now - watch.polled > self.rules["DEADTIME"]
 
     def settle(self):
         """Ends an event: the shutdown is judged, the phase moves, and queries are put."""
         if self.phase == WATCHING:
             supply = sum(it.line.power for it in self.watches if not self.is_critical(it))
-            if supply < self.rules.min_supplies:
+            if supply < self.rules["MINSUPPLIES"]:
                 self.begun = self.now
                 self.phase = FORCING
         if self.phase == FORCING and self.is_alone():
             self.phase, self.ended = FINAL, self.now
             self.tell("SHUTDOWN")
-        if self.phase == FINAL and self.now - self.ended >= self.rules.final_delay:
+        if self.phase == FINAL and self.now - self.ended >= self.rules["FINALDELAY"]:
             self.phase = HALTED
         for watch in self.watches:
             if watch.call is not None and watch.call.is_idle:
                 self.ask_next(watch)
 
     def is_alone(self):
-        if self.now - self.begun > self.rules.host_sync:
+        if self.now - self.begun > self.rules["HOSTSYNC"]:
             return True
         return all(it.logins is not None and it.logins <= 1 for it in self.watches if it.line.is_primary)
 
@@ -242,7 +239,7 @@ class Monitor:
         if len(call.asked) < len(opening):
             query, pause = opening[len(call.asked)], 0
         elif self.phase == WATCHING:
-            query, pause = "status", self.rules.poll_freq
+            query, pause = "status", self.rules["POLLFREQ"]
         elif self.phase == FORCING and watch.line.is_primary:
             query, pause = "logins" if watch.is_forced else "fsd", 1
         else:

@@ -35,13 +35,13 @@ class RoomMaker:
         supply = sum(it.power for it in lines)
         return Rules(
             lines,
-            min_supplies=self.random.randrange(min(supply, 3) + 1),
-            poll_freq=self.pick(1, 2, 5),
-            dead_time=self.pick(1, 5, 15),
-            host_sync=self.pick(0, 3, 15),
-            final_delay=self.pick(0, 1, 5),
-            rb_warn_time=self.pick(1, 20, 43200),
-            no_comm_warn_time=self.pick(1, 20, 300),
+            MINSUPPLIES=self.random.randrange(min(supply, 3) + 1),
+            POLLFREQ=self.pick(1, 2, 5),
+            DEADTIME=self.pick(1, 5, 15),
+            HOSTSYNC=self.pick(0, 3, 15),
+            FINALDELAY=self.pick(0, 1, 5),
+            RBWARNTIME=self.pick(1, 20, 43200),
+            NOCOMMWARNTIME=self.pick(1, 20, 300),
         )
 
     def watched(self, host):

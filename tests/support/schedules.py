@@ -6,6 +6,7 @@ import re
 from tests.support import model
 from tests.support.model import Config, User
 from tests.support.player import Player, reload_steps
+from tests.support.request_rows import QUERIES
 
 UPSES = [(b"su700", b"Server room"), (b"b", b'a "b" \\ # = c'), (b"rack.1_x-Y", b""), (b"all", b"d" * 128)]
 USERS = {
@@ -198,15 +199,8 @@ class ScheduleMaker:
 
     def request(self):
         forms = [
-            lambda: (b"GET", b"VAR", self.ups(), self.variable()),
-            lambda: (b"GET", b"TYPE", self.ups(), self.variable()),
-            lambda: (b"GET", b"DESC", self.ups(), self.variable()),
-            lambda: (b"GET", b"CMDDESC", self.ups(), self.pick(COMMANDS)),
-            lambda: (b"GET", b"UPSDESC", self.ups()),
-            lambda: (b"GET", b"NUMLOGINS", self.ups()),
-            lambda: (b"LIST", b"UPS"),
-            lambda: (b"LIST", self.pick([b"VAR", b"RW", b"CMD", b"CLIENT"]), self.ups()),
-            lambda: (b"LIST", self.pick([b"ENUM", b"RANGE"]), self.ups(), self.variable()),
+            *[lambda: self.query("GET ")] * 6,
+            *[lambda: self.query("LIST ")] * 3,
             lambda: (b"SET", b"VAR", self.ups(), self.variable(), self.pick(VALUES)),
             lambda: (b"SET", b"VAR", self.ups(), self.variable(), self.pick(VALUES)),
             lambda: (b"INSTCMD", self.ups(), self.pick(COMMANDS)),
@@ -231,6 +225,12 @@ class ScheduleMaker:
             words = self.pick(forms)()
         keywords = 2 if words[0] in (b"GET", b"LIST", b"SET") else 1
         return self.joined([self.cased(it) if at < keywords else self.spelled(it) for at, it in enumerate(words)])
+
+    def query(self, command):
+        """Returns a query of this command, as docs/protocol.md has them."""
+        named = {"u": self.ups, "v": self.variable, "k": lambda: self.pick(COMMANDS)}
+        words = self.pick([it.form for it in QUERIES if it.form.startswith(command)]).split()
+        return tuple(named[it]() if it in named else it.encode() for it in words)
 
     def order(self, ups):
         """Returns a SET or an INSTCMD that the driver of this UPS would be asked if its queue has room."""

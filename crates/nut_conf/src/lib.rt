@@ -39,7 +39,7 @@ pub use limits::{
 };
 pub use lines::Lines;
 pub use monitor::Monitored;
-pub use notice::{Notice, NoticeFlags, NoticeHandling, NoticeText};
+pub use notice::{NOTICES, Notice, NoticeFlags, NoticeHandling, NoticeText};
 pub use sections::Sections;
 pub use target::{NameFault, Target, split_name};
 pub use text::{Name, Number, NumberOr, Port, Text};

@@ -28,7 +28,8 @@ pub enum Notice {
     Nocomm,
 }
 
-const NOTICES: [Notice; 9] = [
+/// All types of notices.
+pub const NOTICES: [Notice; 9] = [
     Notice::Online,
     Notice::Onbatt,
     Notice::Lowbatt,

@@ -1,8 +1,15 @@
 -- What holds of a world after a deed that is done only if a test holds, or only if there are bytes to move.
-use Rattle.std.proofs.Common.{◌≡◌, ℕ, ◌==◌, Bool, true, false, inl, inr, List, [], ◌∷◌, refl}
+use Rattle.std.proofs.Common.{◌≡◌, ℕ, ◌==◌, ◌&&◌, ◌||◌, ◌++◌, not, min, take, is_none, Bool, true, false, inl, inr, List, [], ◌∷◌, refl}
 use Rattle.std.specs.Prelude.{if◌then◌else◌}
-use Rattle.std.proofs.lemmas.Bool.{cases_Bool}
-use Rattle.nut_fleet.specs.World.{Setup, World, Deed, Skip, carried, counted, after}
+use Rattle.std.proofs.lemmas.Bool.{and_parts, cases_Bool, not-true}
+use Rattle.nut_words.specs.declared.limits.TheConstants.{PIECE_MAX}
+use Rattle.nut_server_spec.specs.Configuration.{Configuration}
+use Rattle.nut_server_spec.specs.Event as arrivals
+use Rattle.nut_server_spec.specs.Acceptance as server_tests
+use Rattle.nut_monitor_spec.specs.Event as events
+use Rattle.nut_monitor_spec.specs.Acceptance as monitor_tests
+use Rattle.nut_fleet.specs.Schedule.{Step, ServerClock, MonitorClock, Up, Driver, Down, Link, Out, Reach, Back, Land, CutServer, CutMonitor, Other}
+use Rattle.nut_fleet.specs.World.{Setup, World, Deed, Skip, Tell, Inform, Join, served, known, is_open, is_linked, to_server, to_monitor, server_waits, monitor_waits, tell, inform, carried, counted, moved, address_of, is_fit, is_other, deed, deed_of, heeded, kept_from, may_tell, after}
 
 -- a step that is played if a test holds
 pub if-played : (P : World → Type 0) (setup : Setup) (w : World) (b : Bool) (d : Deed) → P w → (b ≡ true → P (after setup w d)) → P (after setup w (if b then d else Skip))
@@ -15,3 +22,57 @@ if-carried P setup w (b ∷ bytes) d same played = played
 
 pub if-counted : (P : World → Type 0) (setup : Setup) (w : World) (n : ℕ) (d : ℕ → Deed) → P w → P (after setup w (d n)) → P (after setup w (counted n d))
 if-counted P setup w n d same played = elim (cases_Bool (n == 0)) [ inl e ↦ rw e same | inr e ↦ rw e played ]
+
+-- ---- what any step does
+
+-- It is no reload, or one that others may tell.
+abbrev pub IsFair : Setup → World → arrivals.Event → Type 0
+IsFair setup w (arrivals.Reload new) = (k : Configuration) × (new ≡ kept_from setup.server k) × (may_tell setup w (arrivals.Reload new) ≡ true)
+IsFair setup w event = Unit {0}
+
+fair : (setup : Setup) (w : World) (event : arrivals.Event) → may_tell setup w (heeded setup.server event) ≡ true → IsFair setup w (heeded setup.server event)
+fair setup w (arrivals.Reload k) may = (k, refl, may)
+fair setup w event may = tt
+
+-- What holds of a world, and once the server or a monitor was told something, and once a link that was down was made.
+module _ (setup : Setup) (w : World) (P : World → Type 0) (same : P w) (on_tell : (event : arrivals.Event) → IsFair setup w event → P (after setup w (Tell event)))
+    (on_inform : (m : ℕ) (event : events.Event) → P (after setup w (Inform m event))) (on_join : (m i : ℕ) → is_linked setup w m i ≡ false → P (after setup w (Join m i))) where
+  told : (event : arrivals.Event) → IsFair setup w event → P (after setup w (tell setup w event))
+  told event is = if-played P setup w (is_none (server_tests.refusal (served setup w) event)) (Tell event) same (λ ok. on_tell event is)
+
+  heard : (m : ℕ) (event : events.Event) → P (after setup w (inform setup w m event))
+  heard m event = if-played P setup w (is_none (monitor_tests.refusal (known setup w m) event)) (Inform m event) same (λ ok. on_inform m event)
+
+  by : (step : Step) → P (after setup w (deed_of setup w step))
+  by (ServerClock t) = told (arrivals.Moment t) tt
+  by (MonitorClock m t) = heard m (events.Moment t)
+  by (Up u) = told (arrivals.DriverUp u) tt
+  by (Driver u line) = told (arrivals.DriverBytes u (line ++ 10 ∷ [])) tt
+  by (Down u) = told (arrivals.DriverDown u) tt
+  by (Link m i) =
+      let free = not (is_open setup w m i) && not (is_linked setup w m i) in
+      let fits = is_none (server_tests.refusal (served setup w) (arrivals.Open (address_of m))) in
+      if-played P setup w (free && fits) (Join m i) same
+      (λ ok. on_join m i (not-true (is_linked setup w m i) (and_parts (not (is_open setup w m i)) (not (is_linked setup w m i)) (and_parts free fits ok).0).1))
+  by (Out m i n) =
+      let deed = λ (k : ℕ). inform setup w m (events.LinkTook i k) in
+      let k = moved n (monitor_waits setup w m i) in
+      if-played P setup w (is_linked setup w m i) (counted k deed) same (λ ok. if-counted P setup w k deed same (heard m (events.LinkTook i k)))
+  by (Reach m i n) =
+      let deed = λ (bytes : List ℕ). tell setup w (arrivals.Bytes (w.connection m i) bytes) in
+      let piece = take (min n PIECE_MAX) (to_server setup w m i) in
+      if-played P setup w (is_open setup w m i) (carried piece deed) same (λ ok. if-carried P setup w piece deed same (told (arrivals.Bytes (w.connection m i) piece) tt))
+  by (Back m i n) =
+      let deed = λ (k : ℕ). tell setup w (arrivals.Took (w.connection m i) k) in
+      let k = moved n (server_waits setup w m i) in
+      if-played P setup w (is_open setup w m i) (counted k deed) same (λ ok. if-counted P setup w k deed same (told (arrivals.Took (w.connection m i) k) tt))
+  by (Land m i n) =
+      let deed = λ (bytes : List ℕ). inform setup w m (events.LinkBytes i bytes) in
+      let piece = take (min n PIECE_MAX) (to_monitor setup w m i) in
+      if-played P setup w (is_linked setup w m i) (carried piece deed) same (λ ok. if-carried P setup w piece deed same (heard m (events.LinkBytes i piece)))
+  by (CutServer m i) = told (arrivals.Close (w.connection m i)) tt
+  by (CutMonitor m i) = heard m (events.LinkLost i)
+  by (Other e) = if-played P setup w (may_tell setup w (heeded setup.server e)) (tell setup w (heeded setup.server e)) same (λ may. told (heeded setup.server e) (fair setup w e may))
+
+  pub each-deed : (step : Step) → P (after setup w (deed setup w step))
+  each-deed step = if-played P setup w (is_other step || is_fit setup step) (deed_of setup w step) same (λ ok. by step)

@@ -35,7 +35,7 @@ use Rattle.nut_fleet.proofs.Steps.{for-own, for-other, line-within, zero-closed,
 use Rattle.nut_fleet.proofs.Worlds.{sound}
 use Rattle.nut_fleet.proofs.Moves.{input-grows, taken-same, drop-more, drop-begins, was-open, still-open, landed-grows, sent-more, informed-same, linked-before, moves-made, no-link, contents-tell}
 use Rattle.nut_fleet.proofs.Entries.{entry-input}
-use Rattle.nut_fleet.proofs.Seen.{both-ways, played-is, same-carried, same-counted}
+use Rattle.nut_fleet.proofs.Seen.{does-so, linked-is, open-is, played-is, same-deed, same-linked, same-monitor_waits, same-open, same-server_waits}
 
 -- ---- a monitor's content, after its notices were taken
 
@@ -128,6 +128,16 @@ one-other m i x f k j ne = elim (cases_eq k m) [
   | inr differ ↦ rw (ne_eqb k m differ) refl
 ]
 
+-- what holds of a link with a new value, and of all others
+with-link : {A : Type 0} (m i : ℕ) (x : A) (f : ℕ → ℕ → A) (P : ℕ → ℕ → A → Type 0) → P m i x → ((k j : ℕ) → ((k ≡ m) × (j ≡ i) → ⊥) → P k j (f k j)) →
+    (k j : ℕ) → P k j (for_monitor m (for_monitor i x (f m)) f k j)
+with-link m i x f P own others k j = elim (at-link m i k j) [
+  | inl both ↦
+      subst (λ y. P y j (for_monitor m (for_monitor i x (f m)) f y j)) (sym both.0)
+      (subst (λ y. P m y (for_monitor m (for_monitor i x (f m)) f m y)) (sym both.1) (subst (P m i) (sym (one-own m i x f)) own))
+  | inr ne ↦ subst (P k j) (sym (one-other m i x f k j ne)) (others k j ne)
+]
+
 -- ---- a fleet at a deed
 
 -- an event of the server brings nothing to this connection and takes nothing of it
@@ -174,15 +184,8 @@ module _ (setup : Setup) (earlier : List Step) (s : Sound setup earlier (world s
   tell-at e ok m i next own others = record {
     server = server-told e ok;
     monitor = keeps.monitor;
-    link = λ k j there. elim (at-link m i k j) [
-      | inl both ↦
-          subst (λ x. KeepsLink setup x j (w.connection x j) (e ∷ w.server) (w.monitor x) (for_monitor m (for_monitor i next (f.link m)) f.link x j)) (sym both.0)
-          (subst (λ y. KeepsLink setup m y (w.connection m y) (e ∷ w.server) (w.monitor m) (for_monitor m (for_monitor i next (f.link m)) f.link m y)) (sym both.1)
-          (subst (λ x. KeepsLink setup m i (w.connection m i) (e ∷ w.server) (w.monitor m) x) (sym (one-own m i next f.link)) own))
-      | inr ne ↦
-          subst (λ x. KeepsLink setup k j (w.connection k j) (e ∷ w.server) (w.monitor k) x) (sym (one-other m i next f.link k j ne))
-          (link-quiet e ok k j there (others k j ne))
-    ];
+    link = with-link m i next f.link (λ k j ends. has_link setup k j ≡ true → KeepsLink setup k j (w.connection k j) (e ∷ w.server) (w.monitor k) ends) (λ there. own)
+        (λ k j ne there. link-quiet e ok k j there (others k j ne));
   }
 
   -- the connections of two links differ if one is open
@@ -202,36 +205,6 @@ module _ (setup : Setup) (earlier : List Step) (s : Sound setup earlier (world s
 
   quiet-took : (c d n : ℕ) → (c == d) ≡ false → IsQuiet d (arrivals.Took c n)
   quiet-took c d n differ = (refl, rw differ refl)
-
-  same-open : (m i : ℕ) → has_link setup m i ≡ true → open_seen f m i ≡ is_open setup w m i
-  same-open m i there =
-      ap (λ c. is_some (server_tests.session_of c f.server.sessions)) (keeps.link m i there).connection
-      ∙ ap (λ s. let x : server.Content = s in is_some (server_tests.session_of (w.connection m i) x.sessions)) keeps.server
-
-  same-linked : (m i : ℕ) → has_link setup m i ≡ true → linked_seen f m i ≡ is_linked setup w m i
-  same-linked m i there =
-      ap (λ s. let x : knowledge.Content = s in monitor_tests.is_linked (monitor_tests.watch_at i x.watches)) (keeps.monitor m) ∙ tells.linked m i there
-
-  same-server_waits : (m i : ℕ) → has_link setup m i ≡ true → is_open setup w m i ≡ true →
-      server_tests.waiting_of (f.link m i).connection f.server.sessions ≡ server_waits setup w m i
-  same-server_waits m i there up =
-      ap (λ c. server_tests.waiting_of c f.server.sessions) (keeps.link m i there).connection
-      ∙ ap (λ s. let x : server.Content = s in server_tests.waiting_of (w.connection m i) x.sessions) keeps.server ∙ tells.server_waits m i there up
-
-  same-monitor_waits : (m i : ℕ) → has_link setup m i ≡ true →
-      monitor_tests.waiting_on (monitor_tests.watch_at i (f.monitor m).watches) ≡ monitor_waits setup w m i
-  same-monitor_waits m i there =
-      ap (λ s. let x : knowledge.Content = s in monitor_tests.waiting_on (monitor_tests.watch_at i x.watches)) (keeps.monitor m) ∙ tells.monitor_waits m i there
-
-  same-to_server : (m i : ℕ) → has_link setup m i ≡ true → is_open setup w m i ≡ true → (f.link m i).to_server ≡ to_server setup w m i
-  same-to_server m i there up =
-      (keeps.link m i there).to_server up
-      ∙ sym (ap (λ b. if b then drop (length (arrivals.input (w.connection m i) w.server)) (monitor.sent (monitor_of setup m) i (seen setup w m)) else []) up)
-
-  same-to_monitor : (m i : ℕ) → has_link setup m i ≡ true → is_linked setup w m i ≡ true → (f.link m i).to_monitor ≡ to_monitor setup w m i
-  same-to_monitor m i there up =
-      (keeps.link m i there).to_monitor up
-      ∙ sym (ap (λ b. if b then drop (length (monitor.input i (seen setup w m))) (server.sent setup.server (w.connection m i) w.server) else []) up)
 
   reach-keeps : (m i : ℕ) (piece : List ℕ) → has_link setup m i ≡ true → is_open setup w m i ≡ true →
       server_tests.refusal (served setup w) (arrivals.Bytes (w.connection m i) piece) ≡ None →
@@ -259,8 +232,8 @@ module _ (setup : Setup) (earlier : List Step) (s : Sound setup earlier (world s
       (told-link setup m i c w.server (w.monitor m) ends (ends_back f m i e) (keeps.link m i there) refl e (s.accepted, ok) (s.bound m i) (((s.monitors m).links i there).back)
       refl
       (λ linked.
-      ap (λ b. put_on b (take (sent_off ends.connection (arrivals.Took (w.connection m i) n)) (server_tests.waiting_of ends.connection f.server.sessions)) ends.to_monitor) (same-linked m i there ∙ linked)
-      ∙ ap (λ bytes. ends.to_monitor ++ take (sent_off ends.connection (arrivals.Took (w.connection m i) n)) bytes) (same-server_waits m i there up)
+      ap (λ b. put_on b (take (sent_off ends.connection (arrivals.Took (w.connection m i) n)) (server_tests.waiting_of ends.connection f.server.sessions)) ends.to_monitor) (same-linked setup w f keeps tells m i there ∙ linked)
+      ∙ ap (λ bytes. ends.to_monitor ++ take (sent_off ends.connection (arrivals.Took (w.connection m i) n)) bytes) (same-server_waits setup w f keeps tells m i there up)
       ∙ ap (λ d. ends.to_monitor ++ take (sent_off d (arrivals.Took (w.connection m i) n)) (server_waits setup w m i)) (keeps.link m i there).connection))
       (λ k j ne. quiet-took c (w.connection k j) n (other-connection m i up k j ne))
 
@@ -322,16 +295,9 @@ module _ (setup : Setup) (earlier : List Step) (s : Sound setup earlier (world s
       let told = informed (monitor_of setup m) (w.monitor m) event in record {
         server = keeps.server;
         monitor = monitor-told m event ok;
-        link = λ k j there. elim (at-link m i k j) [
-          | inl both ↦
-              subst (λ x. KeepsLink setup x j (w.connection x j) w.server (for_monitor m (informed (monitor_of setup m) (w.monitor m) event) w.monitor x) (for_monitor m (for_monitor i next (f.link m)) f.link x j)) (sym both.0)
-              (subst (λ y. KeepsLink setup m y (w.connection m y) w.server (for_monitor m (informed (monitor_of setup m) (w.monitor m) event) w.monitor m) (for_monitor m (for_monitor i next (f.link m)) f.link m y)) (sym both.1)
-              (subst (λ x. KeepsLink setup m i (w.connection m i) w.server (for_monitor m (informed (monitor_of setup m) (w.monitor m) event) w.monitor m) x) (sym (one-own m i next f.link))
-              (subst (λ x. KeepsLink setup m i (w.connection m i) w.server x next) (sym (for-own m told w.monitor)) own)))
-          | inr ne ↦
-              subst (λ x. KeepsLink setup k j (w.connection k j) w.server (for_monitor m (informed (monitor_of setup m) (w.monitor m) event) w.monitor k) x) (sym (one-other m i next f.link k j ne))
-              (link-informed m event ok k j there (λ same. others j (λ equal. ne (same, equal))))
-        ];
+        link = with-link m i next f.link (λ k j ends. has_link setup k j ≡ true → KeepsLink setup k j (w.connection k j) w.server (for_monitor m (informed (monitor_of setup m) (w.monitor m) event) w.monitor k) ends)
+            (λ there. subst (λ x. KeepsLink setup m i (w.connection m i) w.server x next) (sym (for-own m told w.monitor)) own)
+            (λ k j ne there. link-informed m event ok k j there (λ same. others j (λ equal. ne (same, equal))));
       }
 
   quiet-link_took : (i k j : ℕ) → (j ≡ i → ⊥) → IsQuietFor j (events.LinkTook i k)
@@ -352,8 +318,8 @@ module _ (setup : Setup) (earlier : List Step) (s : Sound setup earlier (world s
       (informed-link setup m i (w.connection m i) w.server (w.monitor m) ends (ends_out f m i event) (keeps.link m i there) refl event
       ((s.monitors m).accepted, ok) (line-within setup m i there) refl (((s.monitors m).links i there).out)
       (λ up.
-      ap (λ b. put_on b (take (put_in i (events.LinkTook i k)) (monitor_tests.waiting_on (monitor_tests.watch_at i (f.monitor m).watches))) ends.to_server) (same-open m i there ∙ up)
-      ∙ ap (λ bytes. ends.to_server ++ take (put_in i (events.LinkTook i k)) bytes) (same-monitor_waits m i there))
+      ap (λ b. put_on b (take (put_in i (events.LinkTook i k)) (monitor_tests.waiting_on (monitor_tests.watch_at i (f.monitor m).watches))) ends.to_server) (same-open setup w f keeps tells m i there ∙ up)
+      ∙ ap (λ bytes. ends.to_server ++ take (put_in i (events.LinkTook i k)) bytes) (same-monitor_waits setup w f keeps tells m i there))
       refl)
       (quiet-link_took i k)
 
@@ -381,16 +347,8 @@ module _ (setup : Setup) (earlier : List Step) (s : Sound setup earlier (world s
   join-keeps m i there cut ok = record {
     server = server-told e ok;
     monitor = monitor-told m (events.Linked i) accepts;
-    link = λ k j has. elim (at-link m i k j) [
-      | inl both ↦
-          subst (λ x. KeepsLink setup x j (v.connection x j) v.server (v.monitor x) (for_monitor m (for_monitor i (ends_made f) (f.link m)) f.link x j)) (sym both.0)
-          (subst (λ y. KeepsLink setup m y (v.connection m y) v.server (v.monitor m) (for_monitor m (for_monitor i (ends_made f) (f.link m)) f.link m y)) (sym both.1)
-          (subst (λ x. KeepsLink setup m i (v.connection m i) v.server (v.monitor m) x) (sym (one-own m i (ends_made f) f.link)) own))
-      | inr ne ↦
-          subst (λ x. KeepsLink setup k j (v.connection k j) v.server (v.monitor k) x) (sym (one-other m i (ends_made f) f.link k j ne))
-          (subst (λ c. KeepsLink setup k j c v.server (v.monitor k) (f.link k j)) (sym (one-other m i (suc (served setup w).opened) w.connection k j ne))
-          (other k j has ne))
-    ];
+    link = with-link m i (ends_made f) f.link (λ k j ends. has_link setup k j ≡ true → KeepsLink setup k j (v.connection k j) v.server (v.monitor k) ends) (λ has. own)
+        (λ k j ne has. subst (λ c. KeepsLink setup k j c v.server (v.monitor k) (f.link k j)) (sym (one-other m i (suc (served setup w).opened) w.connection k j ne)) (other k j has ne));
   }
     where
       e : arrivals.Event
@@ -426,50 +384,6 @@ module _ (setup : Setup) (earlier : List Step) (s : Sound setup earlier (world s
             subst (λ x. KeepsLink setup k j (w.connection k j) (arrivals.Open (address_of m) ∷ w.server) x (f.link k j)) (sym (for-other m k (informed (monitor_of setup m) (w.monitor m) (events.Linked i)) w.monitor differ))
             (link-quiet (arrivals.Open (address_of m)) ok k j has (refl, refl))
       ]
-
-  -- ---- what is done follows from what is kept
-
-  told : (event : arrivals.Event) → tell_seen f event ≡ tell setup w event
-  told event = ap (λ x. if is_none (server_tests.refusal x event) then Tell event else Skip) keeps.server
-
-  heard : (m : ℕ) (event : events.Event) → inform_seen f m event ≡ inform setup w m event
-  heard m event = ap (λ x. if is_none (monitor_tests.refusal x event) then Inform m event else Skip) (keeps.monitor m)
-
-  told-at : (m i : ℕ) → has_link setup m i ≡ true → (event : ℕ → arrivals.Event) → tell_seen f (event (f.link m i).connection) ≡ tell setup w (event (w.connection m i))
-  told-at m i there event = ap (λ c. tell_seen f (event c)) (keeps.link m i there).connection ∙ told (event (w.connection m i))
-
-  same-deed : (step : Step) → is_fit setup step ≡ true → deed_by f step ≡ deed_of setup w step
-  same-deed (ServerClock t) ok = told (arrivals.Moment t)
-  same-deed (MonitorClock m t) ok = heard m (events.Moment t)
-  same-deed (Up u) ok = told (arrivals.DriverUp u)
-  same-deed (Driver u line) ok = told (arrivals.DriverBytes u (line ++ 10 ∷ []))
-  same-deed (Down u) ok = told (arrivals.DriverDown u)
-  same-deed (Link m i) ok =
-      ap (λ b. if not b && not (linked_seen f m i) && is_none (server_tests.refusal f.server (arrivals.Open (address_of m))) then Join m i else Skip) (same-open m i ok)
-      ∙ ap (λ b. if not (is_open setup w m i) && not b && is_none (server_tests.refusal f.server (arrivals.Open (address_of m))) then Join m i else Skip) (same-linked m i ok)
-      ∙ ap (λ x. if not (is_open setup w m i) && not (is_linked setup w m i) && is_none (server_tests.refusal x (arrivals.Open (address_of m))) then Join m i else Skip) keeps.server
-  same-deed (Out m i n) ok =
-      both-ways (linked_seen f m i) (is_linked setup w m i) _ _ (same-linked m i ok) (λ up.
-      ap (λ bytes. counted (moved n bytes) (λ k. inform_seen f m (events.LinkTook i k))) (same-monitor_waits m i ok)
-      ∙ same-counted (moved n (monitor_waits setup w m i)) (λ k. inform_seen f m (events.LinkTook i k)) (λ k. inform setup w m (events.LinkTook i k)) (λ k. heard m (events.LinkTook i k)))
-  same-deed (Reach m i n) ok =
-      both-ways (open_seen f m i) (is_open setup w m i) _ _ (same-open m i ok) (λ up.
-      ap (λ bytes. carried (take (min n PIECE_MAX) bytes) (λ piece. tell_seen f (arrivals.Bytes (f.link m i).connection piece))) (same-to_server m i ok up)
-      ∙ same-carried (take (min n PIECE_MAX) (to_server setup w m i)) (λ piece. tell_seen f (arrivals.Bytes (f.link m i).connection piece))
-      (λ piece. tell setup w (arrivals.Bytes (w.connection m i) piece)) (λ piece. told-at m i ok (λ c. arrivals.Bytes c piece)))
-  same-deed (Back m i n) ok =
-      both-ways (open_seen f m i) (is_open setup w m i) _ _ (same-open m i ok) (λ up.
-      ap (λ bytes. counted (moved n bytes) (λ k. tell_seen f (arrivals.Took (f.link m i).connection k))) (same-server_waits m i ok up)
-      ∙ same-counted (moved n (server_waits setup w m i)) (λ k. tell_seen f (arrivals.Took (f.link m i).connection k))
-      (λ k. tell setup w (arrivals.Took (w.connection m i) k)) (λ k. told-at m i ok (λ c. arrivals.Took c k)))
-  same-deed (Land m i n) ok =
-      both-ways (linked_seen f m i) (is_linked setup w m i) _ _ (same-linked m i ok) (λ up.
-      ap (λ bytes. carried (take (min n PIECE_MAX) bytes) (λ piece. inform_seen f m (events.LinkBytes i piece))) (same-to_monitor m i ok up)
-      ∙ same-carried (take (min n PIECE_MAX) (to_monitor setup w m i)) (λ piece. inform_seen f m (events.LinkBytes i piece))
-      (λ piece. inform setup w m (events.LinkBytes i piece)) (λ piece. heard m (events.LinkBytes i piece)))
-  same-deed (CutServer m i) ok = told-at m i ok (λ c. arrivals.Close c)
-  same-deed (CutMonitor m i) ok = heard m (events.LinkLost i)
-  same-deed (Other event) ok = cc
 
   -- ---- what is told
 
@@ -550,16 +464,10 @@ module _ (setup : Setup) (earlier : List Step) (s : Sound setup earlier (world s
   pub goes-on : (step : Step) → is_fit setup step ≡ true → Keeps setup (world setup (step ∷ earlier)) (moved_on f step)
   goes-on step ok =
       subst (λ d. Keeps setup (after setup w d) (moved_on f step)) (sym (played-is setup w step ok))
-      (subst (λ d. Keeps setup (after setup w (deed_of setup w step)) (moved_by f d step)) (sym (same-deed step ok)) (goes step ok).0)
+      (subst (λ d. Keeps setup (after setup w (deed_of setup w step)) (moved_by f d step)) (sym (same-deed setup w f keeps tells step ok)) (goes step ok).0)
 
   pub tells-so : (step : Step) → is_fit setup step ≡ true → news_seen f step ≡ news setup w step
-  tells-so step ok = ap (news_by f) (same-deed step ok) ∙ (goes step ok).1 ∙ sym (ap (news_of setup w) (played-is setup w step ok))
-
-  pub does-so : (step : Step) → is_fit setup step ≡ true → deed_by f step ≡ deed setup w step
-  does-so step ok = same-deed step ok ∙ sym (played-is setup w step ok)
-
-  pub ends-so : (m i : ℕ) → has_link setup m i ≡ true → (open_seen f m i ≡ is_open setup w m i) × (linked_seen f m i ≡ is_linked setup w m i)
-  ends-so m i there = (same-open m i there, same-linked m i there)
+  tells-so step ok = ap (news_by f) (same-deed setup w f keeps tells step ok) ∙ (goes step ok).1 ∙ sym (ap (news_of setup w) (played-is setup w step ok))
 
   if-same : (a b : Bool) (x y : List ℕ) → a ≡ b → (b ≡ true → x ≡ y) → (if a then x else []) ≡ (if b then y else [])
   if-same true true x y e same = same refl
@@ -572,21 +480,12 @@ module _ (setup : Setup) (earlier : List Step) (s : Sound setup earlier (world s
     server = keeps.server;
     monitor = keeps.monitor;
     connection = λ m i there. (keeps.link m i there).connection;
-    to_server = λ m i there. if-same (open_seen f m i) (is_open setup w m i) _ _ (same-open m i there) (λ up. (keeps.link m i there).to_server up);
-    to_monitor = λ m i there. if-same (linked_seen f m i) (is_linked setup w m i) _ _ (same-linked m i there) (λ up. (keeps.link m i there).to_monitor up);
+    to_server = λ m i there. if-same (open_seen f m i) (is_open setup w m i) _ _ (same-open setup w f keeps tells m i there) (λ up. (keeps.link m i there).to_server up);
+    to_monitor = λ m i there. if-same (linked_seen f m i) (is_linked setup w m i) _ _ (same-linked setup w f keeps tells m i there) (λ up. (keeps.link m i there).to_monitor up);
   }
 
 -- ---- `Keeps` from `Stands`
 module _ (setup : Setup) (w : World) (tells : ContentsTell setup w) (f : Fleet) (stands : Stands setup w (what_counts f)) where
-  is-open : (m i : ℕ) → has_link setup m i ≡ true → open_seen f m i ≡ is_open setup w m i
-  is-open m i there =
-      ap (λ c. is_some (server_tests.session_of c f.server.sessions)) (stands.connection m i there)
-      ∙ ap (λ s. let x : server.Content = s in is_some (server_tests.session_of (w.connection m i) x.sessions)) stands.server
-
-  is-there : (m i : ℕ) → has_link setup m i ≡ true → linked_seen f m i ≡ is_linked setup w m i
-  is-there m i there =
-      ap (λ s. let x : knowledge.Content = s in monitor_tests.is_linked (monitor_tests.watch_at i x.watches)) (stands.monitor m) ∙ tells.linked m i there
-
   if-true : (a b : Bool) (x y : List ℕ) → a ≡ b → b ≡ true → (if a then x else []) ≡ (if b then y else []) → x ≡ y
   if-true true true x y e up same = same
   if-true true false x y e up same = cc
@@ -598,8 +497,8 @@ module _ (setup : Setup) (w : World) (tells : ContentsTell setup w) (f : Fleet) 
     monitor = stands.monitor;
     link = λ m i there. record {
       connection = stands.connection m i there;
-      to_server = λ up. if-true (open_seen f m i) (is_open setup w m i) _ _ (is-open m i there) up (stands.to_server m i there);
-      to_monitor = λ up. if-true (linked_seen f m i) (is_linked setup w m i) _ _ (is-there m i there) up (stands.to_monitor m i there);
+      to_server = λ up. if-true (open_seen f m i) (is_open setup w m i) _ _ (open-is setup w f m i (stands.connection m i there) stands.server) up (stands.to_server m i there);
+      to_monitor = λ up. if-true (linked_seen f m i) (is_linked setup w m i) _ _ (linked-is setup w f m i tells there (stands.monitor m)) up (stands.to_monitor m i there);
     };
   }
 
@@ -610,8 +509,8 @@ fleets-go_on setup law fine schedule =
     record {
       goes_on = λ f step ok keeps. goes-on setup schedule s tells f keeps step ok;
       tells = λ f step ok keeps. tells-so setup schedule s tells f keeps step ok;
-      does = λ f step ok keeps. does-so setup schedule s tells f keeps step ok;
-      ends = λ f keeps m i there. ends-so setup schedule s tells f keeps m i there;
+      does = λ f step ok keeps. does-so setup (world setup schedule) f keeps tells step ok;
+      ends = λ f keeps m i there. (same-open setup (world setup schedule) f keeps tells m i there, same-linked setup (world setup schedule) f keeps tells m i there);
       counts = λ f keeps. counts-so setup schedule s tells f keeps;
       kept = λ f stands. kept-so setup (world setup schedule) tells f stands;
     }

@@ -31,13 +31,4 @@ module _ (setup : Setup) (w : World) where
 
   pub other-link : (e : arrivals.Event) (m i : ℕ) → has_link setup m i ≡ true → may_tell setup w e ≡ true → is_of (w.connection m i) e ≡ false
   other-link (arrivals.Bytes c piece) m i there may = not-of_link c m i there (not-true (is_of_link setup w c) may)
-  other-link (arrivals.Moment t) m i there may = refl
-  other-link (arrivals.Open address) m i there may = refl
-  other-link (arrivals.Took c n) m i there may = refl
-  other-link (arrivals.Close c) m i there may = refl
-  other-link (arrivals.WriteFailed c) m i there may = refl
-  other-link (arrivals.DriverUp u) m i there may = refl
-  other-link (arrivals.DriverBytes u piece) m i there may = refl
-  other-link (arrivals.DriverTook u n) m i there may = refl
-  other-link (arrivals.DriverDown u) m i there may = refl
-  other-link (arrivals.Reload k) m i there may = refl
+  other-link e m i there may = refl

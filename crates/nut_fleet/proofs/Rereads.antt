@@ -22,7 +22,7 @@ use Rattle.nut_monitor_spec.specs.Event as events
 use Rattle.nut_monitor_spec.specs.Acceptance as monitor_tests
 use Rattle.nut_fleet.specs.Schedule as schedules
 use Rattle.nut_fleet.specs.World.{Setup, World, Tell, Inform, Join, served, known, is_open, is_linked, to_server, to_monitor, server_waits, monitor_waits, tell, inform, carried, counted, moved, address_of, deed_of, described, heeded, is_fit, is_other, kept_from, may_tell, after, world}
-use Rattle.nut_fleet.proofs.Deeds.{if-played, if-carried, if-counted}
+use Rattle.nut_fleet.proofs.Deeds.{IsFair, each-deed}
 
 -- ---- a server whose reloads keep its UPSes
 
@@ -193,68 +193,16 @@ reports-keep first u [] s kept = kept
 reports-keep first u (l ∷ ls) s kept = reports-keep first u ls (Reported u l ∷ s) kept
 
 module _ (setup : Setup) (w : World) (kept : KeepsRoom setup.server (steps w.server)) where
-  abbrev IsKept : World → Type 0
-  IsKept v = KeepsRoom setup.server (steps v.server)
-
-  told : (e : arrivals.Event) → KeepsRoom setup.server (steps (e ∷ w.server)) → IsKept (after setup w (tell setup w e))
-  told e next = if-played IsKept setup w (is_none (server_tests.refusal (served setup w) e)) (Tell e) kept (λ ok. next)
-
-  others-keep : (e : arrivals.Event) → may_tell setup w (heeded setup.server e) ≡ true → KeepsRoom setup.server (steps (heeded setup.server e ∷ w.server))
-  others-keep (arrivals.Bytes c piece) may = lines-keep setup.server c (brought (input c w.server) piece) (steps w.server) kept
-  others-keep (arrivals.DriverBytes u piece) may = reports-keep setup.server u (brought (driver_input u w.server) piece) (steps w.server) kept
-  others-keep (arrivals.Moment t) may = kept
-  others-keep (arrivals.Open address) may = kept
-  others-keep (arrivals.Took c n) may = kept
-  others-keep (arrivals.Close c) may = kept
-  others-keep (arrivals.WriteFailed c) may = kept
-  others-keep (arrivals.DriverUp u) may = kept
-  others-keep (arrivals.DriverTook u n) may = kept
-  others-keep (arrivals.DriverDown u) may = kept
-  others-keep (arrivals.Reload k) may =
-      let new = kept_from setup.server k in
-      (k, refl, (bytes_eq-Decides (renumbered new.upses (numbering setup.server (past setup.server w.server))) (numbers setup.server (past setup.server w.server))).0 may, kept)
-
-  heard : (m : ℕ) (event : events.Event) → IsKept (after setup w (inform setup w m event))
-  heard m event = if-played IsKept setup w (is_none (monitor_tests.refusal (known setup w m) event)) (Inform m event) kept (λ ok. kept)
-
-  after-deed : (step : schedules.Step) → IsKept (after setup w (deed_of setup w step))
-  after-deed (schedules.ServerClock t) = told (arrivals.Moment t) kept
-  after-deed (schedules.MonitorClock m t) = heard m (events.Moment t)
-  after-deed (schedules.Up u) = told (arrivals.DriverUp u) kept
-  after-deed (schedules.Driver u line) =
-      told (arrivals.DriverBytes u (line ++ 10 ∷ [])) (reports-keep setup.server u (brought (driver_input u w.server) (line ++ 10 ∷ [])) (steps w.server) kept)
-  after-deed (schedules.Down u) = told (arrivals.DriverDown u) kept
-  after-deed (schedules.Link m i) =
-      if-played IsKept setup w
-      (not (is_open setup w m i) && not (is_linked setup w m i) && is_none (server_tests.refusal (served setup w) (arrivals.Open (address_of m))))
-      (Join m i) kept (λ ok. kept)
-  after-deed (schedules.Out m i n) =
-      if-played IsKept setup w (is_linked setup w m i) (counted (moved n (monitor_waits setup w m i)) (λ k. inform setup w m (events.LinkTook i k))) kept
-      (λ up. if-counted IsKept setup w (moved n (monitor_waits setup w m i)) (λ k. inform setup w m (events.LinkTook i k)) kept
-      (heard m (events.LinkTook i (moved n (monitor_waits setup w m i)))))
-  after-deed (schedules.Reach m i n) =
-      let c = w.connection m i in
-      let piece = take (min n PIECE_MAX) (to_server setup w m i) in
-      if-played IsKept setup w (is_open setup w m i) (carried piece (λ x. tell setup w (arrivals.Bytes c x))) kept
-      (λ up. if-carried IsKept setup w piece (λ x. tell setup w (arrivals.Bytes c x)) kept
-      (told (arrivals.Bytes c piece) (lines-keep setup.server c (brought (input c w.server) piece) (steps w.server) kept)))
-  after-deed (schedules.Back m i n) =
-      let c = w.connection m i in
-      if-played IsKept setup w (is_open setup w m i) (counted (moved n (server_waits setup w m i)) (λ k. tell setup w (arrivals.Took c k))) kept
-      (λ up. if-counted IsKept setup w (moved n (server_waits setup w m i)) (λ k. tell setup w (arrivals.Took c k)) kept
-      (told (arrivals.Took c (moved n (server_waits setup w m i))) kept))
-  after-deed (schedules.Land m i n) =
-      let piece = take (min n PIECE_MAX) (to_monitor setup w m i) in
-      if-played IsKept setup w (is_linked setup w m i) (carried piece (λ x. inform setup w m (events.LinkBytes i x))) kept
-      (λ up. if-carried IsKept setup w piece (λ x. inform setup w m (events.LinkBytes i x)) kept (heard m (events.LinkBytes i piece)))
-  after-deed (schedules.CutServer m i) = told (arrivals.Close (w.connection m i)) kept
-  after-deed (schedules.CutMonitor m i) = heard m (events.LinkLost i)
-  after-deed (schedules.Other e) = if-played IsKept setup w (may_tell setup w (heeded setup.server e)) (tell setup w (heeded setup.server e)) kept (λ may. told (heeded setup.server e) (others-keep e may))
+  keeps : (e : arrivals.Event) → IsFair setup w e → KeepsRoom setup.server (steps (e ∷ w.server))
+  keeps (arrivals.Bytes c piece) is = lines-keep setup.server c (brought (input c w.server) piece) (steps w.server) kept
+  keeps (arrivals.DriverBytes u piece) is = reports-keep setup.server u (brought (driver_input u w.server) piece) (steps w.server) kept
+  keeps (arrivals.Reload new) is =
+      (is.0, is.1, (bytes_eq-Decides (renumbered new.upses (numbering setup.server (past setup.server w.server))) (numbers setup.server (past setup.server w.server))).0 is.2, kept)
+  keeps e is = kept
 
 -- Every reload of a schedule keeps the room.
 pub room-stays : (setup : Setup) (schedule : List schedules.Step) → KeepsRoom setup.server (steps (world setup schedule).server)
 room-stays setup [] = tt
 room-stays setup (step ∷ earlier) =
-    let w = world setup earlier in
     let kept = room-stays setup earlier in
-    if-played (λ v. KeepsRoom setup.server (steps v.server)) setup w (is_other step || is_fit setup step) (deed_of setup w step) kept (λ ok. after-deed setup w kept step)
+    each-deed setup (world setup earlier) (λ v. KeepsRoom setup.server (steps v.server)) kept (keeps setup (world setup earlier) kept) (λ m event. kept) (λ m i cut. kept) step

@@ -4,9 +4,9 @@ use Rattle.std.specs.Prelude.{nat_lt}
 use Rattle.std.proofs.lemmas.Bool.{cases_Bool, and_parts, eq-eqb, lt-ltb, ltb-false, ltb-true, not-true}
 use Rattle.nut_monitor_spec.specs.Configuration.{Configuration}
 use Rattle.nut_monitor_spec.specs.Decision.{power_where}
-use Rattle.nut_monitor_spec.specs.Event.{Event, NoticeTaken}
+use Rattle.nut_monitor_spec.specs.Event.{Event}
 use Rattle.nut_monitor_spec.specs.Query.{status_in}
-use Rattle.nut_monitor_spec.specs.Trace.{Asked, Entry, clock, at_status, status, status_of_answer, newest_answer, polled, gives_status, is_short, begun, has_begun, answer_of, entry_of, notices_waiting, trace}
+use Rattle.nut_monitor_spec.specs.Trace.{Asked, Entry, clock, at_status, status, status_of_answer, newest_answer, polled, gives_status, is_short, begun, has_begun, answer_of, entry_of, trace}
 use Rattle.nut_fleet.specs.Schedule.{Step, IsFront}
 use Rattle.nut_fleet.specs.World.{Setup, monitor_of, line_of, world}
 use Rattle.nut_fleet.specs.Fleet.{IsSetup, IsReason, Cause}
@@ -18,11 +18,12 @@ use Rattle.nut_in_time.specs.Pace.{Pace, IsPrompt, Says, seen_at, shown_at}
 use Rattle.nut_in_time.specs.InTime.{turn, seen_by, is_low, has_fsd}
 use Rattle.nut_in_time.specs.InVain.{is_bearable, NoneBeginsLater, NoneBeginsAnyMore, WasBorne, NoneBegins}
 use Rattle.nut_in_time.proofs.Asking.{wait-comes, rest-stays, waits-on, waits-outstanding, not-made}
-use Rattle.nut_in_time.proofs.Climbing.{climb, forth}
-use Rattle.nut_in_time.proofs.Ending.{clock-entry, clock-grows, earliest-sooner, earliest-stays, earliest-now}
+use Rattle.nut_in_time.proofs.Climbing.{each-event}
+use Rattle.nut_in_time.proofs.Ending.{clock-entry, clock-grows, earliest-sooner, earliest-stays, earliest-now, false-if}
 use Rattle.nut_in_time.proofs.Polling.{IsGiven, Current, late-next, status-unread, status-read}
 use Rattle.nut_in_time.proofs.Lasting.{Chosen, AllGood, Lasts, lasts-next, lasts-first, event-by-event}
 use Rattle.nut_in_time.proofs.Beginning.{power-less}
+use Rattle.nut_in_time.proofs.RoomSteps.{begins-later}
 
 -- ---- an event of a monitor that is up to date
 
@@ -183,52 +184,11 @@ module _ (setup : Setup) (law : IsLawful setup.server) (fine_setup : IsSetup set
         | inr early ↦ ltb-false (seen_by config pace t0) (clock (begun config past)) early
       ]
 
-  -- ---- from a time at which no shutdown has begun
-
-  module _ (m : ℕ) (middle : List Step) where
-    pub record Behind (told : List Event) : Type 0 where
-      pub since : clock (seen_at setup m middle) ≤ clock (trace (monitor_of setup m) told)
-      pub began : has_begun (monitor_of setup m) (trace (monitor_of setup m) told) ≡ true →
-          clock (seen_at setup m middle) ≤ clock (begun (monitor_of setup m) (trace (monitor_of setup m) told))
-
-    behind-next : (told : List Event) (event : Event) → Behind told → Behind (event ∷ told)
-    behind-next told event b =
-        let config = monitor_of setup m in
-        let past = trace config told in
-        let entry = entry_of config past event in
-        let time = clock-entry config past event in
-        let grows = clock-grows event (clock past) in
-        let since = b.since in
-        record {
-          since = omega (arith, time, grows, since);
-          began = λ any. elim (cases_Bool (has_begun config past)) [
-            | inl was ↦
-                let at = ap clock (earliest-stays (is_short config) entry past was) in
-                let le = b.began was in
-                omega (arith, at, le)
-            | inr was_not ↦
-                let at = ap clock (earliest-now (is_short config) entry past was_not any).0 in
-                omega (arith, at, time, grows, since)
-          ];
-        }
-
-    behind : IsFront middle schedule → has_begun (monitor_of setup m) (seen_at setup m middle) ≡ false → Behind ((world setup schedule).monitor m)
-    behind front not_begun =
-        climb setup m middle schedule Behind front
-        (record { since = omega arith; began = λ any. let bad : false ≡ true = sym not_begun ∙ any in cc })
-        (λ step earlier event within since is before.
-        let told = (world setup earlier).monitor m in
-        forth Behind (λ t. Unit {0}) (λ t q. tt) (λ t p q. behind-next t NoticeTaken p)
-        (notices_waiting (trace (monitor_of setup m) (event ∷ told))) (event ∷ told) (behind-next told event before) tt)
-
   pub none-begins_any_more : NoneBeginsAnyMore setup schedule
-  none-begins_any_more pace m fine start middle b within late not_begun = elim (cases_Bool (has_begun (monitor_of setup m) (seen_at setup m schedule))) [
-    | inr f ↦ f
-    | inl over ↦
-        let soon = none-begins_later pace m fine start b over in
-        let on = (behind m middle within not_begun).began over in
-        absurd (omega (arith, soon, on, late))
-  ]
+  none-begins_any_more pace m fine start middle b within late not_begun = false-if (has_begun (monitor_of setup m) (seen_at setup m schedule)) (λ over.
+      let soon = none-begins_later pace m fine start b over in
+      let on = begins-later setup m middle schedule within not_begun over in
+      absurd (omega (arith, soon, on, late)))
 
   -- ---- from before the monitor is up to date
 
@@ -273,11 +233,7 @@ module _ (setup : Setup) (law : IsLawful setup.server) (fine_setup : IsSetup set
     kept : IsFront start schedule → seen_by (monitor_of setup m) pace 0 ≤ (monitor_of setup m).dead_time → Kept ((world setup start).monitor m) →
         Kept ((world setup schedule).monitor m)
     kept front patient first =
-        climb setup m start schedule Kept front first
-        (λ step earlier event within since is before.
-        let told = (world setup earlier).monitor m in
-        forth Kept (λ t. Unit {0}) (λ t q. tt) (λ t p q. kept-next patient t NoticeTaken p)
-        (notices_waiting (trace (monitor_of setup m) (event ∷ told))) (event ∷ told) (kept-next patient told event before) tt)
+        each-event setup m start schedule Kept front first (kept-next patient)
 
   kept-first : (pace : Pace) (m i : ℕ) (start : List Step) → has_begun (monitor_of setup m) (seen_at setup m start) ≡ false → WasBorne setup pace m i start →
       Kept pace m i start ((world setup start).monitor m)
@@ -292,24 +248,21 @@ module _ (setup : Setup) (law : IsLawful setup.server) (fine_setup : IsSetup set
       by (Some words) is = inr (was.young (ap is_some is))
 
   pub none-begins : NoneBegins setup schedule
-  none-begins pace m fine start b before patient not_begun = elim (cases_Bool (has_begun (monitor_of setup m) (seen_at setup m schedule))) [
-    | inr f ↦ f
-    | inl over ↦
-        let config = monitor_of setup m in
-        let past = seen_at setup m schedule in
-        let soon : clock (begun config past) ≤ seen_by config pace (clock (seen_at setup m start)) = none-begins_later pace m fine start b over in
-        absurd (no-causes setup law fine_setup schedule m fine b.enough over (λ i within is cause.
-        let was = before i within is in
-        let k = kept pace m i start b.front patient (kept-first pace m i start not_begun was) in
-        let early = cause.shown.early in
-        let bearable : is_bearable cause.words ≡ true = elim (fronts-compare early start schedule cause.shown.between.front b.front) [
-          | inl older ↦ was.shown early cause.words older cause.shown.shown
-          | inr newer ↦
-              let shows = (b.lines i within is).shows early cause.shown.between.front newer in
-              says-words (shown_at setup early (line_of setup m i).ups) cause.words shows cause.shown.shown
-        ] in
-        elim (k.began over) [
-          | inl none ↦ let bad : None ≡ Some cause.words = sym none ∙ cause.status_is in cc
-          | inr young ↦ no-reason setup m i (clock (begun config past)) _ (polled i (begun config past)) cause.words bearable (omega (arith, young, soon)) cause.reason
-        ]))
-  ]
+  none-begins pace m fine start b before patient not_begun = false-if (has_begun (monitor_of setup m) (seen_at setup m schedule)) (λ over.
+      let config = monitor_of setup m in
+      let past = seen_at setup m schedule in
+      let soon : clock (begun config past) ≤ seen_by config pace (clock (seen_at setup m start)) = none-begins_later pace m fine start b over in
+      absurd (no-causes setup law fine_setup schedule m fine b.enough over (λ i within is cause.
+      let was = before i within is in
+      let k = kept pace m i start b.front patient (kept-first pace m i start not_begun was) in
+      let early = cause.shown.early in
+      let bearable : is_bearable cause.words ≡ true = elim (fronts-compare early start schedule cause.shown.between.front b.front) [
+        | inl older ↦ was.shown early cause.words older cause.shown.shown
+        | inr newer ↦
+            let shows = (b.lines i within is).shows early cause.shown.between.front newer in
+            says-words (shown_at setup early (line_of setup m i).ups) cause.words shows cause.shown.shown
+      ] in
+      elim (k.began over) [
+        | inl none ↦ let bad : None ≡ Some cause.words = sym none ∙ cause.status_is in cc
+        | inr young ↦ no-reason setup m i (clock (begun config past)) _ (polled i (begun config past)) cause.words bearable (omega (arith, young, soon)) cause.reason
+      ])))

@@ -9,14 +9,14 @@ use Rattle.nut_monitor_spec.specs.Acceptance as tests
 use Rattle.nut_monitor_spec.specs.Configuration.{Configuration, line_in}
 use Rattle.nut_monitor_spec.specs.Content.{Content, Watch, content}
 use Rattle.nut_monitor_spec.specs.Decision.{is_critical, is_past, power_where}
-use Rattle.nut_monitor_spec.specs.Event.{Event, Moment, Linked, LinkBytes, LinkLost, LinkTook, OutOfMemory, NoticeTaken}
+use Rattle.nut_monitor_spec.specs.Event.{Event, LinkBytes, OutOfMemory, NoticeTaken}
 use Rattle.nut_monitor_spec.specs.Query.{has, flags_of, status_in}
-use Rattle.nut_monitor_spec.specs.Trace.{Answer, Entry, all_taken, answer_of, answer_to, brought, first_answer, outstanding, at_status, begun, calm, clock, critical, entry_of, gives_status, has_begun, is_any, is_short, linked, newest_answer, notices_waiting, polled, status, status_of_answer, supply, trace}
+use Rattle.nut_monitor_spec.specs.Trace.{Answer, Entry, all_taken, answer_of, answer_to, brought, first_answer, outstanding, at_status, begun, calm, clock, critical, entry_of, gives_status, has_begun, is_any, is_short, linked, newest_answer, polled, status, status_of_answer, supply, trace}
 use Rattle.nut_monitor_spec.proofs.Answering.{linked-made}
 use Rattle.nut_fleet.specs.Schedule.{Step, IsFront}
-use Rattle.nut_fleet.specs.World.{Setup, informed, monitor_of, world}
+use Rattle.nut_fleet.specs.World.{Setup, monitor_of, world}
 use Rattle.nut_fleet.specs.Fleet.{IsSetup}
-use Rattle.nut_fleet.proofs.Fronts.{front-older, front-self}
+use Rattle.nut_fleet.proofs.Fronts.{front-self}
 use Rattle.nut_fleet.proofs.Sound.{IsLawful}
 use Rattle.nut_fleet.proofs.Worlds.{sound}
 use Rattle.nut_in_time.specs.Pace.{Pace, IsSteady, Says, seen_at}
@@ -24,10 +24,11 @@ use Rattle.nut_in_time.specs.InTime.{BeginsBy, has_fsd}
 use Rattle.nut_in_time.specs.CutOff.{CutOffStop, HearsNothing, NoneBeginsOnLine, NothingIsHeard, is_on_battery, is_on_line}
 use Rattle.nut_in_time.proofs.Asking.{to-is}
 use Rattle.nut_in_time.proofs.Beginning.{low-begun, power-less}
-use Rattle.nut_in_time.proofs.Climbing.{back, climb, forth, front-of}
-use Rattle.nut_in_time.proofs.Ending.{clock-entry, clock-taken, earliest-now, earliest-sooner, earliest-stays, halted-by_then, or-right}
+use Rattle.nut_in_time.proofs.Climbing.{front-of, each-event_with}
+use Rattle.nut_in_time.proofs.Ending.{earliest-now, earliest-sooner, earliest-stays, halted-by_then, or-right, each-steady, false-if}
 use Rattle.nut_in_time.proofs.Lasting.{Chosen}
 use Rattle.nut_in_time.proofs.Polling.{status-unread}
+use Rattle.nut_fleet.proofs.Entries.{entry-linked}
 
 -- ---- an event that brings no status
 
@@ -79,23 +80,11 @@ module _ (setup : Setup) (m : ℕ) (cut : ℕ → Bool) (start schedule : List S
   quiet-at early within since i less is = silent i less is early within since
 
   -- event by event, the taking of each notice included
-  each-event : (pace : Pace) (P : List Event → Type 0) → IsSteady setup pace m start schedule → P ((world setup start).monitor m) →
+  each-quiet : (pace : Pace) (P : List Event → Type 0) → IsSteady setup pace m start schedule → P ((world setup start).monitor m) →
       ((told : List Event) (event : Event) → Quiet told → Quiet (event ∷ told) →
       clock (trace (monitor_of setup m) (event ∷ told)) ≤ clock (trace (monitor_of setup m) told) + suc pace.skip → P told → P (event ∷ told)) →
       P ((world setup schedule).monitor m)
-  each-event pace P steady base on =
-      climb setup m start schedule P front base
-      (λ step earlier event within since is before.
-      let told = (world setup earlier).monitor m in
-      let notices = notices_waiting (trace config (event ∷ told)) in
-      let same = clock-taken config notices (event ∷ told) in
-      let given : clock (seen_at setup m (step ∷ earlier)) ≤ clock (seen_at setup m earlier) + suc pace.skip = steady step earlier within since in
-      let moved : clock (seen_at setup m (step ∷ earlier)) ≡ clock (trace config (informed config told event)) = ap (λ t. clock (trace config t)) is in
-      let now : Quiet (informed config told event) = subst Quiet is (quiet-at (step ∷ earlier) within (inr since)) in
-      let here : Quiet (event ∷ told) = back Quiet quiet-before notices (event ∷ told) now in
-      forth P Quiet quiet-before
-      (λ t p q. on t NoticeTaken (quiet-before t q) q (let e = clock-entry config (trace config t) NoticeTaken in omega (arith, e)) p) notices (event ∷ told)
-      (on told event (quiet-at earlier (front-older step earlier schedule within) since) here (omega (arith, same, given, moved)) before) now)
+  each-quiet pace P steady = each-steady setup m start schedule pace P Quiet front steady quiet-before quiet-at
 
   -- ---- on battery
 
@@ -159,16 +148,13 @@ module _ (setup : Setup) (m : ℕ) (cut : ℕ → Bool) (start schedule : List S
 
     tame-next : (told : List Event) (event : Event) → Quiet (event ∷ told) → has_begun (monitor_of setup m) (trace (monitor_of setup m) told) ≡ false →
         has_begun (monitor_of setup m) (trace (monitor_of setup m) (event ∷ told)) ≡ false
-    tame-next told event now not_begun = elim (cases_Bool (has_begun config (trace config (event ∷ told)))) [
-      | inr f ↦ f
-      | inl any ↦
-          let past = trace config told in
-          let next = entry_of config past event ∷ past in
-          let short = ltb-true (supply config next) config.min_supplies ((earliest-now (is_short config) (entry_of config past event) past not_begun any).1) in
-          let less : power_where cut config.lines ≤ supply config next =
-          power-less cut (λ i. not (critical config i next)) config.lines (λ i within is. let f = tame-line (event ∷ told) now i within is in rw f refl) in
-          absurd (omega (arith, short, less, enough))
-    ]
+    tame-next told event now not_begun = false-if (has_begun config (trace config (event ∷ told))) (λ any.
+        let past = trace config told in
+        let next = entry_of config past event ∷ past in
+        let short = ltb-true (supply config next) config.min_supplies ((earliest-now (is_short config) (entry_of config past event) past not_begun any).1) in
+        let less : power_where cut config.lines ≤ supply config next =
+        power-less cut (λ i. not (critical config i next)) config.lines (λ i within is. let f = tame-line (event ∷ told) now i within is in rw f refl) in
+        absurd (omega (arith, short, less, enough)))
 
 -- ---- as laws
 
@@ -180,7 +166,7 @@ cut_off-stop setup schedule pace m cut last start middle within c steady =
     let begins : BeginsBy (monitor_of setup m) (last + (monitor_of setup m).dead_time) (last + (monitor_of setup m).dead_time + suc pace.skip) (seen_at setup m middle) = record {
       begins = gone-begun setup m cut start middle c.front c.silent n.one n.there n.passes c.known last c.read n.short ((world setup middle).monitor m)
           (quiet-at setup m cut start middle c.front c.silent middle (front-self middle) c.front);
-      began = each-event setup m cut start middle c.front c.silent pace
+      began = each-quiet setup m cut start middle c.front c.silent pace
           (InTime setup m cut start middle c.front c.silent n.one n.there n.passes c.known last c.read n.short pace)
           (λ step early inside since. steady step early (front-of (step ∷ early) middle schedule inside within) since) (λ any. omega (arith, sooner, young))
           (gone-next setup m cut start middle c.front c.silent n.one n.there n.passes c.known last c.read n.short pace);
@@ -195,17 +181,9 @@ cut_off-stop setup schedule pace m cut last start middle within c steady =
 
 pub none-begins_on_line : (setup : Setup) (schedule : List Step) → NoneBeginsOnLine setup schedule
 none-begins_on_line setup schedule m cut start front silent known enough not_begun =
-    climb setup m start schedule (λ told. has_begun (monitor_of setup m) (trace (monitor_of setup m) told) ≡ false) front not_begun
-    (λ step earlier event within since is before.
-    let config = monitor_of setup m in
-    let told = (world setup earlier).monitor m in
-    let notices = notices_waiting (trace config (event ∷ told)) in
-    let Q = Quiet setup m cut start schedule front silent in
-    let older = quiet-before setup m cut start schedule front silent in
-    let on = tame-next setup m cut start schedule front silent known enough in
-    let now : Q (informed config told event) = subst Q is (quiet-at setup m cut start schedule front silent (step ∷ earlier) within (inr since)) in
-    forth (λ t. has_begun config (trace config t) ≡ false) Q older (λ t p q. on t NoticeTaken q p) notices (event ∷ told)
-    (on told event (back Q older notices (event ∷ told) now) before) now)
+    each-event_with setup m start schedule (λ told. has_begun (monitor_of setup m) (trace (monitor_of setup m) told) ≡ false) (Quiet setup m cut start schedule front silent) front
+    (quiet-before setup m cut start schedule front silent) (quiet-at setup m cut start schedule front silent) not_begun
+    (λ told event before now. tame-next setup m cut start schedule front silent known enough told event now)
 
 -- ---- a link that is down
 
@@ -242,22 +220,13 @@ unheard configuration told i (OutOfMemory j piece k) within accepted down = elim
       absurd (refused-down (content configuration told) piece (watch_at i (content configuration told).watches) (linked-made configuration told i within ∙ down) none)
   | inr f ↦ other-link configuration (trace configuration told) i j (take k (brought j (trace configuration told) piece)) f
 ]
-unheard configuration told i (Moment t) within accepted down = refl
-unheard configuration told i (Linked j) within accepted down = refl
-unheard configuration told i (LinkLost j) within accepted down = refl
-unheard configuration told i (LinkTook j n) within accepted down = refl
-unheard configuration told i NoticeTaken within accepted down = refl
+unheard configuration told i event within accepted down = refl
 
 pub nothing-heard : (setup : Setup) → IsLawful setup.server → IsSetup setup → (schedule : List Step) → NothingIsHeard setup schedule
 nothing-heard setup law fine schedule m i start less front down early inside since =
     let config = monitor_of setup m in
-    climb setup m start early (λ told. at_status i (trace config told) ≡ at_status i (seen_at setup m start)) since refl
-    (λ step earlier event within from is before.
-    let told = (world setup earlier).monitor m in
-    let notices = notices_waiting (trace config (event ∷ told)) in
-    let all : IsAccepted config (informed config told event) = subst (IsAccepted config) is ((sound setup law fine (step ∷ earlier)).monitors m).accepted in
-    let here : IsAccepted config (event ∷ told) = back (IsAccepted config) (λ t q. q.0) notices (event ∷ told) all in
-    let low : linked i (trace config told) ≡ false = down earlier (front-older step earlier schedule (front-of (step ∷ earlier) early schedule within inside)) from in
-    forth (λ t. at_status i (trace config t) ≡ at_status i (seen_at setup m start)) (λ t. Unit {0}) (λ t q. tt)
-    (λ t p q. same-unread config i (trace config t) NoticeTaken refl ∙ p) notices (event ∷ told)
-    (same-unread config i (trace config told) event (unheard config told i event less here.1 low) ∙ before) tt)
+    each-event_with setup m start early (λ told. at_status i (trace config told) ≡ at_status i (seen_at setup m start))
+    (λ told. IsAccepted config told × (linked i (trace config told) ≡ false)) since
+    (λ told q. (q.0.0, sym (entry-linked config (trace config told) NoticeTaken i) ∙ q.1))
+    (λ e within from. (((sound setup law fine e).monitors m).accepted, down e (front-of e early schedule within inside) from)) refl
+    (λ told event q q' before. same-unread config i (trace config told) event (unheard config told i event less q'.0.1 q.1) ∙ before)

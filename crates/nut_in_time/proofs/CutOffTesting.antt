@@ -1,14 +1,14 @@
 -- The test that a machine hears nothing proves it.
 use Rattle.std.proofs.Common.{◌≡◌, ◌⊎◌, ℕ, ◌<◌, ◌≤◌, inl, inr, List, ◌∷◌, ◌++◌, length, true, refl, ◌∙◌, ap, arith}
 use Rattle.std.proofs.lemmas.Bool.{cases_Bool, eqb-true}
-use Rattle.nut_monitor_spec.specs.Event.{Event, NoticeTaken}
-use Rattle.nut_monitor_spec.specs.Trace.{answer_of, at_status, entry_of, gives_status, notices_waiting, trace}
+use Rattle.nut_monitor_spec.specs.Event.{Event}
+use Rattle.nut_monitor_spec.specs.Trace.{answer_of, at_status, entry_of, gives_status, trace}
 use Rattle.nut_fleet.specs.Schedule.{Step}
-use Rattle.nut_fleet.specs.World.{Setup, monitor_of, world}
+use Rattle.nut_fleet.specs.World.{Setup, monitor_of}
 use Rattle.nut_in_time.specs.Pace.{seen_at}
 use Rattle.nut_in_time.specs.CutOff.{HearsNothing}
 use Rattle.nut_in_time.specs.Tests.{each_since, hears_nothing}
-use Rattle.nut_in_time.proofs.Climbing.{climb, forth}
+use Rattle.nut_in_time.proofs.Climbing.{each-event}
 use Rattle.nut_in_time.proofs.CutOff.{same-unread}
 use Rattle.nut_in_time.proofs.Polling.{status-read}
 use Rattle.nut_in_time.proofs.RoomSteps.{latest-shorter}
@@ -21,10 +21,7 @@ pub silent-holds : (setup : Setup) (m i : ℕ) (start newest : List Step) → ea
 silent-holds setup m i start newest is early inside since =
     let same = eqb-true (length (at_status i (seen_at setup m early))) (length (at_status i (seen_at setup m start)))
     (each-holds (hears_nothing setup m i start) start newest is early inside since) in
-    elim (climb setup m start early P since (inl refl, omega arith)
-    (λ step earlier event within from moved before.
-    let told = (world setup earlier).monitor m in
-    forth P (λ t. Unit {0}) (λ t q. tt) (λ t p q. on t NoticeTaken p) (notices_waiting (trace (monitor_of setup m) (event ∷ told))) (event ∷ told) (on told event before) tt)).0 [
+    elim (each-event setup m start early P since (inl refl, omega arith) on).0 [
       | inl equal ↦ equal
       | inr more ↦ absurd (omega (arith, same, more))
     ]

@@ -12,7 +12,7 @@ use Rattle.nut_monitor_spec.specs.Trace.{Asked, Answer, Entry, clock, clock_afte
 use Rattle.nut_fleet.proofs.Entries.{is_made}
 use Rattle.nut_in_time.specs.Pace.{Pace, IsPrompt}
 use Rattle.nut_in_time.proofs.Asking.{Waits, Rests, answer-is, wait-comes, rest-stays, waits-on, waits-outstanding}
-use Rattle.nut_in_time.proofs.Ending.{clock-entry, any-stays, earliest-now, earliest-stays, ended-begun}
+use Rattle.nut_in_time.proofs.Ending.{clock-entry, any-stays, earliest-now, earliest-stays, ended-begun, false-if}
 use Rattle.nut_in_time.proofs.Polling.{Polls, Current, status-unread}
 use Rattle.nut_in_time.proofs.Putting.{fsd-now, fsd-put, stays-forcing}
 
@@ -115,10 +115,7 @@ module _ (configuration : Configuration) (i n0 t0 turn : ℕ) (pace : Pace) (Wor
     puts-fsd = fsd-put configuration i past event within primary made there not_alone not_forced
 
     not-over : has_begun configuration past ≡ false → has_ended configuration past ≡ false
-    not-over not_begun = elim (cases_Bool (has_ended configuration past)) [
-      | inl t ↦ let bad : false ≡ true = sym not_begun ∙ ended-begun configuration past t in cc
-      | inr f ↦ f
-    ]
+    not-over not_begun = false-if (has_ended configuration past) (λ t. let bad : false ≡ true = sym not_begun ∙ ended-begun configuration past t in cc)
 
     -- FSD is put on a link that rests, in the second in which the shutdown begins
     at-once : (last : Asked) → last.query ≡ Status → Rests i midway last → has_begun configuration past ≡ false → has_begun configuration next ≡ true →

@@ -7,14 +7,14 @@ use Rattle.nut_proto.specs.declared.refusal.Refusal.TheVariants as refusals
 use Rattle.nut_proto.specs.declared.reply.Reply.TheVariants as replies
 use Rattle.nut_server_spec.specs.Configuration.{Configuration, User, number_of_ups, user_named, has_password}
 use Rattle.nut_server_spec.specs.Command.{Asks, command_of}
-use Rattle.nut_server_spec.specs.Event.{Event, Moment, Open, Bytes, Took, Close, WriteFailed, DriverUp, DriverBytes, DriverTook, DriverDown, Step, Clock, Opened, Said, Gone, Up, Reported, Drained, Down, steps, with_lines, with_reports, brought, input, driver_input, Reload, Reloaded}
+use Rattle.nut_server_spec.specs.Event.{Event, Bytes, DriverBytes, Step, Clock, Opened, Said, Gone, Up, Reported, Drained, Down, steps, with_lines, with_reports, brought, input, driver_input, Reloaded}
 use Rattle.nut_server_spec.specs.Content.{past}
 use Rattle.nut_server_spec.specs.Answer.{Answer, Line as OneLine, Scene, Caller, refused, require, check, once, with_right, has_right, may_be_primary, may_force, ups_number}
 use Rattle.nut_server_spec.specs.Effect.{user_then, password_then, forced_then, at_target, target}
 use Rattle.nut_server_spec.specs.Trace.{Entry, trace, user, password, logged_out, forced, scene, caller, answer_to, numbering}
 use Rattle.nut_server_spec.proofs.Requests.{require-case, check-case}
 use Rattle.nut_monitor_spec.specs.declared.Query.{Query}
-use Rattle.nut_monitor_spec.specs.declared.Query.TheVariants.{Username, Password, Login, Primary, Status, Fsd, NumLogins}
+use Rattle.nut_monitor_spec.specs.declared.Query.TheVariants.{Username, Password, Primary, Fsd}
 use Rattle.nut_monitor_spec.specs.Configuration.{Line}
 use Rattle.nut_monitor_spec.specs.Query.{request}
 use Rattle.nut_fleet.specs.Schedule.{Step as Playing}
@@ -80,12 +80,7 @@ module _ (first : Configuration) (line : Line) (c : ℕ) (t : List Entry) (spoke
   name-kept Username name is =
       ap (λ a. user_then (Asks (request line Username)) a (user c t))
       (query-answer first t c line Username spoken stays ∙ ap (once refusals.AlreadySetUsername) is) ∙ is
-  name-kept Password name is = is
-  name-kept Login name is = is
-  name-kept Primary name is = is
-  name-kept Status name is = is
-  name-kept Fsd name is = is
-  name-kept NumLogins name is = is
+  name-kept query name is = is
 
   -- nor is a password
   secret-kept : (query : Query) (secret : List ℕ) → password c t ≡ Some secret →
@@ -93,12 +88,7 @@ module _ (first : Configuration) (line : Line) (c : ℕ) (t : List Entry) (spoke
   secret-kept Password secret is =
       ap (λ a. password_then (Asks (request line Password)) a (password c t))
       (query-answer first t c line Password spoken stays ∙ ap (once refusals.AlreadySetPassword) is) ∙ is
-  secret-kept Username secret is = is
-  secret-kept Login secret is = is
-  secret-kept Primary secret is = is
-  secret-kept Status secret is = is
-  secret-kept Fsd secret is = is
-  secret-kept NumLogins secret is = is
+  secret-kept query secret is = is
 
   entitled-said : (text : LineText) → ((query : Query) × (text ≡ query_line line query)) → IsEntitled first line (user c t) (password c t) →
       IsEntitled first line (user_then (command_of text) (answer_to first t c text) (user c t)) (password_then (command_of text) (answer_to first t c text) (password c t))
@@ -209,12 +199,4 @@ module _ (first : Configuration) (c : ℕ) (P : Exchange → Type 0) where
   pub said-keeps : (e : Event) (h : List Event) → Exists P (exchanges c (past first h)) → Exists P (exchanges c (past first (e ∷ h)))
   said-keeps (Bytes d piece) h is = lines-keep d (brought (input d h) piece) (steps h) is
   said-keeps (DriverBytes u piece) h is = reports-keep u (brought (driver_input u h) piece) (steps h) is
-  said-keeps (Moment t) h is = is
-  said-keeps (Open address) h is = is
-  said-keeps (Took d n) h is = is
-  said-keeps (Close d) h is = is
-  said-keeps (WriteFailed d) h is = is
-  said-keeps (DriverUp u) h is = is
-  said-keeps (DriverTook u n) h is = is
-  said-keeps (DriverDown u) h is = is
-  said-keeps (Reload k) h is = is
+  said-keeps e h is = is

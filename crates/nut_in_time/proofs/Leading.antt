@@ -6,24 +6,25 @@ use Rattle.nut_monitor_spec.specs.declared.Query.TheVariants.{Primary, Status, F
 use Rattle.nut_monitor_spec.specs.Acceptance.{IsAccepted}
 use Rattle.nut_monitor_spec.specs.Configuration.{Configuration, line_in}
 use Rattle.nut_monitor_spec.specs.Decision.{is_alone}
-use Rattle.nut_monitor_spec.specs.Event.{Event, NoticeTaken}
-use Rattle.nut_monitor_spec.specs.Trace.{Asked, Answer, Entry, answer_of, begun, came, clock, clock_after, entry_of, forced, has_begun, has_ended, is_short, linked, logins, notices_waiting, trace}
+use Rattle.nut_monitor_spec.specs.Event.{Event}
+use Rattle.nut_monitor_spec.specs.Trace.{Asked, Answer, Entry, answer_of, begun, came, clock, clock_after, entry_of, forced, has_begun, has_ended, is_short, linked, logins, trace}
 use Rattle.nut_fleet.specs.Schedule.{Step, IsFront}
-use Rattle.nut_fleet.specs.World.{Setup, has_link, informed, line_of, monitor_of, world}
+use Rattle.nut_fleet.specs.World.{Setup, has_link, line_of, monitor_of, world}
 use Rattle.nut_fleet.specs.Fleet.{IsSetup}
-use Rattle.nut_fleet.proofs.Entries.{entry-answer, entry-linked, forced-by, forced-entry, is_made, length-trace}
-use Rattle.nut_fleet.proofs.Fronts.{front-older, front-self}
+use Rattle.nut_fleet.proofs.Entries.{entry-answer, forced-by, forced-entry, is_made, length-trace}
+use Rattle.nut_fleet.proofs.Fronts.{front-self}
 use Rattle.nut_fleet.proofs.Sound.{EachGenuine, ForAnswer, Genuine, IsLawful}
 use Rattle.nut_fleet.proofs.Worlds.{sound}
 use Rattle.nut_in_time.specs.Pace.{Pace, IsPolled, IsPrompt, KeepsPace, seen_at}
 use Rattle.nut_in_time.specs.Room.{WasGranted, is_forced}
 use Rattle.nut_in_time.proofs.Asking.{Rests, Waits, answer-is, new, not-made, rest-stays, rests-next, wait-comes, waits-on, waits-outstanding}
-use Rattle.nut_in_time.proofs.Climbing.{back, climb, forth}
-use Rattle.nut_in_time.proofs.Ending.{any-stays, clock-entry, clock-grows, earliest-now, earliest-stays, ended-begun}
-use Rattle.nut_in_time.proofs.Lasting.{outstanding-taken}
+use Rattle.nut_in_time.proofs.Climbing.{each-event_with}
+use Rattle.nut_in_time.proofs.Ending.{any-stays, clock-entry, clock-grows, earliest-now, earliest-stays, ended-begun, false-if}
 use Rattle.nut_in_time.proofs.Putting.{fsd-now, fsd-put, stays-forcing}
 use Rattle.nut_in_time.proofs.Starting.{old-first}
 use Rattle.nut_in_time.proofs.Unforced.{none-counted, none-forced, none-read}
+use Rattle.nut_fleet.proofs.Events.{genuine-front}
+use Rattle.nut_in_time.proofs.Lasting.{Fine, fine-older}
 
 module _ (configuration : Configuration) (i n0 : ℕ) (pace : Pace) where
   -- the last query was for the status
@@ -128,10 +129,7 @@ module _ (configuration : Configuration) (i n0 : ℕ) (pace : Pace) where
         ]
       where
         not_ended : has_ended configuration past ≡ false
-        not_ended = elim (cases_Bool (has_ended configuration past)) [
-          | inl t ↦ let bad : false ≡ true = sym not_begun ∙ ended-begun configuration past t in cc
-          | inr f ↦ f
-        ]
+        not_ended = false-if (has_ended configuration past) (λ t. let bad : false ≡ true = sym not_begun ∙ ended-begun configuration past t in cc)
 
         at-once : (last : Asked) → last.query ≡ Status → Rests i midway last → clock (begun configuration next) ≡ clock next → FsdWaits next
         at-once last is_status r at =
@@ -201,6 +199,13 @@ module _ (configuration : Configuration) (i n0 : ℕ) (pace : Pace) where
               absurd (not_read read.0 read.1 read.2 (ap (λ (x : Asked). x.query) read.3 ∙ a.is_fsd) (omega (arith, number, after)))
         ]
 
+-- a link that was polled when the shutdown hadn't begun
+pub opened-first : (configuration : Configuration) (i n0 : ℕ) (pace : Pace) (told : List Event) → IsAccepted configuration told → linked i (trace configuration told) ≡ true →
+    has_begun configuration (trace configuration told) ≡ false → IsPolled i (trace configuration told) → Opened configuration i n0 pace (trace configuration told)
+opened-first configuration i n0 pace told accepted there not_begun polled =
+    let old = old-first configuration i told n0 0 pace (λ words. true) accepted there not_begun polled in
+    record { last = old.last; is_status = old.is_status; known = old.early; stage = elim old.stage [ inl w ↦ inl w | inr r ↦ inr r.0 ] }
+
 -- ---- over a schedule
 
 module _ (setup : Setup) (law : IsLawful setup.server) (fine : IsSetup setup) (pace : Pace) (p i u : ℕ) (start schedule : List Step) (front : IsFront start schedule)
@@ -215,73 +220,36 @@ module _ (setup : Setup) (law : IsLawful setup.server) (fine : IsSetup setup) (p
   n0 = length ((world setup start).monitor p)
 
   -- what holds of the link at each event
-  pub record Keeps (told : List Event) : Type 0 where
-    pub accepted : IsAccepted (monitor_of setup p) told
-    pub up : linked i (trace (monitor_of setup p) told) ≡ true
-    pub prompt : IsPrompt pace i (trace (monitor_of setup p) told)
-
-  keeps-older : (told : List Event) → Keeps (NoticeTaken ∷ told) → Keeps told
-  keeps-older told k =
-      let past = trace config told in
-      record {
-        accepted = k.accepted.0;
-        up = sym (entry-linked config past NoticeTaken i) ∙ k.up;
-        prompt = λ asked is.
-            let le = k.prompt asked (outstanding-taken config past i asked is) in
-            let same = clock-entry config past NoticeTaken in
-            omega (arith, le, same);
-      }
+  abbrev Keeps : List Event → Type 0
+  Keeps told = Fine config i pace told × EachGenuine setup schedule p (trace config told)
 
   keeps-at : (early : List Step) → IsFront early schedule → IsFront start early → Keeps ((world setup early).monitor p)
-  keeps-at early inside since = record {
-    accepted = ((sound setup law fine early).monitors p).accepted;
-    up = keeps.linked early inside since;
-    prompt = keeps.prompt early inside since;
-  }
+  keeps-at early inside since =
+      let s = (sound setup law fine early).monitors p in
+      (record { accepted = s.accepted; there = keeps.linked early inside since; prompt = keeps.prompt early inside since }, genuine-front setup p early schedule (seen_at setup p early) inside s.genuine)
 
   abbrev Is : List Event → Type 0
   Is told = Led (monitor_of setup p) i (length ((world setup start).monitor p)) pace (trace (monitor_of setup p) told) × (length ((world setup start).monitor p) ≤ length told)
 
-  is-next : (e : List Step) → IsFront e schedule → (told : List Event) (event : Event) → Keeps told → Keeps (event ∷ told) →
-      EachGenuine setup e p (trace (monitor_of setup p) (event ∷ told)) → Is told → Is (event ∷ told)
-  is-next e inside told event before now all is =
+  is-next : (told : List Event) (event : Event) → Keeps told → Keeps (event ∷ told) → Is told → Is (event ∷ told)
+  is-next told event before now is =
       let past = trace config told in
       let long_enough = is.1 in
-      let count = length-trace config told in (
-        led-next config i n0 pace past event within primary long (not-made config told event i within now.accepted.1 before.up) now.up (omega (arith, long_enough, count)) before.prompt now.prompt
-            (none-counted setup law fine p i u start schedule front there number keeps.linked granted not_forced e inside (trace config (event ∷ told)) all)
+      let count = length-trace config told in
+      let end = front-self schedule in (
+        led-next config i n0 pace past event within primary long (not-made config told event i within now.0.accepted.1 before.0.there) now.0.there (omega (arith, long_enough, count)) before.0.prompt now.0.prompt
+            (none-counted setup law fine p i u start schedule front there number keeps.linked granted not_forced schedule end (trace config (event ∷ told)) now.1)
             (λ f. let midway' = came config past event ∷ past in
-            none-forced setup law fine p i u start schedule front there number keeps.linked granted not_forced e inside (length midway') (trace config (event ∷ told)) all
+            none-forced setup law fine p i u start schedule front there number keeps.linked granted not_forced schedule end (length midway') (trace config (event ∷ told)) now.1
             (forced-entry config past event i (length midway') (forced-by i (length midway') midway' (omega arith) f)))
-            (λ a answer. none-read setup law fine p i u start schedule front there number keeps.linked granted not_forced e inside past a
-            (subst (λ o. ForAnswer o (Genuine setup e p past)) (entry-answer config past event ∙ answer) all.0)) is.0,
+            (λ a answer. none-read setup law fine p i u start schedule front there number keeps.linked granted not_forced schedule end past a
+            (subst (λ o. ForAnswer o (Genuine setup schedule p past)) (entry-answer config past event ∙ answer) now.1.0)) is.0,
         omega (arith, long_enough),
       )
 
   led : Led (monitor_of setup p) i (length ((world setup start).monitor p)) pace (seen_at setup p schedule)
   led =
-      (climb setup p start schedule Is front (inl (not_begun, first), omega arith)
-      (λ step earlier event to_end since moved before.
-      let told = (world setup earlier).monitor p in
-      let notices = notices_waiting (trace config (event ∷ told)) in
-      let all : EachGenuine setup (step ∷ earlier) p (seen_at setup p (step ∷ earlier)) = ((sound setup law fine (step ∷ earlier)).monitors p).genuine in
-      let Q : List Event → Type 0 = λ t. Keeps t × EachGenuine setup (step ∷ earlier) p (trace config t) in
-      let older : (t : List Event) → Q (NoticeTaken ∷ t) → Q t = λ t q. (keeps-older t q.0, q.1.1) in
-      let last : Q (informed config told event) = subst Q moved (keeps-at (step ∷ earlier) to_end (inr since), all) in
-      let here : Q (event ∷ told) = back Q older notices (event ∷ told) last in
-      forth Is Q older (λ t x q. is-next (step ∷ earlier) to_end t NoticeTaken (older t q).0 q.0 q.1 x) notices (event ∷ told)
-      (is-next (step ∷ earlier) to_end told event (keeps-at earlier (front-older step earlier schedule to_end) since) here.0 here.1 before) last)).0
-    where
-      first : Opened (monitor_of setup p) i (length ((world setup start).monitor p)) pace (seen_at setup p start)
-      first =
-          let k = keeps-at start front (front-self start) in
-          let old = old-first config i ((world setup start).monitor p) n0 0 pace (λ words. true) k.accepted k.up not_begun polled in
-          record {
-            last = old.last;
-            is_status = old.is_status;
-            known = old.early;
-            stage = elim old.stage [ inl w ↦ inl w | inr r ↦ inr r.0 ];
-          }
+      (each-event_with setup p start schedule Is Keeps front (λ t q. (fine-older config i pace t q.0, q.1.1)) keeps-at (inl (not_begun, opened-first config i n0 pace ((world setup start).monitor p) (keeps-at start front (front-self start)).0.accepted (keeps-at start front (front-self start)).0.there not_begun polled), omega arith) is-next).0
 
   -- how long after the shutdown began it may be
   pub led-behind : (has_begun (monitor_of setup p) (seen_at setup p schedule) ≡ false)

@@ -1,5 +1,5 @@
 -- Machines with more UPSes than they need.
-use Rattle.std.proofs.Common.{◌≡◌, ℕ, zero, suc, ◌<◌, ◌≤◌, ◌==◌, List, [], ◌∷◌, length, Bool, true, not, refl, subst, sym, arith}
+use Rattle.std.proofs.Common.{◌≡◌, ℕ, zero, suc, ◌<◌, ◌≤◌, ◌==◌, List, [], ◌∷◌, length, Bool, true, refl, subst, sym, arith}
 use Rattle.std.proofs.lemmas.Bool.{eqb-true, eq-eqb}
 use Rattle.nut_monitor_spec.specs.Configuration.{Line, line_in}
 use Rattle.nut_monitor_spec.specs.Decision.{power_where}
@@ -13,6 +13,7 @@ use Rattle.nut_in_time.specs.InVain.{is_bearable}
 use Rattle.nut_in_time.specs.Redundant.{IsRedundant, OneIsEnough, AllAreLow, LastCounts}
 use Rattle.nut_in_time.proofs.Bearing.{none-begins_later}
 use Rattle.nut_in_time.proofs.Calming.{machines-halt_in_time}
+use Rattle.nut_in_time.proofs.Stopping.{none-power}
 
 -- one line supplies no more than all lines that pass
 power-one : (i : ℕ) (lines : List Line) (test : ℕ → Bool) → i < length lines → test i ≡ true → (line_in lines i).power ≤ power_where test lines
@@ -20,11 +21,6 @@ power-one i [] test within is = absurd (omega (arith, within))
 power-one zero (line ∷ lines) test within is = rw is (omega arith)
 power-one (suc i) (line ∷ lines) test within is =
     let rest = power-one i lines (λ k. test (suc k)) (omega (arith, within)) is in omega (arith, rest)
-
--- if no line passes, the sum is 0
-power-none : (lines : List Line) → power_where (λ i. not true) lines ≡ 0
-power-none [] = refl
-power-none (line ∷ lines) = let rest = power-none lines in omega (arith, rest)
 
 module _ (setup : Setup) (law : IsLawful setup.server) (fine : IsSetup setup) where
   pub one-is_enough : (schedule : List Step) → OneIsEnough setup schedule
@@ -46,7 +42,7 @@ module _ (setup : Setup) (law : IsLawful setup.server) (fine : IsSetup setup) wh
   fails pace m start middle redundant low = record {
     front = low.front;
     steady = low.steady;
-    needs = record { one = 0; there = redundant.there; passes = refl; short = let none = power-none (monitor_of setup m).lines in let some = redundant.some in omega (arith, none, some) };
+    needs = record { one = 0; there = redundant.there; passes = refl; short = let none = none-power (monitor_of setup m).lines in let some = redundant.some in omega (arith, none, some) };
     lines = λ i within is. low.lines i within;
   }
 

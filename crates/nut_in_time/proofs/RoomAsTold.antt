@@ -20,10 +20,10 @@ use Rattle.nut_in_time.specs.Pace.{Pace, IsPolled, IsPrompt}
 use Rattle.nut_in_time.specs.RoomAsTold.{EachTaken, HostsyncSufficesAsTold, PrimariesForceAsTold}
 use Rattle.nut_in_time.proofs.AnyServers.{always-now, begun-on, machines-stop}
 use Rattle.nut_in_time.proofs.Asking.{answer-is, not-made, waits-outstanding}
-use Rattle.nut_in_time.proofs.Ending.{earliest-sooner, or-right}
-use Rattle.nut_in_time.proofs.Leading.{Led, led-next}
+use Rattle.nut_in_time.proofs.Ending.{earliest-sooner, or-right, true-if, false-if}
+use Rattle.nut_in_time.proofs.Leading.{Led, led-next, opened-first}
 use Rattle.nut_in_time.proofs.RoomSteps.{begun-ending, is-halted}
-use Rattle.nut_in_time.proofs.Starting.{old-first, since-all}
+use Rattle.nut_in_time.proofs.Starting.{since-all}
 use Rattle.nut_in_time.proofs.Unforced.{count-asked}
 
 -- ---- a count is asked for only once FSD was accepted
@@ -96,19 +96,7 @@ module _ (configuration : Configuration) (pace : Pace) (first : List Event) (i :
   Leads told = Led configuration i (length first) pace (trace configuration told) × (length first ≤ length told)
 
   leads-first : IsAccepted configuration first → linked i (trace configuration first) ≡ true → Leads first
-  leads-first accepted there =
-      let old = old-first configuration i first (length first) 0 pace (λ words. true) accepted there not_begun polled in (
-        inl (
-          not_begun,
-          record {
-            last = old.last;
-            is_status = old.is_status;
-            known = old.early;
-            stage = elim old.stage [ inl w ↦ inl w | inr r ↦ inr r.0 ];
-          },
-        ),
-        omega arith,
-      )
+  leads-first accepted there = (inl (not_begun, opened-first configuration i (length first) pace first accepted there not_begun polled), omega arith)
 
   leads : (newest : List Event) → IsAccepted configuration (newest ++ first) → Kept newest → EachTaken i (length first) (trace configuration (newest ++ first)) →
       forced i (trace configuration (newest ++ first)) ≡ false → Leads (newest ++ first)
@@ -134,10 +122,7 @@ module _ (configuration : Configuration) (pace : Pace) (first : List Event) (i :
       )
     where
       unforced : (past : List Entry) (entry : Entry) → forced i (entry ∷ past) ≡ false → forced i past ≡ false
-      unforced past entry none = elim (cases_Bool (forced i past)) [
-        | inl t ↦ let bad : false ≡ true = sym none ∙ forced-on i entry past t in cc
-        | inr f ↦ f
-      ]
+      unforced past entry none = false-if (forced i past) (λ t. let bad : false ≡ true = sym none ∙ forced-on i entry past t in cc)
 
       by-answer : (past : List Entry) (entry : Entry) (a : Answer) → entry.answer ≡ Some a → a.link ≡ i → is_forced a.asked.query a.outcome ≡ true →
           forced i (entry ∷ past) ≡ true
@@ -148,23 +133,20 @@ module _ (configuration : Configuration) (pace : Pace) (first : List Event) (i :
 pub primaries-force : (configuration : Configuration) (pace : Pace) → PrimariesForceAsTold configuration pace
 primaries-force configuration pace first newest i is long within primary began late =
     let past = trace configuration (newest ++ first) in
-    elim (cases_Bool (forced i past)) [
-      | inl t ↦ t
-      | inr none ↦
-          let line = is.lines i within primary in
-          let prompt = (always-now configuration (λ past. (linked i past ≡ true) × IsPrompt pace i past) first newest line.1).1 in
-          elim (leads configuration pace first i within primary long is.not_begun line.0 newest is.accepted line.1 line.2 none).0 [
-            | inl before ↦ let bad : false ≡ true = sym before.0 ∙ began in cc
-            | inr (inl w) ↦
-                let in_time = prompt w.last (waits-outstanding i past w.last w.waits) in
-                let before = w.before in
-                absurd (omega (arith, in_time, before, late))
-            | inr (inr a) ↦
-                let in_time = prompt a.last (waits-outstanding i past a.last a.waits) in
-                let promptly = a.promptly in
-                absurd (omega (arith, in_time, promptly, late))
-          ]
-    ]
+    true-if (forced i past) (λ none.
+    let line = is.lines i within primary in
+    let prompt = (always-now configuration (λ past. (linked i past ≡ true) × IsPrompt pace i past) first newest line.1).1 in
+    elim (leads configuration pace first i within primary long is.not_begun line.0 newest is.accepted line.1 line.2 none).0 [
+      | inl before ↦ let bad : false ≡ true = sym before.0 ∙ began in cc
+      | inr (inl w) ↦
+          let in_time = prompt w.last (waits-outstanding i past w.last w.waits) in
+          let before = w.before in
+          absurd (omega (arith, in_time, before, late))
+      | inr (inr a) ↦
+          let in_time = prompt a.last (waits-outstanding i past a.last a.waits) in
+          let promptly = a.promptly in
+          absurd (omega (arith, in_time, promptly, late))
+    ])
 
 -- ---- HOSTSYNC suffices
 

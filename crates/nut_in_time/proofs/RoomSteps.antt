@@ -10,13 +10,13 @@ use Rattle.nut_monitor_spec.specs.declared.Phase.TheVariants.{Watching, Forcing,
 use Rattle.nut_monitor_spec.specs.declared.Query.TheVariants.{Status}
 use Rattle.nut_monitor_spec.specs.Configuration.{Configuration}
 use Rattle.nut_monitor_spec.specs.Decision.{is_halted, phase_at}
-use Rattle.nut_monitor_spec.specs.Event.{Event, NoticeTaken}
-use Rattle.nut_monitor_spec.specs.Trace.{Asked, Entry, clock, moment_of, latest, earliest, is_any, last_in, queries, phase, begun, has_begun, is_short, ended, has_ended, is_over_at, notices_waiting, entry_of, trace}
+use Rattle.nut_monitor_spec.specs.Event.{Event}
+use Rattle.nut_monitor_spec.specs.Trace.{Asked, Entry, clock, moment_of, latest, earliest, is_any, last_in, queries, phase, begun, has_begun, is_short, ended, has_ended, is_over_at, entry_of, trace}
 use Rattle.nut_fleet.specs.Schedule.{Step, IsFront}
-use Rattle.nut_fleet.specs.World.{Setup, World, Deed, Skip, Rest, Tell, Inform, Join, after, deed, monitor_of, world}
-use Rattle.nut_in_time.specs.Pace.{Pace, IsPolled, seen_at}
-use Rattle.nut_in_time.specs.Room.{is_forced}
-use Rattle.nut_in_time.proofs.Climbing.{climb, forth}
+use Rattle.nut_fleet.specs.World.{Setup, World, Deed, Inform, Join, after, deed, monitor_of, world}
+use Rattle.nut_in_time.specs.Pace.{Pace, IsPolled, KeepsPace, seen_at}
+use Rattle.nut_in_time.specs.Room.{KeepsStep, is_forced}
+use Rattle.nut_in_time.proofs.Climbing.{each-event, front-of}
 use Rattle.nut_in_time.proofs.Ending.{clock-entry, clock-grows, earliest-now, earliest-stays, empty-any, ended-begun}
 use Rattle.nut_in_time.proofs.Polling.{Polls}
 
@@ -25,11 +25,9 @@ use Rattle.nut_in_time.proofs.Polling.{Polls}
 -- it is a step of the server, so the monitors' clocks don't move
 pub deed-server : (setup : Setup) (u m : ℕ) (w : World) (d : Deed) → forced setup.server u (happened setup.server w.server) ≡ false →
     forced setup.server u (happened setup.server (after setup w d).server) ≡ true → (after setup w d).monitor m ≡ w.monitor m
-deed-server setup u m w Skip none now = refl
-deed-server setup u m w Rest none now = refl
-deed-server setup u m w (Tell event) none now = refl
 deed-server setup u m w (Inform k event) none now = let bad : false ≡ true = sym none ∙ now in cc
 deed-server setup u m w (Join k i) none now = let bad : false ≡ true = sym none ∙ now in cc
+deed-server setup u m w d none now = refl
 
 pub stood : (setup : Setup) (u m : ℕ) (step : Step) (early : List Step) → is_forced setup u early ≡ false → is_forced setup u (step ∷ early) ≡ true →
     clock (seen_at setup m (step ∷ early)) ≡ clock (seen_at setup m early)
@@ -67,25 +65,14 @@ pub ended-stays : (setup : Setup) (m : ℕ) (early late : List Step) → IsFront
     ended (monitor_of setup m) (seen_at setup m late) ≡ ended (monitor_of setup m) (seen_at setup m early)
 ended-stays setup m early late front any =
     let config = monitor_of setup m in
-    climb setup m early late (λ told. ended config (trace config told) ≡ ended config (seen_at setup m early)) front refl
-    (λ step earlier event within since is before.
-    let told = (world setup earlier).monitor m in
-    forth (λ t. ended config (trace config t) ≡ ended config (seen_at setup m early)) (λ t. Unit {0}) (λ t q. tt)
-    (λ t same q. on (trace config t) (entry_of config (trace config t) NoticeTaken) same)
-    (notices_waiting (trace config (event ∷ told))) (event ∷ told) (on (trace config told) (entry_of config (trace config told) event) before) tt)
-  where
-    on : (past : List Entry) (entry : Entry) → ended (monitor_of setup m) past ≡ ended (monitor_of setup m) (seen_at setup m early) →
-        ended (monitor_of setup m) (entry ∷ past) ≡ ended (monitor_of setup m) (seen_at setup m early)
-    on past entry same = earliest-stays (is_over_at (monitor_of setup m)) entry past (ap is_any same ∙ any) ∙ same
+    each-event setup m early late (λ told. ended config (trace config told) ≡ ended config (seen_at setup m early)) front refl
+    (λ told event same. earliest-stays (is_over_at config) (entry_of config (trace config told) event) (trace config told) (ap is_any same ∙ any) ∙ same)
 
 -- a shutdown that hadn't begun at a time begins no earlier than that
 pub begins-later : (setup : Setup) (m : ℕ) (early late : List Step) → IsFront early late → has_begun (monitor_of setup m) (seen_at setup m early) ≡ false →
     has_begun (monitor_of setup m) (seen_at setup m late) ≡ true → clock (seen_at setup m early) ≤ clock (begun (monitor_of setup m) (seen_at setup m late))
 begins-later setup m early late front none any =
-    (climb setup m early late P front (omega arith, λ is. let bad : false ≡ true = sym none ∙ is in cc)
-    (λ step earlier event within since is before.
-    let told = (world setup earlier).monitor m in
-    forth P (λ t. Unit {0}) (λ t q. tt) (λ t x q. on t NoticeTaken x) (notices_waiting (trace (monitor_of setup m) (event ∷ told))) (event ∷ told) (on told event before) tt)).1 any
+    (each-event setup m early late P front (omega arith, λ is. let bad : false ≡ true = sym none ∙ is in cc) on).1 any
   where
     P : List Event → Type 0
     P told = (clock (seen_at setup m early) ≤ clock (trace (monitor_of setup m) told))
@@ -149,3 +136,22 @@ polls-polled configuration i n0 t0 most pace Words past (inr (inr c)) = elim c.s
   | inl w ↦ let waits = w.0 in status-last i past c.last waits.older waits.queries_are c.is_status
   | inr r ↦ let rests = r.0 in status-last i past c.last rests.older rests.queries_are c.is_status
 ]
+
+-- ---- up to an earlier time
+
+pub pace-front : (setup : Setup) (pace : Pace) (m i : ℕ) (start early late : List Step) → IsFront early late → KeepsPace setup pace m i start late →
+    KeepsPace setup pace m i start early
+pace-front setup pace m i start early late inside k = record {
+  linked = λ e within from. k.linked e (front-of e early late within inside) from;
+  prompt = λ e within from. k.prompt e (front-of e early late within inside) from;
+}
+
+pub step-front : (setup : Setup) (pace : Pace) (drift p m : ℕ) (start early late : List Step) → IsFront early late → KeepsStep setup pace drift p m start late →
+    KeepsStep setup pace drift p m start early
+step-front setup pace drift p m start early late inside k = record {
+  steady = λ step e within from. k.steady step e (front-of (step ∷ e) early late within inside) from;
+  keeps = λ i less led. pace-front setup pace m i start early late inside (k.keeps i less led);
+  both_ends = λ i less led e within from. k.both_ends i less led e (front-of e early late within inside) from;
+  ahead = λ one other from to within. k.ahead one other from to (front-of other early late within inside);
+  behind = λ one other from to within. k.behind one other from to (front-of other early late within inside);
+}

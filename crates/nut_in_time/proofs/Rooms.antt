@@ -33,14 +33,14 @@ use Rattle.nut_in_time.specs.Room.{Follows, IsGrant, IsPatient, IsReady, IsRoom,
 use Rattle.nut_in_time.proofs.Beginning.{begin-by, forced-begin_in_time, power-less}
 use Rattle.nut_in_time.proofs.Climbing.{front-of}
 use Rattle.nut_in_time.proofs.Emptied.{pace-kept}
-use Rattle.nut_in_time.proofs.Ending.{begun-stays, earliest-sooner, ended-begun, halted-by_then, or-right}
+use Rattle.nut_in_time.proofs.Ending.{begun-stays, earliest-sooner, ended-begun, halted-by_then, or-right, true-if, false-if}
 use Rattle.nut_in_time.proofs.Forced.{forced-is_shown, schedule-stays}
 use Rattle.nut_in_time.proofs.Granted.{answered-forced, said-keeps}
 use Rattle.nut_in_time.proofs.Lasting.{Chosen, lasts}
 use Rattle.nut_in_time.proofs.Leading.{led-behind}
 use Rattle.nut_in_time.proofs.Patient.{not-gone}
 use Rattle.nut_in_time.proofs.Putting.{each-primary}
-use Rattle.nut_in_time.proofs.RoomSteps.{begins-later, begun-ending, earliest-shorter, ended-stays, is-halted, latest-shorter, not-ended, polls-polled, same-one, stood}
+use Rattle.nut_in_time.proofs.RoomSteps.{begins-later, begun-ending, earliest-shorter, ended-stays, is-halted, latest-shorter, not-ended, pace-front, polls-polled, same-one, step-front, stood}
 use Rattle.nut_in_time.proofs.Standing.{connection-kept, server-climb}
 use Rattle.nut_in_time.proofs.Stopping.{is_urgent, line-primary, not-later, soon-behind, urgent-critical}
 
@@ -129,10 +129,7 @@ module _ (tables : EveryTableHolds) (setup : Setup) (law : IsLawful setup.server
 
   -- one of its UPSes isn't forced
   unforced : (i : ℕ) → i < length (monitor_of setup p).lines → (line_of setup p i).primary ≡ true → (e : List Step) → is_forced setup (u i) e ≡ false → are_forced setup u p e ≡ false
-  unforced i within primary e none = elim (cases_Bool (are_forced setup u p e)) [
-    | inr f ↦ f
-    | inl t ↦ let bad : false ≡ true = sym none ∙ each-primary (λ j. is_forced setup (u j) e) (monitor_of setup p).lines i t within primary in cc
-  ]
+  unforced i within primary e none = false-if (are_forced setup u p e) (λ t. let bad : false ≡ true = sym none ∙ each-primary (λ j. is_forced setup (u j) e) (monitor_of setup p).lines i t within primary in cc)
 
   -- the status that is shown stops the primary at once
   urgent-at : (i : ℕ) → i < length (monitor_of setup p).lines → weak i ≡ true → FromOn start schedule (λ early. Says is_urgent (shown_at setup early (line_of setup p i).ups))
@@ -289,16 +286,10 @@ module _ (tables : EveryTableHolds) (setup : Setup) (law : IsLawful setup.server
 
   pub soon-accepted : has_begun (monitor_of setup p) (seen_at setup p schedule) ≡ true →
       clock (begun (monitor_of setup p) (seen_at setup p schedule)) + accepted_in (monitor_of setup p) (pace p) patient < clock (seen_at setup p schedule) → are_forced setup u p schedule ≡ true
-  soon-accepted begun' late = elim (cases_Bool (are_forced setup u p schedule)) [
-    | inl t ↦ t
-    | inr none ↦ let le = soon-forced schedule (front-self schedule) stops.front begun' none in absurd (omega (arith, le, late))
-  ]
+  soon-accepted begun' late = true-if (are_forced setup u p schedule) (λ none. let le = soon-forced schedule (front-self schedule) stops.front begun' none in absurd (omega (arith, le, late)))
 
   pub all-forced : clock (seen_at setup p start) + forced_in (monitor_of setup p) (pace p) < clock (seen_at setup p schedule) → are_forced setup u p schedule ≡ true
-  all-forced late = elim (cases_Bool (are_forced setup u p schedule)) [
-    | inl t ↦ t
-    | inr f ↦ let le = late-at schedule (front-self schedule) stops.front f in absurd (omega (arith, le, late))
-  ]
+  all-forced late = true-if (are_forced setup u p schedule) (λ f. let le = late-at schedule (front-self schedule) stops.front f in absurd (omega (arith, le, late)))
 
   -- ---- the primary
 
@@ -387,10 +378,7 @@ module _ (tables : EveryTableHolds) (setup : Setup) (law : IsLawful setup.server
               halted-by_then setup schedule (pace m) m f f last (front-self f) within (omega arith) t (omega (arith, sooner))
           | inr n ↦
               let watched0 : Chosen config (leads setup p m) (λ i. IsWatched setup (pace m) m i (λ words. true) start f) = λ i less led. record {
-                keeps = record {
-                  linked = λ e inside from. (k.keeps i less led).linked e (front-of e f schedule inside within) from;
-                  prompt = λ e inside from. (k.keeps i less led).prompt e (front-of e f schedule inside within) from;
-                };
+                keeps = pace-front setup (pace m) m i start f schedule within (k.keeps i less led);
                 polled = ready.polled m follows i less led;
                 shows = λ e inside from. shown-at i led e (front-of e f schedule inside within) from;
               } in
@@ -465,18 +453,15 @@ module _ (tables : EveryTableHolds) (setup : Setup) (law : IsLawful setup.server
               ∙ schedule-stays setup (u i) (number-within (line_of setup p i).ups setup.server.upses (u i) (room.number i within primary)) (w.force_step ∷ w.force_early) start (front-of (w.force_step ∷ w.force_early) early start w.forced_before is) now in cc
         ] in
         let config_p = monitor_of setup p in
-        let running : has_ended config_p (seen_at setup p early) ≡ false = elim (cases_Bool (has_ended config_p (seen_at setup p early))) [
-          | inr none ↦ none
-          | inl any ↦
-              let same = ap length (ended-stays setup p early schedule inside any) in
-              let a = earliest-shorter (is_over_at config_p) (seen_at setup p early) in
-              let count = length-trace config_p ((world setup early).monitor p) in
-              let b = at-count-shorter (ended config_p (seen_at setup p schedule)) in
-              let unread = w.between.unread in
-              absurd (omega (arith, same, a, count, b, unread))
-        ] in
+        let running : has_ended config_p (seen_at setup p early) ≡ false = false-if (has_ended config_p (seen_at setup p early)) (λ any.
+        let same = ap length (ended-stays setup p early schedule inside any) in
+        let a = earliest-shorter (is_over_at config_p) (seen_at setup p early) in
+        let count = length-trace config_p ((world setup early).monitor p) in
+        let b = at-count-shorter (ended config_p (seen_at setup p schedule)) in
+        let unread = w.between.unread in
+        absurd (omega (arith, same, a, count, b, unread))) in
         let step_p = stops.keeps p self early inside since (not-ended config_p (seen_at setup p early) running) in
-        let step_m : KeepsStep setup (pace m) drift p m start early = shorter early inside in
+        let step_m = step-front setup (pace m) drift p m start early schedule inside k in
         let led = led-own config_p.lines i within primary in
         let one = logged-in p self i within led early since step_p in
         let two = subst (λ n. Contains (logins setup.server (happened setup.server (world setup early).server) n) ((world setup early).connection m follows.one)) (sym name)
@@ -496,18 +481,6 @@ module _ (tables : EveryTableHolds) (setup : Setup) (law : IsLawful setup.server
       where
         at-count-shorter : (past : List Entry) → length (at_count i past) ≤ length past
         at-count-shorter past = latest-shorter (λ entry before. gives (λ query outcome. is_some (logins_in query outcome)) i entry.answer) past
-
-        shorter : (e : List Step) → IsFront e schedule → KeepsStep setup (pace m) drift p m start e
-        shorter e inside = record {
-          steady = λ step early within' from. k.steady step early (front-of (step ∷ early) e schedule within' inside) from;
-          keeps = λ j less led. record {
-            linked = λ x within' from. (k.keeps j less led).linked x (front-of x e schedule within' inside) from;
-            prompt = λ x within' from. (k.keeps j less led).prompt x (front-of x e schedule within' inside) from;
-          };
-          both_ends = λ j less led x within' from. k.both_ends j less led x (front-of x e schedule within' inside) from;
-          ahead = λ a b from to within'. k.ahead a b from to (front-of b e schedule within' inside);
-          behind = λ a b from to within'. k.behind a b from to (front-of b e schedule within' inside);
-        }
 
     pub follower-first : host_sync_for (monitor_of setup p) (pace p) patient (monitor_of setup m) (pace m) drift ≤ (monitor_of setup p).host_sync → has_ended (monitor_of setup p) (seen_at setup p schedule) ≡ true →
         is_stopped setup m schedule ≡ true

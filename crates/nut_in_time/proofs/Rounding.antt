@@ -10,17 +10,17 @@ use Rattle.nut_server_spec.specs.Content as server
 use Rattle.nut_server_spec.specs.Trace.{due as server_due}
 use Rattle.nut_monitor_spec.specs.declared.Query.{Query}
 use Rattle.nut_monitor_spec.specs.Configuration.{Configuration, Line}
-use Rattle.nut_monitor_spec.specs.Event.{Event, NoticeTaken}
+use Rattle.nut_monitor_spec.specs.Event.{Event}
 use Rattle.nut_monitor_spec.specs.Trace.{Asked, clock, queries, answers, outstanding, due, joined_queries, taken, notices_waiting, trace}
 use Rattle.nut_monitor_spec.specs.Trace as monitor
 use Rattle.nut_monitor_spec.proofs.Lists.{number-none}
 use Rattle.nut_fleet.specs.Schedule.{Step, IsFront}
-use Rattle.nut_fleet.specs.World.{Setup, monitor_of, line_of, world, informed, has_link}
+use Rattle.nut_fleet.specs.World.{Setup, monitor_of, line_of, world, has_link}
 use Rattle.nut_fleet.specs.Exchange.{Exchange, exchanges}
 use Rattle.nut_fleet.specs.Fleet.{IsSetup}
 use Rattle.nut_fleet.proofs.Entries.{entry-taken, length-trace}
 use Rattle.nut_fleet.proofs.Exchanges.{said-lines}
-use Rattle.nut_fleet.proofs.Fronts.{front-self, front-older, lines-begin}
+use Rattle.nut_fleet.proofs.Fronts.{front-self, lines-begin}
 use Rattle.nut_fleet.proofs.Sound.{IsOwn, IsLawful, PipeSound}
 use Rattle.nut_fleet.proofs.Steps.{spoken, line-within}
 use Rattle.nut_fleet.proofs.Texts.{IsReply, queries-lines, due-lines}
@@ -29,10 +29,10 @@ use Rattle.nut_fleet.proofs.Worlds.{sound}
 use Rattle.nut_in_time.specs.Pace.{seen_at}
 use Rattle.nut_in_time.specs.Round.{WentRound, IsThere, RoundsAnswer, RoundsKeepPace}
 use Rattle.nut_in_time.proofs.Asking.{not-made}
-use Rattle.nut_in_time.proofs.Climbing.{forth, back, climb, front-of}
+use Rattle.nut_in_time.proofs.Climbing.{front-of, each-event, each-event_with}
 use Rattle.nut_in_time.proofs.Emptied.{whole, all-taken}
 use Rattle.nut_in_time.proofs.Ending.{clock-entry, clock-grows}
-use Rattle.nut_in_time.proofs.Recent.{Up, up-older, newly, put-cases, recent-next, recent-informed}
+use Rattle.nut_in_time.proofs.Recent.{Up, up-older, newly, put-cases, recent-next}
 use Rattle.nut_in_time.proofs.Standing.{connection-kept, taken-grows, input-begins, sent-begins}
 
 -- ---- texts
@@ -71,6 +71,9 @@ module _ (setup : Setup) (law : IsLawful setup.server) (fine : IsSetup setup) (m
 
   up-at : (e : List Step) → IsFront start e → IsFront e schedule → Up' ((world setup e).monitor m)
   up-at e since within = record { accepted = ((sound setup law fine e).monitors m).accepted; there = up e within since }
+
+  up-between : (early late : List Step) → IsFront start early → IsFront late schedule → (e : List Step) → IsFront e late → IsFront early e → Up' ((world setup e).monitor m)
+  up-between early late since within e inside from = up-at e (front-of start early e since from) (front-of e late schedule inside within)
 
   pipes : (e : List Step) → PipeSound setup e m i ((world setup e).connection m i) (world setup e).server ((world setup e).monitor m)
   pipes e = ((sound setup law fine e).monitors m).links i there
@@ -113,25 +116,16 @@ module _ (setup : Setup) (law : IsLawful setup.server) (fine : IsSetup setup) (m
         (omega (arith, count, n), omega (arith, time, t))
 
     since-at : (e : List Step) → IsFront start e → Since ((world setup e).monitor m)
-    since-at e front =
-        climb setup m start e Since front first
-        (λ step earlier event within since moved before.
-        let told = (world setup earlier).monitor m in
-        forth Since (λ t. Unit {0}) (λ t q. tt) (λ t p q. since-of (NoticeTaken ∷ t) (behind-next t NoticeTaken p)) (notices_waiting (trace config (event ∷ told))) (event ∷ told)
-        (since-of (event ∷ told) (behind-next told event before)) tt)
+    since-at e front = each-event setup m start e Since front first (λ told event s. since-of (event ∷ told) (behind-next told event s))
 
     -- once this holds of the query that waits, it stays so
     recent-later : (early late : List Step) → IsFront start early → IsFront early late → IsFront late schedule → Recent ((world setup early).monitor m) →
         Recent ((world setup late).monitor m)
     recent-later early late since front within r =
-        (climb setup m early late (λ t. Since t × Recent t) front (since-at early since, r)
-        (λ step earlier event e_within e_since moved before.
-        let told = (world setup earlier).monitor m in
-        let from : IsFront start earlier = front-of start early earlier since e_since in
-        let inside : IsFront (step ∷ earlier) schedule = front-of (step ∷ earlier) late schedule e_within within in
-        let next = recent-informed config i less Behind on Fits fits told event (behind-next told event before.0) (up-at earlier from (front-older step earlier schedule inside))
-        (subst Up' moved (up-at (step ∷ earlier) (inr from) inside)) before.1 in
-        (since-of (informed config told event) next.0, next.1))).1
+        (each-event_with setup m early late (λ t. Since t × Recent t) Up' front (up-older config i) (up-between early late since within) (since-at early since, r)
+        (λ told event u u' before.
+        let now = behind-next told event before.0 in
+        (since-of (event ∷ told) now, recent-next config i less Behind on Fits fits told event now u u' before.1))).1
 
     -- this holds, or no query was put since `start`
     abbrev State : List Event → Type 0
@@ -146,33 +140,16 @@ module _ (setup : Setup) (law : IsLawful setup.server) (fine : IsSetup setup) (m
 
     state-at : (e : List Step) → IsFront start e → IsFront e schedule → State ((world setup e).monitor m)
     state-at e since within =
-        (climb setup m start e (λ t. Since t × State t) since (first, inr refl)
-        (λ step earlier event e_within from moved before.
-        let told = (world setup earlier).monitor m in
-        let notices = notices_waiting (trace config (event ∷ told)) in
-        let inside : IsFront (step ∷ earlier) schedule = front-of (step ∷ earlier) e schedule e_within within in
-        let here : Up' told = up-at earlier from (front-older step earlier schedule inside) in
-        let last : Up' (informed config told event) = subst Up' moved (up-at (step ∷ earlier) (inr from) inside) in
-        let next : Up' (event ∷ told) = back Up' (up-older config i) notices (event ∷ told) last in
+        (each-event_with setup m start e (λ t. Since t × State t) Up' since (up-older config i) (up-between start e (front-self start) within) (first, inr refl)
+        (λ told event u u' before.
         let now = behind-next told event before.0 in
-        forth (λ t. Since t × State t) Up' (up-older config i)
-        (λ t p u. let later = behind-next t NoticeTaken p.0 in (since-of (NoticeTaken ∷ t) later, state-next t NoticeTaken later (up-older config i t u) u p.1)) notices (event ∷ told)
-        (since-of (event ∷ told) now, state-next told event now here next before.1) last)).1
+        (since-of (event ∷ told) now, state-next told event now u u' before.1))).1
 
   -- ---- what its monitor put only grows
 
   taken-later : (early late : List Step) → IsFront start early → IsFront early late → IsFront late schedule → taken i (seen_at setup m early) ≤ taken i (seen_at setup m late)
   taken-later early late since front within =
-      climb setup m early late More front (omega arith)
-      (λ step earlier event e_within e_since moved before.
-      let told = (world setup earlier).monitor m in
-      let notices = notices_waiting (trace config (event ∷ told)) in
-      let from : IsFront start earlier = front-of start early earlier since e_since in
-      let inside : IsFront (step ∷ earlier) schedule = front-of (step ∷ earlier) late schedule e_within within in
-      let first : Up' told = up-at earlier from (front-older step earlier schedule inside) in
-      let last : Up' (informed config told event) = subst Up' moved (up-at (step ∷ earlier) (inr from) inside) in
-      let here : Up' (event ∷ told) = back Up' (up-older config i) notices (event ∷ told) last in
-      forth More Up' (up-older config i) (λ t p u. next t NoticeTaken (up-older config i t u) u p) notices (event ∷ told) (next told event first here before) last)
+      each-event_with setup m early late More Up' front (up-older config i) (up-between early late since within) (omega arith) next
     where
       More : List Event → Type 0
       More told = taken i (seen_at setup m early) ≤ taken i (trace config told)

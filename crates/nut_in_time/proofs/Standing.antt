@@ -1,22 +1,19 @@
 -- What a link that is up keeps: its connection, what the server heard on it, and what each end put into its pipe.
-use Rattle.std.proofs.Common.{◌≡◌, ◌⊎◌, ℕ, ◌≤◌, ◌==◌, ◌&&◌, ◌||◌, ◌++◌, min, not, true, false, inl, inr, List, [], ◌∷◌, take, is_none, refl, sym, ◌∙◌, ap, subst, arith}
-use Rattle.std.proofs.lemmas.Bool.{cases_Bool, cases_eq, and_parts, not-true, eq-eqb, ne_eqb}
+use Rattle.std.proofs.Common.{◌≡◌, ◌⊎◌, ℕ, ◌≤◌, ◌==◌, true, false, inl, inr, List, [], ◌∷◌, refl, sym, ◌∙◌, ap, subst, arith}
+use Rattle.std.proofs.lemmas.Bool.{cases_Bool, cases_eq, eq-eqb, ne_eqb}
 use Rattle.nut_words.specs.Quoting.{Begins}
-use Rattle.nut_words.specs.declared.limits.TheConstants.{PIECE_MAX}
 use Rattle.nut_server_spec.specs.Event as arrivals
-use Rattle.nut_server_spec.specs.Acceptance as server_tests
 use Rattle.nut_server_spec.specs.Content as server
-use Rattle.nut_monitor_spec.specs.Acceptance as monitor_tests
-use Rattle.nut_monitor_spec.specs.Event.{Event, Moment, Linked, LinkBytes, LinkLost, LinkTook, OutOfMemory, NoticeTaken}
+use Rattle.nut_monitor_spec.specs.Event.{Event, Linked, LinkTook}
 use Rattle.nut_monitor_spec.specs.Trace.{taken_after}
-use Rattle.nut_fleet.specs.Schedule.{Step, IsFront, ServerClock, MonitorClock, Up, Driver, Down, Link, Out, Reach, Back, Land, CutServer, CutMonitor, Other}
-use Rattle.nut_fleet.specs.World.{Setup, World, Deed, Skip, Rest, Tell, Inform, Join, served, known, is_open, is_linked, to_server, to_monitor, server_waits, monitor_waits, tell, inform, carried, counted, moved, address_of, is_fit, is_other, heeded, may_tell, deed, deed_of, after, world}
+use Rattle.nut_fleet.specs.Schedule.{Step, IsFront}
+use Rattle.nut_fleet.specs.World.{Setup, World, Deed, Tell, Join, is_linked, address_of, deed, after, world}
 use Rattle.nut_fleet.specs.Fleet.{IsSetup}
 use Rattle.nut_fleet.proofs.Entries.{is_made}
 use Rattle.nut_fleet.proofs.Fronts.{begins-self, begins-more, begins-then, front-self}
 use Rattle.nut_fleet.proofs.Server.{sent-grows}
 use Rattle.nut_fleet.proofs.Sound.{IsLawful}
-use Rattle.nut_fleet.proofs.Deeds.{if-played, if-carried, if-counted}
+use Rattle.nut_fleet.proofs.Deeds.{each-deed}
 use Rattle.nut_fleet.proofs.Worlds.{sound}
 
 -- ---- its connection
@@ -24,12 +21,6 @@ use Rattle.nut_fleet.proofs.Worlds.{sound}
 module _ (setup : Setup) (w : World) (m i : ℕ) (up : is_linked setup w m i ≡ true) where
   abbrev Same : World → Type 0
   Same v = v.connection m i ≡ w.connection m i
-
-  told : (event : arrivals.Event) → Same (after setup w (tell setup w event))
-  told event = if-played Same setup w (is_none (server_tests.refusal (served setup w) event)) (Tell event) refl (λ ok. refl)
-
-  heard : (k : ℕ) (event : Event) → Same (after setup w (inform setup w k event))
-  heard k event = if-played Same setup w (is_none (monitor_tests.refusal (known setup w k) event)) (Inform k event) refl (λ ok. refl)
 
   -- only a link that is down is made
   made : (k j : ℕ) → is_linked setup w k j ≡ false → Same (after setup w (Join k j))
@@ -45,39 +36,7 @@ module _ (setup : Setup) (w : World) (m i : ℕ) (up : is_linked setup w m i ≡
   ]
 
   pub connection-same : (step : Step) → Same (after setup w (deed setup w step))
-  connection-same step = if-played Same setup w (is_other step || is_fit setup step) (deed_of setup w step) refl (λ ok. by step)
-    where
-      by : (x : Step) → Same (after setup w (deed_of setup w x))
-      by (ServerClock t) = told (arrivals.Moment t)
-      by (MonitorClock k t) = heard k (Moment t)
-      by (Up u) = told (arrivals.DriverUp u)
-      by (Driver u line) = told (arrivals.DriverBytes u (line ++ 10 ∷ []))
-      by (Down u) = told (arrivals.DriverDown u)
-      by (Link k j) =
-          let free = not (is_open setup w k j) && not (is_linked setup w k j) in
-          let fits = is_none (server_tests.refusal (served setup w) (arrivals.Open (address_of k))) in
-          if-played Same setup w (free && fits) (Join k j) refl
-          (λ ok. made k j (not-true (is_linked setup w k j) (and_parts (not (is_open setup w k j)) (not (is_linked setup w k j)) (and_parts free fits ok).0).1))
-      by (Out k j n) =
-          if-played Same setup w (is_linked setup w k j) (counted (moved n (monitor_waits setup w k j)) (λ x. inform setup w k (LinkTook j x))) refl
-          (λ ok. if-counted Same setup w (moved n (monitor_waits setup w k j)) (λ x. inform setup w k (LinkTook j x)) refl (heard k (LinkTook j (moved n (monitor_waits setup w k j)))))
-      by (Reach k j n) =
-          if-played Same setup w (is_open setup w k j)
-          (carried (take (min n PIECE_MAX) (to_server setup w k j)) (λ piece. tell setup w (arrivals.Bytes (w.connection k j) piece))) refl
-          (λ ok. if-carried Same setup w (take (min n PIECE_MAX) (to_server setup w k j)) (λ piece. tell setup w (arrivals.Bytes (w.connection k j) piece)) refl
-          (told (arrivals.Bytes (w.connection k j) (take (min n PIECE_MAX) (to_server setup w k j)))))
-      by (Back k j n) =
-          if-played Same setup w (is_open setup w k j) (counted (moved n (server_waits setup w k j)) (λ x. tell setup w (arrivals.Took (w.connection k j) x))) refl
-          (λ ok. if-counted Same setup w (moved n (server_waits setup w k j)) (λ x. tell setup w (arrivals.Took (w.connection k j) x)) refl
-          (told (arrivals.Took (w.connection k j) (moved n (server_waits setup w k j)))))
-      by (Land k j n) =
-          if-played Same setup w (is_linked setup w k j)
-          (carried (take (min n PIECE_MAX) (to_monitor setup w k j)) (λ piece. inform setup w k (LinkBytes j piece))) refl
-          (λ ok. if-carried Same setup w (take (min n PIECE_MAX) (to_monitor setup w k j)) (λ piece. inform setup w k (LinkBytes j piece)) refl
-          (heard k (LinkBytes j (take (min n PIECE_MAX) (to_monitor setup w k j)))))
-      by (CutServer k j) = told (arrivals.Close (w.connection k j))
-      by (CutMonitor k j) = heard k (LinkLost j)
-      by (Other e) = if-played Same setup w (may_tell setup w (heeded setup.server e)) (tell setup w (heeded setup.server e)) refl (λ ok. told (heeded setup.server e))
+  connection-same = each-deed setup w Same refl (λ event is. refl) (λ k event. refl) made
 
 -- from one time to a later one, while the link is up
 pub connection-kept : (setup : Setup) (m i : ℕ) (early late : List Step) → IsFront early late →
@@ -94,11 +53,7 @@ connection-kept setup m i early (step ∷ late) (inr front) up =
 pub taken-grows : (i : ℕ) (event : Event) (before : ℕ) → is_made i event ≡ false → before ≤ taken_after i event before
 taken-grows i (LinkTook j n) before made = elim (cases_Bool (j == i)) [ inl t ↦ rw t (omega arith) | inr f ↦ rw f (omega arith) ]
 taken-grows i (Linked j) before made = rw made (omega arith)
-taken-grows i (Moment t) before made = omega arith
-taken-grows i (LinkBytes j piece) before made = omega arith
-taken-grows i (LinkLost j) before made = omega arith
-taken-grows i (OutOfMemory j piece k) before made = omega arith
-taken-grows i NoticeTaken before made = omega arith
+taken-grows i event before made = omega arith
 
 -- ---- what a server heard on a connection, and what it put into its pipe
 
@@ -107,25 +62,14 @@ input-grows c (arrivals.Bytes d piece) h = elim (cases_Bool (d == c)) [
   | inl t ↦ rw t (begins-more (arrivals.input c h) (arrivals.input c h) piece (begins-self (arrivals.input c h)))
   | inr f ↦ rw f (begins-self (arrivals.input c h))
 ]
-input-grows c (arrivals.Moment t) h = begins-self (arrivals.input c h)
-input-grows c (arrivals.Open address) h = begins-self (arrivals.input c h)
-input-grows c (arrivals.Took d n) h = begins-self (arrivals.input c h)
-input-grows c (arrivals.Close d) h = begins-self (arrivals.input c h)
-input-grows c (arrivals.WriteFailed d) h = begins-self (arrivals.input c h)
-input-grows c (arrivals.DriverUp u) h = begins-self (arrivals.input c h)
-input-grows c (arrivals.DriverBytes u piece) h = begins-self (arrivals.input c h)
-input-grows c (arrivals.DriverTook u n) h = begins-self (arrivals.input c h)
-input-grows c (arrivals.DriverDown u) h = begins-self (arrivals.input c h)
-input-grows c (arrivals.Reload k) h = begins-self (arrivals.input c h)
+input-grows c event h = begins-self (arrivals.input c h)
 
 -- the server's events stay, or there is one more
 pub server-moves : (setup : Setup) (w : World) (d : Deed) →
     ((after setup w d).server ≡ w.server) ⊎ ((event : arrivals.Event) × ((after setup w d).server ≡ event ∷ w.server))
-server-moves setup w Skip = inl refl
-server-moves setup w Rest = inl refl
 server-moves setup w (Tell event) = inr (event, refl)
-server-moves setup w (Inform m event) = inl refl
 server-moves setup w (Join m i) = inr (arrivals.Open (address_of m), refl)
+server-moves setup w d = inl refl
 
 -- What holds of the server's events at one time, and is kept by each event, holds at a later time.
 pub server-climb : (setup : Setup) (early late : List Step) (P : List arrivals.Event → Type 0) → IsFront early late → P (world setup early).server →

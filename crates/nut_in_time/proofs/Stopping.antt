@@ -7,14 +7,14 @@ use Rattle.nut_server_spec.specs.Content.{past}
 use Rattle.nut_monitor_spec.specs.declared.Query.TheVariants.{Primary}
 use Rattle.nut_monitor_spec.specs.Configuration.{Configuration, Line, has_primary, line_in}
 use Rattle.nut_monitor_spec.specs.Decision.{power_where}
-use Rattle.nut_monitor_spec.specs.Event.{Event, NoticeTaken}
-use Rattle.nut_monitor_spec.specs.Trace.{Entry, clock, status, critical, is_any, is_short, supply, begun, has_begun, came, entry_of, notices_waiting, trace}
+use Rattle.nut_monitor_spec.specs.Event.{Event}
+use Rattle.nut_monitor_spec.specs.Trace.{Entry, clock, status, critical, is_any, is_short, supply, begun, has_begun, came, entry_of, trace}
 use Rattle.nut_monitor_spec.proofs.Lists.{earliest-none}
 use Rattle.nut_fleet.specs.Schedule.{Step, IsFront}
-use Rattle.nut_fleet.specs.World.{Setup, has_link, informed, line_of, monitor_of, world}
+use Rattle.nut_fleet.specs.World.{Setup, has_link, line_of, monitor_of, world}
 use Rattle.nut_fleet.specs.Fleet.{IsSetup}
 use Rattle.nut_fleet.proofs.Entries.{entry-answer, forced-by, forced-entry, length-trace}
-use Rattle.nut_fleet.proofs.Fronts.{front-self, front-older}
+use Rattle.nut_fleet.proofs.Fronts.{front-self}
 use Rattle.nut_fleet.proofs.Sound.{EachGenuine, ForAnswer, Genuine, IsLawful}
 use Rattle.nut_fleet.proofs.Worlds.{sound}
 use Rattle.nut_in_time.specs.Pace.{Pace, FromOn, IsPolled, IsSteady, IsWatched, KeepsPace, Says, seen_at, shown_at}
@@ -22,12 +22,12 @@ use Rattle.nut_in_time.specs.InTime.{BeginsBy, IsFailing, has_fsd, is_low, seen_
 use Rattle.nut_in_time.specs.Room.{WasGranted, is_forced}
 use Rattle.nut_in_time.proofs.Asking.{not-made, waits-outstanding}
 use Rattle.nut_in_time.proofs.Beginning.{begin-by, fsd-critical, low-critical, low-begun, linked-any, power-less}
-use Rattle.nut_in_time.proofs.Climbing.{back, climb, forth}
-use Rattle.nut_in_time.proofs.Ending.{clock-entry, clock-grows, clock-taken, earliest-now, empty-any}
+use Rattle.nut_in_time.proofs.Ending.{clock-entry, clock-grows, earliest-now, empty-any, each-steady, true-if, false-if}
 use Rattle.nut_in_time.proofs.Forcing.{IsGone, Track, track-next}
-use Rattle.nut_in_time.proofs.Lasting.{AllGood, Chosen, Lasts, all-good, good-before, lasts-first, lasts-next, still}
+use Rattle.nut_in_time.proofs.Lasting.{AllGood, Chosen, Lasts, all-good, good-before, lasts-first, lasts-next}
 use Rattle.nut_in_time.proofs.Polling.{Current}
 use Rattle.nut_in_time.proofs.Unforced.{none-counted, none-forced, none-read}
+use Rattle.nut_fleet.proofs.Events.{genuine-front}
 
 -- ---- statuses that stop a primary at once
 
@@ -68,16 +68,13 @@ enough-before configuration (e ∷ p) any none =
 -- if there is one line, it becomes critical as the shutdown begins
 wild-now : (configuration : Configuration) (past : List Entry) (entry : Entry) → length configuration.lines ≡ 1 → is_any past ≡ true →
     has_begun configuration past ≡ false → has_begun configuration (entry ∷ past) ≡ true → critical configuration 0 (entry ∷ past) ≡ true
-wild-now configuration past entry one any none begins = elim (cases_Bool (critical configuration 0 (entry ∷ past))) [
-  | inl t ↦ t
-  | inr f ↦
-      let short = ltb-true (supply configuration (entry ∷ past)) configuration.min_supplies ((earliest-now (is_short configuration) entry past none begins).1) in
-      let enough = enough-before configuration past any none in
-      let more : supply configuration past ≤ supply configuration (entry ∷ past) =
-      power-less (λ i. not (critical configuration i past)) (λ i. not (critical configuration i (entry ∷ past))) configuration.lines
-      (by (λ i. not (critical configuration i past)) (λ i. not (critical configuration i (entry ∷ past))) (rw f refl)) in
-      absurd (omega (arith, short, enough, more))
-]
+wild-now configuration past entry one any none begins = true-if (critical configuration 0 (entry ∷ past)) (λ f.
+    let short = ltb-true (supply configuration (entry ∷ past)) configuration.min_supplies ((earliest-now (is_short configuration) entry past none begins).1) in
+    let enough = enough-before configuration past any none in
+    let more : supply configuration past ≤ supply configuration (entry ∷ past) =
+    power-less (λ i. not (critical configuration i past)) (λ i. not (critical configuration i (entry ∷ past))) configuration.lines
+    (by (λ i. not (critical configuration i past)) (λ i. not (critical configuration i (entry ∷ past))) (rw f refl)) in
+    absurd (omega (arith, short, enough, more)))
   where
     by : (a b : ℕ → Bool) → b 0 ≡ true → (i : ℕ) → i < length configuration.lines → a i ≡ true → b i ≡ true
     by a b is zero less before = is
@@ -155,7 +152,7 @@ module _ (setup : Setup) (law : IsLawful setup.server) (fine : IsSetup setup) (p
         × Track config 0 n0 t0 most pace is_urgent (trace config told)
 
     abbrev Goods : List Event → Type 0
-    Goods told = AllGood config n0 pace is_urgent every told
+    Goods told = AllGood config n0 pace is_urgent every told × EachGenuine setup schedule p (trace config told)
 
     turned : config.poll_freq + pace.skip ≤ most
     turned = omega arith
@@ -163,29 +160,29 @@ module _ (setup : Setup) (law : IsLawful setup.server) (fine : IsSetup setup) (p
     soon : pace.delay ≤ most
     soon = omega arith
 
-    is-next : (e : List Step) → IsFront e schedule → (told : List Event) (event : Event) → Goods told → Goods (event ∷ told) →
-        EachGenuine setup e p (trace config (event ∷ told)) →
+    is-next : (told : List Event) (event : Event) → Goods told → Goods (event ∷ told) →
         clock (trace config (event ∷ told)) ≤ clock (trace config told) + suc pace.skip → Is told → Is (event ∷ told)
-    is-next e inside told event before now all little is =
+    is-next told event before now little is =
         let before_ = trace config told in
-        let b = before 0 within refl in
-        let g = now 0 within refl in
+        let b = before.0 0 within refl in
+        let g = now.0 0 within refl in
         let time = clock-entry config before_ event in
         let grows = clock-grows event (clock before_) in
         let from = is.0 in
         let count = length-trace config told in
         let lasts = is.1 in
-        let since = lasts.long in (
+        let since = lasts.long in
+        let end = front-self schedule in (
           omega (arith, time, grows, from),
-          lasts-next config n0 t0 most pace is_urgent every turned soon told event before now little lasts,
+          lasts-next config n0 t0 most pace is_urgent every turned soon told event before.0 now.0 little lasts,
           track-next config 0 n0 t0 most pace is_urgent before_ event within primary turned long
               (not-made config told event 0 within g.accepted.1 b.there) g.there little from (omega (arith, since, count)) b.prompt g.prompt
-              (none-counted setup law fine p 0 u start schedule front there number' keeps.linked granted not_forced e inside (trace config (event ∷ told)) all)
+              (none-counted setup law fine p 0 u start schedule front there number' keeps.linked granted not_forced schedule end (trace config (event ∷ told)) now.1)
               (λ f. let midway = came config before_ event ∷ before_ in
-              none-forced setup law fine p 0 u start schedule front there number' keeps.linked granted not_forced e inside (length midway) (trace config (event ∷ told)) all
+              none-forced setup law fine p 0 u start schedule front there number' keeps.linked granted not_forced schedule end (length midway) (trace config (event ∷ told)) now.1
               (forced-entry config before_ event 0 (length midway) (forced-by 0 (length midway) midway (omega arith) f)))
-              (λ a answer. none-read setup law fine p 0 u start schedule front there number' keeps.linked granted not_forced e inside before_ a
-              (subst (λ o. ForAnswer o (Genuine setup e p before_)) (entry-answer config before_ event ∙ answer) all.0))
+              (λ a answer. none-read setup law fine p 0 u start schedule front there number' keeps.linked granted not_forced schedule end before_ a
+              (subst (λ o. ForAnswer o (Genuine setup schedule p before_)) (entry-answer config before_ event ∙ answer) now.1.0))
               (tame-at told before)
               (wild-now config before_ (entry_of config before_ event) one (linked-any 0 before_ b.there))
               (λ not_yet. (
@@ -205,18 +202,15 @@ module _ (setup : Setup) (law : IsLawful setup.server) (fine : IsSetup setup) (p
             has_begun config (trace config told) ≡ true
         current-begun told good c =
             let none : power_where (λ i. not (every i)) config.lines ≡ 0 = none-power config.lines in
-            low-begun config every (trace config told) (linked-any 0 (trace config told) (good 0 within refl).there) (omega (arith, none, needed))
+            low-begun config every (trace config told) (linked-any 0 (trace config told) (good.0 0 within refl).there) (omega (arith, none, needed))
             (λ i less is. critical-at told c i less)
 
         tame-at : (told : List Event) → Goods told → has_begun config (trace config told) ≡ false → critical config 0 (trace config told) ≡ false
-        tame-at told good none = elim (cases_Bool (critical config 0 (trace config told))) [
-          | inr f ↦ f
-          | inl t ↦
-              let none_left : power_where (λ i. not (every i)) config.lines ≡ 0 = none-power config.lines in
-              let begun : has_begun config (trace config told) ≡ true =
-              low-begun config every (trace config told) (linked-any 0 (trace config told) (good 0 within refl).there) (omega (arith, none_left, needed)) (only t) in
-              let bad : false ≡ true = sym none ∙ begun in cc
-        ]
+        tame-at told good none = false-if (critical config 0 (trace config told)) (λ t.
+            let none_left : power_where (λ i. not (every i)) config.lines ≡ 0 = none-power config.lines in
+            let begun : has_begun config (trace config told) ≡ true =
+            low-begun config every (trace config told) (linked-any 0 (trace config told) (good.0 0 within refl).there) (omega (arith, none_left, needed)) (only t) in
+            let bad : false ≡ true = sym none ∙ begun in cc)
           where
             only : critical config 0 (trace config told) ≡ true → (i : ℕ) → i < length config.lines → every i ≡ true → critical config i (trace config told) ≡ true
             only t zero less is = t
@@ -224,26 +218,12 @@ module _ (setup : Setup) (law : IsLawful setup.server) (fine : IsSetup setup) (p
 
     tracks : Track config 0 n0 t0 most pace is_urgent (seen_at setup p schedule)
     tracks =
-        (climb setup p start schedule Is front
-        (omega arith, lasts-first setup law fine pace p start schedule front is_urgent every each most, inl not_begun)
-        (λ step earlier event to_end since moved before.
-        let told = (world setup earlier).monitor p in
-        let notices = notices_waiting (trace config (event ∷ told)) in
-        let same = clock-taken config notices (event ∷ told) in
-        let given : clock (seen_at setup p (step ∷ earlier)) ≤ clock (seen_at setup p earlier) + suc pace.skip = steady step earlier to_end since in
-        let at : clock (seen_at setup p (step ∷ earlier)) ≡ clock (trace config (informed config told event)) = ap (λ t. clock (trace config t)) moved in
-        let all : EachGenuine setup (step ∷ earlier) p (seen_at setup p (step ∷ earlier)) = ((sound setup law fine (step ∷ earlier)).monitors p).genuine in
-        let Q : List Event → Type 0 = λ t. Goods t × EachGenuine setup (step ∷ earlier) p (trace config t) in
-        let older : (t : List Event) → Q (NoticeTaken ∷ t) → Q t =
-        λ t q. (good-before config n0 0 0 pace is_urgent every t q.0, q.1.1) in
-        let earlier_good : Goods told = all-good setup law fine pace p start schedule front is_urgent every each earlier (front-older step earlier schedule to_end) since in
-        let last : Q (informed config told event) =
-        subst Q moved (all-good setup law fine pace p start schedule front is_urgent every each (step ∷ earlier) to_end (inr since), all) in
-        let here : Q (event ∷ told) = back Q older notices (event ∷ told) last in
-        forth Is Q older
-        (λ t x q. is-next (step ∷ earlier) to_end t NoticeTaken (older t q).0 q.0 q.1 (still config n0 0 0 pace is_urgent every t) x)
-        notices (event ∷ told)
-        (is-next (step ∷ earlier) to_end told event earlier_good here.0 here.1 (omega (arith, same, given, at)) before) last)).2
+        (each-steady setup p start schedule pace Is Goods front steady (λ t q. (good-before config n0 0 0 pace is_urgent every t q.0, q.1.1))
+        (λ early inside since. (
+          all-good setup law fine pace p start schedule front is_urgent every each early inside since,
+          genuine-front setup p early schedule (seen_at setup p early) inside ((sound setup law fine early).monitors p).genuine,
+        ))
+        (omega arith, lasts-first setup law fine pace p start schedule front is_urgent every each most, inl not_begun) is-next).2
       where
         each : Chosen config every (λ i. IsWatched setup pace p i is_urgent start schedule)
         each = lines-watched setup pace p is_urgent start schedule front steady one needed watched

@@ -74,24 +74,6 @@ module _ (setup : Setup) (m i : ℕ) where
         landed = far.1.1;
       }
 
-  went-on : (since e : List Step) (step : Step) → WentRound setup m i since e → WentRound setup m i since (step ∷ e)
-  went-on since e step w = record {
-    out = w.out;
-    reach = w.reach;
-    back = w.back;
-    land = w.land;
-    first = w.first;
-    second = w.second;
-    third = w.third;
-    fourth = w.fourth;
-    over = inr w.over;
-    put = w.put;
-    is_open = w.is_open;
-    reached = w.reached;
-    taken = w.taken;
-    landed = w.landed;
-  }
-
   module _ (pace : Pace) (start : List Step) where
     -- a step that is no tick doesn't move the clock
     stands : (step : Step) (e : List Step) → is_tick setup m step e ≡ false → clock (seen_at setup m (step ∷ e)) ≤ clock (seen_at setup m e)
@@ -129,7 +111,7 @@ module _ (setup : Setup) (m i : ℕ) where
       pub since : List Step
       pub front : IsFront start since
       pub soon : clock (seen_at setup m e) ≤ clock (seen_at setup m since) + suc pace.skip
-      pub round : WentRound setup m i since e
+      pub far : Far since 4 e
 
     top : (newest : List Step) → goes_round setup m i start newest ≡ true → is_steady setup pace m start newest ≡ true →
         (clock (seen_at setup m (newest ++ start)) ≤ clock (seen_at setup m start)) ⊎ Went (newest ++ start)
@@ -145,12 +127,12 @@ module _ (setup : Setup) (m i : ℕ) where
               let far : Far s.since 4 e = subst (λ k. Far s.since k e) (eqb-true (round_in setup m i start newest) 4 all) s.far in
               let a = leb-true (clock (seen_at setup m (step ∷ e))) (clock (seen_at setup m e) + suc pace.skip) little.0 in
               let b = s.still in
-              inr (record { since = s.since; front = s.front; soon = omega (arith, a, b); round = went-on s.since e step (went s.since e far) })
+              inr (record { since = s.since; front = s.front; soon = omega (arith, a, b); far = far-on s.since 4 step e far })
           | inr f ↦
               let a = stands step e f in
               elim (top newest both.1 little.1) [
                 | inl le ↦ inl (omega (arith, a, le))
-                | inr w ↦ inr (let b = w.soon in record { since = w.since; front = w.front; soon = omega (arith, a, b); round = went-on w.since e step w.round })
+                | inr w ↦ inr (let b = w.soon in record { since = w.since; front = w.front; soon = omega (arith, a, b); far = far-on w.since 4 step e w.far })
               ]
         ]
 
@@ -178,5 +160,5 @@ rounded-keep_pace setup law fine pace m i start newest there is steady slow =
     (λ asked waits. let le = prompt-holds 0 (clock (seen_at setup m start)) (outstanding i (seen_at setup m start)) more.0 asked waits in omega (arith, le))
     (λ early within since. elim (each setup m i pace start newest more.1 steady early within since) [
       | inl le ↦ inl (omega (arith, le))
-      | inr w ↦ inr (let soon = w.soon in record { since = w.since; front = w.front; soon = omega (arith, soon, slow); round = w.round })
+      | inr w ↦ inr (let soon = w.soon in record { since = w.since; front = w.front; soon = omega (arith, soon, slow); round = went setup m i w.since early w.far })
     ])

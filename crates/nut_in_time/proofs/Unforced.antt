@@ -9,7 +9,7 @@ use Rattle.nut_server_spec.specs.Content.{past}
 use Rattle.nut_server_spec.specs.Event as arrivals
 use Rattle.nut_server_spec.specs.Trace.{answer_to}
 use Rattle.nut_monitor_spec.specs.declared.Query.{Query}
-use Rattle.nut_monitor_spec.specs.declared.Query.TheVariants.{Username, Password, Login, Primary, Status, Fsd, NumLogins}
+use Rattle.nut_monitor_spec.specs.declared.Query.TheVariants.{Primary, Fsd, NumLogins}
 use Rattle.nut_monitor_spec.specs.Decision.{is_alone}
 use Rattle.nut_monitor_spec.specs.Query.{logins_in}
 use Rattle.nut_monitor_spec.specs.Trace.{Answer, Entry, newest_answer, logins_of_answer, logins}
@@ -36,12 +36,7 @@ use Rattle.nut_in_time.proofs.Standing.{connection-kept, server-climb}
 
 pub count-asked : (query : Query) (outcome : Outcome) → is_some (logins_in query outcome) ≡ true → query ≡ NumLogins
 count-asked NumLogins outcome is = refl
-count-asked Username outcome is = cc
-count-asked Password outcome is = cc
-count-asked Login outcome is = cc
-count-asked Primary outcome is = cc
-count-asked Status outcome is = cc
-count-asked Fsd outcome is = cc
+count-asked query outcome is = cc
 
 module _ (setup : Setup) (law : IsLawful setup.server) (fine : IsSetup setup) (p i u : ℕ) (start schedule : List Step) (front : IsFront start schedule)
     (there : has_link setup p i ≡ true) (number : number_of_ups (line_of setup p i).ups setup.server.upses ≡ Some u)

@@ -1,5 +1,5 @@
 -- The worked machine with UPSes at two servers.
-use Rattle.std.proofs.Common.{◌≡◌, ℕ, zero, suc, ◌+◌, ◌<◌, ◌&&◌, ◌||◌, ◌==◌, nat_le, not, List, [], ◌∷◌, ◌++◌, length, Bool, true, Option, Some, None, is_none, refl, ◌∙◌, ap, subst, arith}
+use Rattle.std.proofs.Common.{◌≡◌, ℕ, suc, ◌+◌, ◌<◌, ◌&&◌, ◌||◌, ◌==◌, nat_le, not, List, [], ◌∷◌, ◌++◌, length, Bool, true, Option, Some, None, is_none, refl, ◌∙◌, ap, subst, arith}
 use Rattle.std.specs.Prelude.{nat_lt}
 use Rattle.std.proofs.lemmas.Bool.{and_parts, eq-eqb, leb-true, lt-ltb}
 use Rattle.nut_words.specs.Reader.{read}
@@ -10,7 +10,7 @@ use Rattle.nut_monitor_spec.specs.declared.Query.TheVariants.{Status}
 use Rattle.nut_monitor_spec.specs.Acceptance.{IsAccepted, IsGiven as Happens, is_busy, refusal}
 use Rattle.nut_monitor_spec.specs.Configuration.{Configuration}
 use Rattle.nut_monitor_spec.specs.Content.{Content, content}
-use Rattle.nut_monitor_spec.specs.Event.{Event, Moment, Linked, LinkBytes, LinkLost, LinkTook, OutOfMemory, NoticeTaken}
+use Rattle.nut_monitor_spec.specs.Event.{Event, NoticeTaken}
 use Rattle.nut_monitor_spec.specs.Query.{status_in}
 use Rattle.nut_monitor_spec.specs.Trace.{Answer, Entry, clock, entry_of, last_query, linked, outstanding, trace}
 use Rattle.nut_monitor_spec.specs.examples.Examples.{two_primaries}
@@ -18,10 +18,10 @@ use Rattle.nut_fleet.proofs.Steps.{is_none-true}
 use Rattle.nut_in_time.specs.AnyServers.{Always, EachGiven, IsEven, IsTold}
 use Rattle.nut_in_time.specs.examples.AnyServersExamples.{AnyServersExamples, both_are_low, both_read, since_then}
 use Rattle.nut_in_time.specs.examples.Examples.{all, pace}
-use Rattle.nut_in_time.specs.InTime.{is_low}
-use Rattle.nut_in_time.specs.Pace.{IsPolled, IsPrompt, Pace, Says}
+use Rattle.nut_in_time.specs.InTime.{is_low, Needs}
+use Rattle.nut_in_time.specs.Pace.{IsPrompt, Pace, Says}
 use Rattle.nut_in_time.specs.Tests.{is_polled, is_prompt, is_status, says}
-use Rattle.nut_in_time.proofs.Testing.{polled-holds, prompt-holds, says-holds}
+use Rattle.nut_in_time.proofs.Testing.{polled-holds, prompt-holds, says-holds, below, Below}
 
 -- ---- tests of the premises, and that they prove them
 
@@ -31,12 +31,7 @@ happens s event = true
 
 happens-holds : (s : Content) (event : Event) → happens s event ≡ true → Happens s event
 happens-holds s NoticeTaken is = is
-happens-holds s (Moment t) is = tt
-happens-holds s (Linked i) is = tt
-happens-holds s (LinkBytes i piece) is = tt
-happens-holds s (LinkLost i) is = tt
-happens-holds s (LinkTook i n) is = tt
-happens-holds s (OutOfMemory i piece k) is = tt
+happens-holds s event is = tt
 
 abbrev pub were_accepted : Configuration → List Event → Bool
 were_accepted configuration [] = true
@@ -109,56 +104,35 @@ each_given-holds i n Words (entry ∷ past) is =
     let parts = and_parts (is_given i n Words entry.answer) (each_given i n Words past) is in
     (given-holds i n Words entry.answer parts.0, each_given-holds i n Words past parts.1)
 
--- ---- what is computed
+-- what is tested of a line
+abbrev pub is_told : Configuration → Pace → (List (List ℕ) → Bool) → List Event → List Event → ℕ → Bool
+is_told configuration pace Words first newest i =
+    is_polled (last_query i (trace configuration first))
+    && (always configuration (keeps pace i) first newest && each_given i (length first) Words (trace configuration (newest ++ first)))
 
-accepted-is : were_accepted two_primaries (since_then both_are_low ++ both_read) ≡ true
-unfolding read answer_of line request_line entry_of
-accepted-is = refl
-
-even-is : is_even two_primaries pace both_read (since_then both_are_low) ≡ true
-unfolding read answer_of line request_line entry_of
-even-is = refl
-
-polled-is : (is_polled (last_query 0 (trace two_primaries both_read)) && is_polled (last_query 1 (trace two_primaries both_read))) ≡ true
-unfolding read answer_of line request_line entry_of
-polled-is = refl
-
-keeps-is : (always two_primaries (keeps pace 0) both_read (since_then both_are_low) && always two_primaries (keeps pace 1) both_read (since_then both_are_low)) ≡ true
-unfolding read answer_of line request_line entry_of
-keeps-is = refl
-
-given-is : (each_given 0 (length both_read) is_low (trace two_primaries (since_then both_are_low ++ both_read))
-    && each_given 1 (length both_read) is_low (trace two_primaries (since_then both_are_low ++ both_read))) ≡ true
-unfolding read answer_of line request_line entry_of
-given-is = refl
-
-is-told : IsTold two_primaries pace is_low all both_read (since_then both_are_low)
-is-told = record {
-  accepted = accepted-holds two_primaries (since_then both_are_low ++ both_read) accepted-is;
-  even = even-holds two_primaries pace both_read (since_then both_are_low) even-is;
-  needs = record { one = 0; there = omega arith; passes = refl; short = omega arith };
-  lines = λ i less is. (polled i less is, kept i less is, given i less is);
+pub told-holds : (configuration : Configuration) (pace : Pace) (Words : List (List ℕ) → Bool) (low : ℕ → Bool) (first newest : List Event) → Needs configuration low →
+    were_accepted configuration (newest ++ first) ≡ true → is_even configuration pace first newest ≡ true →
+    Below (length configuration.lines) (λ i. low i ≡ true → is_told configuration pace Words first newest i ≡ true) → IsTold configuration pace Words low first newest
+told-holds configuration pace Words low first newest needs accepted even lines = record {
+  accepted = accepted-holds configuration (newest ++ first) accepted;
+  even = even-holds configuration pace first newest even;
+  needs = needs;
+  lines = λ i less is.
+      let polled = is_polled (last_query i (trace configuration first)) in
+      let kept = always configuration (keeps pace i) first newest in
+      let given = each_given i (length first) Words (trace configuration (newest ++ first)) in
+      let one = and_parts polled (kept && given) (below (length configuration.lines) (λ k. low k ≡ true → is_told configuration pace Words first newest k ≡ true) lines i less is) in
+      let two = and_parts kept given one.1 in (
+        polled-holds (last_query i (trace configuration first)) one.0,
+        always-holds configuration pace i first newest two.0,
+        each_given-holds i (length first) Words (trace configuration (newest ++ first)) two.1,
+      );
 }
-  where
-    polled : (i : ℕ) → i < 2 → all i ≡ true → IsPolled i (trace two_primaries both_read)
-    polled zero less is = polled-holds (last_query 0 (trace two_primaries both_read)) (and_parts _ _ polled-is).0
-    polled (suc zero) less is = polled-holds (last_query 1 (trace two_primaries both_read)) (and_parts _ _ polled-is).1
-    polled (suc (suc i)) less is = absurd (omega (arith, less))
-
-    kept : (i : ℕ) → i < 2 → all i ≡ true → Always two_primaries (λ past. (linked i past ≡ true) × IsPrompt pace i past) both_read (since_then both_are_low)
-    kept zero less is = always-holds two_primaries pace 0 both_read (since_then both_are_low) (and_parts _ _ keeps-is).0
-    kept (suc zero) less is = always-holds two_primaries pace 1 both_read (since_then both_are_low) (and_parts _ _ keeps-is).1
-    kept (suc (suc i)) less is = absurd (omega (arith, less))
-
-    given : (i : ℕ) → i < 2 → all i ≡ true → EachGiven i (length both_read) is_low (trace two_primaries (since_then both_are_low ++ both_read))
-    given zero less is = each_given-holds 0 (length both_read) is_low (trace two_primaries (since_then both_are_low ++ both_read)) (and_parts _ _ given-is).0
-    given (suc zero) less is = each_given-holds 1 (length both_read) is_low (trace two_primaries (since_then both_are_low ++ both_read)) (and_parts _ _ given-is).1
-    given (suc (suc i)) less is = absurd (omega (arith, less))
 
 pub any_servers-examples : AnyServersExamples
 unfolding read answer_of line request_line entry_of
 any_servers-examples = record {
-  told = is-told;
+  told = told-holds two_primaries pace is_low all both_read (since_then both_are_low) (record { one = 0; there = omega arith; passes = refl; short = omega arith }) refl refl ((λ is. refl), ((λ is. refl), tt));
   known_by = refl;
   at_last = refl;
   not_yet = refl;

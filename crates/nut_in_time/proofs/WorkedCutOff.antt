@@ -1,5 +1,5 @@
 -- The worked machine that is cut off.
-use Rattle.std.proofs.Common.{codes, ◌≡◌, ℕ, zero, suc, ◌<◌, ◌≤◌, [], ◌∷◌, ◌++◌, true, refl, arith}
+use Rattle.std.proofs.Common.{codes, ◌≡◌, ◌≤◌, [], ◌∷◌, ◌++◌, true, refl, arith}
 use Rattle.std.specs.Fmt.{digits}
 use Rattle.nut_words.specs.Reader.{read}
 use Rattle.nut_state.specs.Sorted.{named, put}
@@ -18,56 +18,25 @@ use Rattle.nut_server_spec.specs.Answer.{text_of}
 use Rattle.nut_monitor_spec.specs.Trace.{entry_of, polled, status}
 use Rattle.nut_fleet.specs.examples.Examples.{alone}
 use Rattle.nut_in_time.specs.Pace.{Says, seen_at}
-use Rattle.nut_in_time.specs.CutOff.{HearsNothing, IsCutOff, is_on_battery}
+use Rattle.nut_in_time.specs.CutOff.{HearsNothing, is_on_battery}
 use Rattle.nut_in_time.specs.examples.CutOffExamples.{CutOffExamples, later, lost}
 use Rattle.nut_in_time.specs.examples.Examples.{all, pace}
-use Rattle.nut_in_time.specs.Tests.{each_since, hears_nothing, is_steady}
 use Rattle.nut_in_time.proofs.CutOffTesting.{silent-holds}
-use Rattle.nut_in_time.proofs.Testing.{front-append, steady-holds}
-
--- ---- what is computed
-
-silent-on-battery : each_since (hears_nothing alone 0 0 (lost (codes "OB"))) (lost (codes "OB")) (later 33) ≡ true
-unfolding digits read named put asked heard accepts changed after applied verb_of ask_line meaning command_of line refusal_name reply_line request_line text_of answer_of entry_of
-silent-on-battery = refl
-
-silent-on-line : each_since (hears_nothing alone 0 0 (lost (codes "OL"))) (lost (codes "OL")) (later 60) ≡ true
-unfolding digits read named put asked heard accepts changed after applied verb_of ask_line meaning command_of line refusal_name reply_line request_line text_of answer_of entry_of
-silent-on-line = refl
-
-steady-is : is_steady alone pace 0 (lost (codes "OB")) (later 33) ≡ true
-unfolding digits read named put asked heard accepts changed after applied verb_of ask_line meaning command_of line refusal_name reply_line request_line text_of answer_of entry_of
-steady-is = refl
-
-is-cut-off : IsCutOff alone 0 all 0 (lost (codes "OB")) (later 33 ++ lost (codes "OB"))
-unfolding digits read named put asked heard accepts changed after applied verb_of ask_line meaning command_of line refusal_name reply_line request_line text_of answer_of entry_of
-is-cut-off = record {
-  front = front-append (later 33) (lost (codes "OB"));
-  needs = record { one = 0; there = omega arith; passes = refl; short = omega arith };
-  silent = silent;
-  known = known;
-  read = read;
-  young = omega arith;
-}
-  where
-    silent : (i : ℕ) → i < 1 → all i ≡ true → HearsNothing alone 0 (lost (codes "OB")) (later 33 ++ lost (codes "OB")) i
-    silent zero less is = silent-holds alone 0 0 (lost (codes "OB")) (later 33) silent-on-battery
-    silent (suc i) less is = absurd (omega (arith, less))
-
-    known : (i : ℕ) → i < 1 → all i ≡ true → Says is_on_battery (status i (seen_at alone 0 (lost (codes "OB"))))
-    known zero less is = (codes "OB" ∷ [], refl, refl)
-    known (suc i) less is = absurd (omega (arith, less))
-
-    read : (i : ℕ) → i < 1 → all i ≡ true → polled i (seen_at alone 0 (lost (codes "OB"))) ≤ 0
-    read zero less is = omega arith
-    read (suc i) less is = absurd (omega (arith, less))
+use Rattle.nut_in_time.proofs.Testing.{front-append, steady-holds, below}
 
 pub cut_off-examples : CutOffExamples
 unfolding digits read named put asked heard accepts changed after applied verb_of ask_line meaning command_of line refusal_name reply_line request_line text_of answer_of entry_of
 cut_off-examples = record {
   down = refl;
-  cut_off = is-cut-off;
-  steady = steady-holds alone pace 0 (lost (codes "OB")) (later 33) steady-is;
+  cut_off = record {
+    front = front-append (later 33) (lost (codes "OB"));
+    needs = record { one = 0; there = omega arith; passes = refl; short = omega arith };
+    silent = below 1 (λ i. all i ≡ true → HearsNothing alone 0 (lost (codes "OB")) (later 33 ++ lost (codes "OB")) i) ((λ is. silent-holds alone 0 0 (lost (codes "OB")) (later 33) refl), tt);
+    known = below 1 (λ i. all i ≡ true → Says is_on_battery (status i (seen_at alone 0 (lost (codes "OB"))))) ((λ is. (codes "OB" ∷ [], refl, refl)), tt);
+    read = below 1 (λ i. all i ≡ true → polled i (seen_at alone 0 (lost (codes "OB"))) ≤ 0) ((λ is. omega arith), tt);
+    young = omega arith;
+  };
+  steady = steady-holds alone pace 0 (lost (codes "OB")) (later 33) refl;
   started = refl;
   at_15 = refl;
   not_yet = refl;
@@ -76,6 +45,6 @@ cut_off-examples = record {
   still_up = refl;
   is_down = refl;
   at_last = refl;
-  silent = silent-holds alone 0 0 (lost (codes "OL")) (later 60) silent-on-line;
+  silent = silent-holds alone 0 0 (lost (codes "OL")) (later 60) refl;
   goes_on = refl;
 }

@@ -1,5 +1,5 @@
 -- The worked machine whose link comes back.
-use Rattle.std.proofs.Common.{◌≡◌, ℕ, zero, suc, ◌<◌, ◌++◌, true, refl, arith}
+use Rattle.std.proofs.Common.{◌≡◌, ◌++◌, true, refl, arith}
 use Rattle.std.specs.Fmt.{digits}
 use Rattle.nut_words.specs.Reader.{read}
 use Rattle.nut_state.specs.Sorted.{named, put}
@@ -20,49 +20,23 @@ use Rattle.nut_fleet.specs.World.{line_of}
 use Rattle.nut_fleet.specs.examples.Examples.{alone}
 use Rattle.nut_in_time.specs.Pace.{FromOn, KeepsPace, Says, shown_at}
 use Rattle.nut_in_time.specs.InTime.{is_low}
-use Rattle.nut_in_time.specs.Returning.{IsReturning}
-use Rattle.nut_in_time.specs.Tests.{each_since, is_shown, is_steady, keeps_pace}
 use Rattle.nut_in_time.specs.examples.Examples.{all, pace}
 use Rattle.nut_in_time.specs.examples.ReturningExamples.{ReturningExamples, again, back}
-use Rattle.nut_in_time.proofs.Testing.{front-append, pace-holds, shown-holds, steady-holds}
+use Rattle.nut_in_time.proofs.Testing.{front-append, pace-holds, shown-holds, steady-holds, below}
 use Rattle.nut_in_time.proofs.Worked.{spoken}
-
--- ---- what is computed
-
-keeps-is : each_since (keeps_pace alone pace 0 0) back (again 0) ≡ true
-unfolding digits read named put asked heard accepts changed after applied verb_of ask_line meaning command_of line refusal_name reply_line request_line text_of answer_of entry_of
-keeps-is = refl
-
-shows-is : each_since (is_shown alone 0 0 is_low) back (again 0) ≡ true
-unfolding digits read named put asked heard accepts changed after applied verb_of ask_line meaning command_of line refusal_name reply_line request_line text_of answer_of entry_of
-shows-is = refl
-
-steady-is : is_steady alone pace 0 back (again 21) ≡ true
-unfolding digits read named put asked heard accepts changed after applied verb_of ask_line meaning command_of line refusal_name reply_line request_line text_of answer_of entry_of
-steady-is = refl
-
-returns : IsReturning alone pace 0 is_low all back (again 0 ++ back)
-returns = record {
-  front = front-append (again 0) back;
-  needs = record { one = 0; there = omega arith; passes = refl; short = omega arith };
-  keeps = keeps;
-  shows = shows;
-}
-  where
-    keeps : (i : ℕ) → i < 1 → all i ≡ true → KeepsPace alone pace 0 i back (again 0 ++ back)
-    keeps zero less is = pace-holds alone pace 0 0 back (again 0) keeps-is
-    keeps (suc i) less is = absurd (omega (arith, less))
-
-    shows : (i : ℕ) → i < 1 → all i ≡ true → FromOn back (again 0 ++ back) (λ early. Says is_low (shown_at alone early (line_of alone 0 i).ups))
-    shows zero less is = shown-holds alone 0 0 is_low back (again 0) shows-is
-    shows (suc i) less is = absurd (omega (arith, less))
 
 pub returning-examples : ReturningExamples
 unfolding digits read named put asked heard accepts changed after applied verb_of ask_line meaning command_of line refusal_name reply_line request_line text_of answer_of entry_of
 returning-examples = record {
   setup = ((spoken true, tt), tt);
-  returns = returns;
-  steady = steady-holds alone pace 0 back (again 21) steady-is;
+  returns = record {
+    front = front-append (again 0) back;
+    needs = record { one = 0; there = omega arith; passes = refl; short = omega arith };
+    keeps = below 1 (λ i. all i ≡ true → KeepsPace alone pace 0 i back (again 0 ++ back)) ((λ is. pace-holds alone pace 0 0 back (again 0) refl), tt);
+    shows = below 1 (λ i. all i ≡ true → FromOn back (again 0 ++ back) (λ early. Says is_low (shown_at alone early (line_of alone 0 i).ups)))
+        ((λ is. shown-holds alone 0 0 is_low back (again 0) refl), tt);
+  };
+  steady = steady-holds alone pace 0 back (again 21) refl;
   started = refl;
   takes = refl;
   at_last = refl;

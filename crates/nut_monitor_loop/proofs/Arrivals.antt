@@ -2,7 +2,7 @@
 use Rattle.std.proofs.Common.{◌≡◌, ℕ, List, [], ◌++◌, Option, Some, None, Result, Ok, Err, OnOk, refl, sym, ◌∙◌, ap, subst}
 use Rattle.std.specs.Prelude.{option_map}
 use Rattle.nut_monitor_spec.specs.declared.MonitorFault.{MonitorFault}
-use Rattle.nut_monitor_spec.specs.declared.MonitorFault.TheVariants.{NoSuchLink, WrongLinkState, PieceTooLong, TooMuchTaken, Busy, Memory}
+use Rattle.nut_monitor_spec.specs.declared.MonitorFault.TheVariants.{Memory}
 use Rattle.nut_monitor_spec.specs.Configuration.{Configuration}
 use Rattle.nut_monitor_spec.specs.Event.{Event}
 use Rattle.nut_monitor_spec.specs.Event as event
@@ -26,28 +26,15 @@ given_next n items (event.Linked i) is = tt
 given_next n items (event.LinkBytes i piece) is = tt
 given_next n items (event.LinkLost i) is = tt
 given_next n items (event.OutOfMemory i piece k) is = tt
-given_next (next.Moment t) items (event.LinkTook i k) is = cc
-given_next (next.Linked j) items (event.LinkTook i k) is = cc
-given_next (next.LinkBytes j) items (event.LinkTook i k) is = cc
-given_next (next.LinkLost j) items (event.LinkTook i k) is = cc
-given_next next.Again items (event.LinkTook i k) is = cc
 given_next next.End items (event.LinkTook i k) is = cc
-given_next (next.Moment t) items event.NoticeTaken is = cc
-given_next (next.Linked j) items event.NoticeTaken is = cc
-given_next (next.LinkBytes j) items event.NoticeTaken is = cc
-given_next (next.LinkLost j) items event.NoticeTaken is = cc
-given_next next.Again items event.NoticeTaken is = cc
 given_next next.End items event.NoticeTaken is = cc
+given_next n items e is = cc
 
 -- ---- the event that stands for one given, by the answer
 
 abbrev for_fault : MonitorFault → Event → Option Event
 for_fault (Memory link k) e = Some (cut_short k e)
-for_fault NoSuchLink e = None
-for_fault WrongLinkState e = None
-for_fault PieceTooLong e = None
-for_fault TooMuchTaken e = None
-for_fault Busy e = None
+for_fault r e = None
 
 abbrev standing : Result (Unit {0}) MonitorFault → Event → Option Event
 standing (Ok u) e = Some e
@@ -56,29 +43,17 @@ standing (Err r) e = for_fault r e
 stands_as : (r : Result (Unit {0}) MonitorFault) (e : Event) (h : List Event) → with_event (standing r e) h ≡ after r e h
 stands_as (Ok u) e h = refl
 stands_as (Err (Memory link k)) e h = refl
-stands_as (Err NoSuchLink) e h = refl
-stands_as (Err WrongLinkState) e h = refl
-stands_as (Err PieceTooLong) e h = refl
-stands_as (Err TooMuchTaken) e h = refl
-stands_as (Err Busy) e h = refl
+stands_as (Err r) e h = refl
 
 cut_quiet : (k : ℕ) (e : Event) → IsQuiet e → IsQuiet (cut_short k e)
-cut_quiet k (event.Moment t) quiet = tt
-cut_quiet k (event.Linked i) quiet = tt
-cut_quiet k (event.LinkBytes i piece) quiet = tt
-cut_quiet k (event.LinkLost i) quiet = tt
 cut_quiet k (event.LinkTook i n) quiet = quiet
-cut_quiet k (event.OutOfMemory i piece n) quiet = tt
 cut_quiet k event.NoticeTaken quiet = quiet
+cut_quiet k event quiet = tt
 
 standing_quiet : (r : Result (Unit {0}) MonitorFault) (e : Event) → IsQuiet e → IsQuietIf (standing r e)
 standing_quiet (Ok u) e quiet = quiet
 standing_quiet (Err (Memory link k)) e quiet = cut_quiet k e quiet
-standing_quiet (Err NoSuchLink) e quiet = tt
-standing_quiet (Err WrongLinkState) e quiet = tt
-standing_quiet (Err PieceTooLong) e quiet = tt
-standing_quiet (Err TooMuchTaken) e quiet = tt
-standing_quiet (Err Busy) e quiet = tt
+standing_quiet (Err r) e quiet = tt
 
 -- ---- an event came, and was answered
 

@@ -4,7 +4,7 @@ use Rattle.std.proofs.lemmas.Bool.{ltb-true}
 use Rattle.std.proofs.lemmas.List.{drop-append-le}
 use Rattle.nut_monitor_spec.specs.declared.Notice.{Notice}
 use Rattle.nut_monitor_spec.specs.Configuration.{Configuration}
-use Rattle.nut_monitor_spec.specs.Event.{Event, Moment, Linked, LinkBytes, LinkLost, LinkTook, OutOfMemory, NoticeTaken}
+use Rattle.nut_monitor_spec.specs.Event.{Event, NoticeTaken}
 use Rattle.nut_monitor_spec.specs.Trace.{Entry, trace, entry_of, notices, notices_taken, notices_waiting, taken_notice}
 use Rattle.nut_monitor_spec.specs.Content.{content}
 use Rattle.nut_monitor_spec.specs.Acceptance.{IsAccepted}
@@ -20,15 +20,10 @@ taken_after_event first past e = ap (λ x. taken_notice x (notices_taken past)) 
 -- no more notices are taken than there are
 taken_fits : (first : Configuration) (h : List Event) (e : Event) → IsAccepted first (e ∷ h) → notices_taken (trace first h) ≤ length (notices (trace first h))
     → taken_notice e (notices_taken (trace first h)) ≤ length (notices (trace first h))
-taken_fits first h (Moment t) accepted few = few
-taken_fits first h (Linked i) accepted few = few
-taken_fits first h (LinkBytes i piece) accepted few = few
-taken_fits first h (LinkLost i) accepted few = few
-taken_fits first h (LinkTook i n) accepted few = few
-taken_fits first h (OutOfMemory i piece k) accepted few = few
 taken_fits first h NoticeTaken accepted few =
     let some : 0 < length (notices_waiting (trace first h)) = ltb-true 0 (length (notices_waiting (trace first h))) accepted.1.1 in
     omega (arith, some, few, length-drop (notices_taken (trace first h)) (notices (trace first h)))
+taken_fits first h event accepted few = few
 
 few_taken : (first : Configuration) (h : List Event) → IsAccepted first h → notices_taken (trace first h) ≤ length (notices (trace first h))
 few_taken first [] accepted = omega arith

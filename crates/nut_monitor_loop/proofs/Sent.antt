@@ -8,7 +8,7 @@ use Rattle.nut_monitor_spec.specs.declared.MonitorFault.{MonitorFault}
 use Rattle.nut_monitor_spec.specs.declared.MonitorFault.TheVariants.{TooMuchTaken, WrongLinkState}
 use Rattle.nut_monitor_spec.specs.declared.Query.{Query}
 use Rattle.nut_monitor_spec.specs.Configuration.{Line, Configuration, line_in}
-use Rattle.nut_monitor_spec.specs.Event.{Event, Moment, Linked, LinkBytes, LinkLost, LinkTook, OutOfMemory, NoticeTaken}
+use Rattle.nut_monitor_spec.specs.Event.{Event, Linked, LinkTook}
 use Rattle.nut_monitor_spec.specs.Query.{request}
 use Rattle.nut_monitor_spec.specs.Trace.{Asked, Entry, clock, linked, queries, outstanding, due, sent, waits, taken, taken_after, since_linked, asked_in, joined_queries, trace, entry_of}
 use Rattle.nut_monitor_spec.specs.Content.{Watch, content, content_of, watch, link_at, stage_in, for_each_line}
@@ -112,15 +112,11 @@ taken_fits first past i n free few =
     ]
 
 fits : (first : Configuration) (past : List Entry) (i : ℕ) (e : Event) → refusal (content_of first past) e ≡ None → IsFew first past i → taken_after i e (taken i past) ≤ length (still_due first past i e)
-fits first past i (Moment t) free few = few
 fits first past i (Linked j) free few = made_fits (eqb j i) (line_in first.lines i) (taken i past) (queries i past) few
-fits first past i (LinkBytes j piece) free few = few
-fits first past i (LinkLost j) free few = few
 fits first past i (LinkTook j n) free few =
     fits_when (eqb j i) (taken i past) n (length (due first i past)) few
     (λ same. taken_fits first past i n (subst (λ k. took_refusal n (watch_at k (content_of first past).watches) ≡ None) (eqb-true j i same) free) few)
-fits first past i (OutOfMemory j piece k) free few = few
-fits first past i NoticeTaken free few = few
+fits first past i event free few = few
 
 few_always : (first : Configuration) (h : List Event) (i : ℕ) → IsAccepted first h → IsFew first (trace first h) i
 few_always first [] i accepted = omega arith
@@ -141,14 +137,10 @@ made_sent false line t older = refl
 -- by an event that takes no bytes: a link that is made begins anew
 pub sent-given : (first : Configuration) (h : List Event) (i : ℕ) (e : Event) → IsAccepted first (e ∷ h) → ((t : ℕ) → taken_after i e t ≡ since_linked 0 i e t)
     → sent first i (trace first (e ∷ h)) ≡ since_linked [] i e (sent first i (trace first h))
-sent-given first h i (Moment t) accepted nothing = sent_here first h i (Moment t) accepted
 sent-given first h i (Linked j) accepted nothing = sent_here first h i (Linked j) accepted ∙ made_sent (eqb j i) (line_in first.lines i) (taken i (trace first h)) (queries i (trace first h))
-sent-given first h i (LinkBytes j piece) accepted nothing = sent_here first h i (LinkBytes j piece) accepted
-sent-given first h i (LinkLost j) accepted nothing = sent_here first h i (LinkLost j) accepted
 sent-given first h i (LinkTook j n) accepted nothing =
     sent_here first h i (LinkTook j n) accepted ∙ ap (λ t. take t (due first i (trace first h))) (nothing (taken i (trace first h)))
-sent-given first h i (OutOfMemory j piece k) accepted nothing = sent_here first h i (OutOfMemory j piece k) accepted
-sent-given first h i NoticeTaken accepted nothing = sent_here first h i NoticeTaken accepted
+sent-given first h i event accepted nothing = sent_here first h i event accepted
 
 -- what was taken of the bytes that wait was sent
 pub sent-took : (first : Configuration) (h : List Event) (i n : ℕ) → IsAccepted first (LinkTook i n ∷ h)

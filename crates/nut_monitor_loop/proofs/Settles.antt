@@ -75,9 +75,8 @@ drop_none zero = refl
 drop_none (suc m) = refl
 
 stage_left : (n : ℕ) (stage : Stage) → waits_in (stage_taken n stage) ≡ drop n (waits_in stage)
-stage_left n stages.Idle = drop_none n
 stage_left n (stages.Asked query) = refl
-stage_left n (stages.Answered outcome) = drop_none n
+stage_left n other = drop_none n
 
 takes : (n : ℕ) (e : Exchange) → e.fault ≡ None → n ≤ length (waits e) → is_some (take_fault n e) ≡ false
 takes n e whole less =

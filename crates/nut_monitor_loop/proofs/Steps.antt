@@ -2,9 +2,9 @@
 use Rattle.std.proofs.Common.{◌≡◌, ℕ, List, [], ◌∷◌, ◌++◌, Option, Some, None, Result, Ok, Err, OnErr, refl, sym, ◌∙◌, ap, subst}
 use Rattle.nut_conf.specs.declared.upsmon.UpsmonConf.{UpsmonConf}
 use Rattle.nut_monitor_spec.specs.declared.MonitorFault.{MonitorFault}
-use Rattle.nut_monitor_spec.specs.declared.MonitorFault.TheVariants.{NoSuchLink, WrongLinkState, PieceTooLong, TooMuchTaken, Busy, Memory}
+use Rattle.nut_monitor_spec.specs.declared.MonitorFault.TheVariants.{Memory}
 use Rattle.nut_monitor_spec.specs.Configuration.{Configuration}
-use Rattle.nut_monitor_spec.specs.Event.{Event, Moment, Linked, LinkBytes, LinkLost, LinkTook, OutOfMemory, NoticeTaken}
+use Rattle.nut_monitor_spec.specs.Event.{Event, LinkLost, LinkTook, NoticeTaken}
 use Rattle.nut_monitor_spec.specs.Trace.{trace, sent, notices, taken_after, taken_notice, since_linked}
 use Rattle.nut_monitor_spec.specs.Content.{Content}
 use Rattle.nut_monitor_spec.specs.Acceptance.{refusal, IsAccepted, Tells}
@@ -79,22 +79,14 @@ IsQuiet NoticeTaken = ⊥
 IsQuiet e = Unit {0}
 
 takes_none : (e : Event) → IsQuiet e → (i t : ℕ) → taken_after i e t ≡ since_linked 0 i e t
-takes_none (Moment m) quiet i t = refl
-takes_none (Linked j) quiet i t = refl
-takes_none (LinkBytes j piece) quiet i t = refl
-takes_none (LinkLost j) quiet i t = refl
 takes_none (LinkTook j n) quiet i t = absurd quiet
-takes_none (OutOfMemory j piece k) quiet i t = refl
 takes_none NoticeTaken quiet i t = absurd quiet
+takes_none event quiet i t = refl
 
 takes_no_notice : (e : Event) → IsQuiet e → (n : ℕ) → taken_notice e n ≡ n
-takes_no_notice (Moment m) quiet n = refl
-takes_no_notice (Linked j) quiet n = refl
-takes_no_notice (LinkBytes j piece) quiet n = refl
-takes_no_notice (LinkLost j) quiet n = refl
 takes_no_notice (LinkTook j m) quiet n = absurd quiet
-takes_no_notice (OutOfMemory j piece k) quiet n = refl
 takes_no_notice NoticeTaken quiet n = absurd quiet
+takes_no_notice event quiet n = refl
 
 abbrev pub IsQuietIf : Option Event → Type 0
 IsQuietIf None = Unit {0}
@@ -130,11 +122,7 @@ no_memory_lost i s (Some j) k lacks = lacks
 
 refused_not : (s : Content) (e : Event) (r : MonitorFault) → refusal s e ≡ None → TakesNoMemory e → IsRefusal s e r → ⊥
 refused_not s e (Memory link k) free small is = small s link k is.1
-refused_not s e NoSuchLink free small is = cc
-refused_not s e WrongLinkState free small is = cc
-refused_not s e PieceTooLong free small is = cc
-refused_not s e TooMuchTaken free small is = cc
-refused_not s e Busy free small is = cc
+refused_not s e r free small is = cc
 
 -- an event that takes no memory and that no test refuses is accepted
 pub moved_on : (s s' : Content) (e : Event) (r : Result (Unit {0}) MonitorFault) → refusal s e ≡ None → TakesNoMemory e → IsAnswer s e r → s' ≡ content_after r s e → s' ≡ advance s e

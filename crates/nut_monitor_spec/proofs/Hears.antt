@@ -31,19 +31,13 @@ tests-whole false outcome fault rows is = cc
 
 is-whole : (line : Line) (ask : Ask) (said : Said) (rows : List (List (List ℕ))) → progress (expected (request line ask)) None said ≡ Ok (Listing rows) → ⊥
 is-whole line Username (answers.Ok words) rows is = cc
-is-whole line Username _ rows is = cc
 is-whole line Password (answers.Ok words) rows is = cc
-is-whole line Password _ rows is = cc
 is-whole line Login (answers.Ok words) rows is = cc
-is-whole line Login _ rows is = cc
 is-whole line Primary (answers.Ok words) rows is = cc
-is-whole line Primary _ rows is = cc
 is-whole line Fsd (answers.Ok words) rows is = cc
-is-whole line Fsd _ rows is = cc
 is-whole line Status (answers.Row words) rows is = tests-whole _ _ _ rows is
-is-whole line Status _ rows is = cc
 is-whole line NumLogins (answers.Row words) rows is = tests-whole _ _ _ rows is
-is-whole line NumLogins _ rows is = cc
+is-whole line other _ rows is = cc
 
 -- ---- one line
 

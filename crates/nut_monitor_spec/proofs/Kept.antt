@@ -79,8 +79,7 @@ module _ (configuration : Configuration) (past : List Entry) (i : ℕ) where
       }) else None)) ≤ length (waits configuration i past)
   waits-few true None = omega arith
   waits-few true (Some asked) = omega arith
-  waits-few false None = omega arith
-  waits-few false (Some asked) = omega arith
+  waits-few false o = omega arith
 
   took-within : (n : ℕ) (o : Option Watch) → found ≡ o → took_refusal n o ≡ None → linked i past ≡ true → n ≤ length (waits configuration i past)
   took-within n None is accepted there = cc

@@ -1,4 +1,3 @@
-pub mod Worked
 pub mod Lists
 pub mod Newest
 pub mod Answered

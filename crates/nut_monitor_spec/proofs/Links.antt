@@ -173,12 +173,18 @@ module _ (configuration : Configuration) (past : List Entry) (i : ℕ) where
   answer-cases [] = inl refl
   answer-cases (text ∷ texts) = answer-by (outstanding i past) refl text
 
+-- what holds without an answer, and of each outcome of the outstanding query, holds of the answer
+by-answer : (configuration : Configuration) (past : List Entry) (i : ℕ) (P : Option Answer → Type 0) → P None
+    → ((asked : Asked) (outcome : Outcome) → outstanding i past ≡ Some asked → P (Some (record { link = i; asked = asked; outcome = outcome })))
+    → (answer : Option Answer) → IsAnswerOf configuration past i answer → P answer
+by-answer configuration past i P none some answer (inl is) = subst P (sym is) none
+by-answer configuration past i P none some answer (inr is) = subst P (sym is.4) (some is.0 is.1 is.2)
+
 pub loss-cases : (i : ℕ) (answer : Option Answer) (texts : List LineText) → IsLossOf i (lost_by i answer texts)
-loss-cases i None [] = inl refl
-loss-cases i (Some answer) [] = inl refl
 loss-cases i None (text ∷ texts) = inr refl
 loss-cases i (Some answer) (text ∷ []) = inl refl
 loss-cases i (Some answer) (text ∷ other ∷ texts) = inr refl
+loss-cases i o [] = inl refl
 
 -- the last query is the outstanding one
 pub last-asked : (configuration : Configuration) (past : List Entry) (i : ℕ) (asked : Asked) → IsIdle configuration i past ⊎ IsAsked configuration i past →
@@ -215,16 +221,13 @@ answer-none (Some last) before = refl
 last-said : (configuration : Configuration) (past : List Entry) (i : ℕ) (answer : Option Answer) → IsIdle configuration i past ⊎ IsAsked configuration i past →
     IsAnswerOf configuration past i answer →
     last_of (answered_in i answer (answers i past)) ≡ answer_after (last_query i past) (option_map (λ a. a.outcome) answer) (last_answer i past)
-last-said configuration past i answer tidy (inl none) =
-    ap (λ a. last_of (answered_in i a (answers i past))) none
-    ∙ sym (answer-none (last_query i past) (last_answer i past))
-    ∙ ap (λ a. answer_after (last_query i past) (option_map (λ x. x.outcome) a) (last_answer i past)) (sym none)
-last-said configuration past i answer tidy (inr some) =
-    let a : Answer = record { link = i; asked = some.0; outcome = some.1 } in
-    ap (λ x. last_of (answered_in i x (answers i past))) some.4
-    ∙ ap (λ b. last_of (if b then a ∷ answers i past else answers i past)) (eq-eqb i i refl)
-    ∙ ap (λ l. answer_after l (Some some.1) (last_answer i past)) (sym (last-asked configuration past i some.0 tidy some.2))
-    ∙ ap (λ x. answer_after (last_query i past) (option_map (λ y. y.outcome) x) (last_answer i past)) (sym some.4)
+last-said configuration past i answer tidy is =
+    by-answer configuration past i (λ a. last_of (answered_in i a (answers i past)) ≡ answer_after (last_query i past) (option_map (λ x. x.outcome) a) (last_answer i past))
+    (sym (answer-none (last_query i past) (last_answer i past)))
+    (λ asked outcome out.
+    let a : Answer = record { link = i; asked = asked; outcome = outcome } in
+    ap (λ b. last_of (if b then a ∷ answers i past else answers i past)) (eq-eqb i i refl)
+    ∙ ap (λ l. answer_after l (Some outcome) (last_answer i past)) (sym (last-asked configuration past i asked tidy out))) answer is
 
 or-none : (b : Bool) → ((b || false) || false) ≡ b
 or-none true = refl
@@ -267,63 +270,50 @@ module _ (configuration : Configuration) (past : List Entry) (i : ℕ) (event : 
   pub lines-known : (answer : Option Answer) (lost : Option ℕ) → IsIdle configuration i past ⊎ IsAsked configuration i past → IsAnswerOf configuration past i answer →
       known i (lines_entry answer lost ∷ past)
       ≡ record (after_lines answer) { communication = if is_link i lost then Bad else (after_lines answer).communication }
-  lines-known answer lost tidy (inl none) =
-      let P : Option Answer → Type 0 = λ a. known i (lines_entry a lost ∷ past)
-      ≡ record (after_lines a) { communication = if is_link i lost then Bad else (after_lines a).communication } in
-      let base : P None =
-      known-none configuration past i event (λ j. None) lost (lines_told None lost)
+  lines-known answer lost tidy is =
+      let time = clock_after event (clock past) in
+      let watching = is_none (moment_of (begun configuration past)) in
+      by-answer configuration past i (λ a. known i (lines_entry a lost ∷ past)
+      ≡ record (after_lines a) { communication = if is_link i lost then Bad else (after_lines a).communication })
+      (known-none configuration past i event (λ j. None) lost (lines_told None lost)
       (lines-any (is_replace i) None lost refl (λ j. refl) ∙ false-either (has_begun configuration past))
       (lines-any (is_silence i) None lost refl (λ j. refl) ∙ false-either (has_begun configuration past))
       ∙ ap (λ k. let m : Known = record k { communication = if is_link i lost then Bad else k.communication } in m)
-      (sym (after-none configuration (clock_after event (clock past)) (is_none (moment_of (begun configuration past))) (last_query i past) (known i past))) in
-      subst P (sym none) base
-  lines-known answer lost tidy (inr some) =
-      let P : Option Answer → Type 0 = λ a. known i (lines_entry a lost ∷ past)
-      ≡ record (after_lines a) { communication = if is_link i lost then Bad else (after_lines a).communication } in
-      let time = clock_after event (clock past) in
-      let watching = is_none (moment_of (begun configuration past)) in
-      let a : Answer = record { link = i; asked = some.0; outcome = some.1 } in
-      let base : P (Some a) =
-      known-some configuration past i event (λ j. None) some.0 some.1 lost (lines_told (Some a) lost)
+      (sym (after-none configuration time watching (last_query i past) (known i past))))
+      (λ asked outcome out.
+      let a : Answer = record { link = i; asked = asked; outcome = outcome } in
+      known-some configuration past i event (λ j. None) asked outcome lost (lines_told (Some a) lost)
       (lines-any (is_replace i) (Some a) lost refl (λ j. refl)
-      ∙ ap (λ b. if has_begun configuration past then false else b) (answer-replace configuration time i i (known i past) some.0.query some.1))
+      ∙ ap (λ b. if has_begun configuration past then false else b) (answer-replace configuration time i i (known i past) asked.query outcome))
       (lines-any (is_silence i) (Some a) lost refl (λ j. refl)
-      ∙ ap (λ b. if has_begun configuration past then false else b) (answer-silence configuration time i i (known i past) some.0.query some.1)
+      ∙ ap (λ b. if has_begun configuration past then false else b) (answer-silence configuration time i i (known i past) asked.query outcome)
       ∙ false-either (has_begun configuration past))
-      ∙ ap (λ l. let k : Known = known_after configuration time watching l (Some some.1) (known i past) in
-      let m : Known = record k { communication = if is_link i lost then Bad else k.communication } in m) (sym (last-asked configuration past i some.0 tidy some.2)) in
-      subst P (sym some.4) base
+      ∙ ap (λ l. let k : Known = known_after configuration time watching l (Some outcome) (known i past) in
+      let m : Known = record k { communication = if is_link i lost then Bad else k.communication } in m) (sym (last-asked configuration past i asked tidy out))) answer is
 
   -- the notices that the lines give
   said-told : (answer : Option Answer) → IsIdle configuration i past ⊎ IsAsked configuration i past → IsAnswerOf configuration past i answer →
       notices_of_answer configuration past (clock_after event (clock past)) answer
       ≡ answer_told configuration (clock_after event (clock past)) i (last_query i past) (option_map (λ a. a.outcome) answer) (known i past)
-  said-told answer tidy (inl none) =
-      ap (notices_of_answer configuration past (clock_after event (clock past))) none
-      ∙ sym (told-none configuration (clock_after event (clock past)) i (last_query i past) (known i past))
-      ∙ ap (λ a. answer_told configuration (clock_after event (clock past)) i (last_query i past) (option_map (λ x. x.outcome) a) (known i past)) (sym none)
-  said-told answer tidy (inr some) =
+  said-told answer tidy is =
       let time = clock_after event (clock past) in
-      ap (notices_of_answer configuration past time) some.4
-      ∙ ap (λ l. answer_told configuration time i l (Some some.1) (known i past)) (sym (last-asked configuration past i some.0 tidy some.2))
-      ∙ ap (λ a. answer_told configuration time i (last_query i past) (option_map (λ x. x.outcome) a) (known i past)) (sym some.4)
+      by-answer configuration past i (λ a. notices_of_answer configuration past time a
+      ≡ answer_told configuration time i (last_query i past) (option_map (λ x. x.outcome) a) (known i past))
+      (sym (told-none configuration time i (last_query i past) (known i past)))
+      (λ asked outcome out. ap (λ l. answer_told configuration time i l (Some outcome) (known i past)) (sym (last-asked configuration past i asked tidy out))) answer is
 
   -- communication before the loss of the link
   communication-law : (answer : Option Answer) → IsIdle configuration i past ⊎ IsAsked configuration i past → IsAnswerOf configuration past i answer →
       communication_after i answer (communication i past) ≡ (after_lines answer).communication
-  communication-law answer tidy (inl none) =
-      ap (λ a. communication_after i a (communication i past)) none
-      ∙ ap (λ k. let m : Known = k in m.communication)
-      (sym (after-none configuration (clock_after event (clock past)) (is_none (moment_of (begun configuration past))) (last_query i past) (known i past)))
-      ∙ ap (λ a. (after_lines a).communication) (sym none)
-  communication-law answer tidy (inr some) =
+  communication-law answer tidy is =
       let time = clock_after event (clock past) in
       let watching = is_none (moment_of (begun configuration past)) in
-      ap (λ a. communication_after i a (communication i past)) some.4
-      ∙ ap (λ b. if b then communication_then some.0.query some.1 (communication i past) else communication i past) (eq-eqb i i refl)
-      ∙ ap (λ l. let k : Known = known_after configuration time watching l (Some some.1) (known i past) in k.communication)
-      (sym (last-asked configuration past i some.0 tidy some.2))
-      ∙ ap (λ a. (after_lines a).communication) (sym some.4)
+      by-answer configuration past i (λ a. communication_after i a (communication i past) ≡ (after_lines a).communication)
+      (ap (λ k. let m : Known = k in m.communication) (sym (after-none configuration time watching (last_query i past) (known i past))))
+      (λ asked outcome out.
+      ap (λ b. if b then communication_then asked.query outcome (communication i past) else communication i past) (eq-eqb i i refl)
+      ∙ ap (λ l. let k : Known = known_after configuration time watching l (Some outcome) (known i past) in k.communication)
+      (sym (last-asked configuration past i asked tidy out))) answer is
 
   pub loss-law : (answer : Option Answer) (lost : Option ℕ) → IsIdle configuration i past ⊎ IsAsked configuration i past → IsAnswerOf configuration past i answer → IsLossOf i lost →
       notices_of_loss past answer lost ≡ (if is_some lost then loss_notices i (after_lines answer).communication else [])
@@ -336,36 +326,32 @@ module _ (configuration : Configuration) (past : List Entry) (i : ℕ) (event : 
   -- the queries and answers on the link after the lines
   still-out : (answer : Option Answer) → IsIdle configuration i past ⊎ IsAsked configuration i past → IsAnswerOf configuration past i answer →
       number (length (answered_in i answer (answers i past))) (queries i past) ≡ (if is_some answer then None else outstanding i past)
-  still-out answer tidy (inl none) =
-      ap (λ a. number (length (answered_in i a (answers i past))) (queries i past)) none ∙ ap (λ a. if is_some a then None else outstanding i past) (sym none)
-  still-out answer tidy (inr some) =
-      let a : Answer = record { link = i; asked = some.0; outcome = some.1 } in
-      ap (λ x. number (length (answered_in i x (answers i past))) (queries i past)) some.4
-      ∙ ap (λ b. number (length (if b then a ∷ answers i past else answers i past)) (queries i past)) (eq-eqb i i refl)
-      ∙ number-none (suc (length (answers i past))) (queries i past) (few-queries configuration past i tidy)
-      ∙ ap (λ x. if is_some x then None else outstanding i past) (sym some.4)
+  still-out answer tidy is =
+      by-answer configuration past i (λ a. number (length (answered_in i a (answers i past))) (queries i past) ≡ (if is_some a then None else outstanding i past)) refl
+      (λ asked outcome out.
+      let a : Answer = record { link = i; asked = asked; outcome = outcome } in
+      ap (λ b. number (length (if b then a ∷ answers i past else answers i past)) (queries i past)) (eq-eqb i i refl)
+      ∙ number-none (suc (length (answers i past))) (queries i past) (few-queries configuration past i tidy)) answer is
 
 -- what an answer on link i tells of another line
 module _ (configuration : Configuration) (past : List Entry) (i : ℕ) where
   is-answer-of : (a : Option Answer) → IsAnswerOf configuration past i a → IsOf i a
-  is-answer-of a (inl none) = subst (IsOf i) (sym none) tt
-  is-answer-of a (inr some) = subst (IsOf i) (sym some.4) refl
+  is-answer-of a is = by-answer configuration past i (IsOf i) tt (λ asked outcome out. refl) a is
 
   other-any : (j : ℕ) → eqb i j ≡ false → (a : Option Answer) → IsAnswerOf configuration past i a →
       list_any (is_replace j) (notices_of_answer configuration past (clock past) a) ≡ false
-  other-any j differ a (inl none) = ap (λ x. list_any (is_replace j) (notices_of_answer configuration past (clock past) x)) none
-  other-any j differ a (inr some) =
-      ap (λ x. list_any (is_replace j) (notices_of_answer configuration past (clock past) x)) some.4
-      ∙ answer-replace configuration (clock past) i j (known i past) some.0.query some.1
-      ∙ ap (λ b. replaces configuration (clock past) i j (known i past) (status_in some.0.query some.1) && b) differ
-      ∙ and-false (replaces configuration (clock past) i j (known i past) (status_in some.0.query some.1))
+  other-any j differ a is =
+      by-answer configuration past i (λ x. list_any (is_replace j) (notices_of_answer configuration past (clock past) x) ≡ false) refl
+      (λ asked outcome out.
+      answer-replace configuration (clock past) i j (known i past) asked.query outcome
+      ∙ ap (λ b. replaces configuration (clock past) i j (known i past) (status_in asked.query outcome) && b) differ
+      ∙ and-false (replaces configuration (clock past) i j (known i past) (status_in asked.query outcome))) a is
 
   other-silence : (j : ℕ) → (a : Option Answer) → IsAnswerOf configuration past i a →
       list_any (is_silence j) (notices_of_answer configuration past (clock past) a) ≡ false
-  other-silence j a (inl none) = ap (λ x. list_any (is_silence j) (notices_of_answer configuration past (clock past) x)) none
-  other-silence j a (inr some) =
-      ap (λ x. list_any (is_silence j) (notices_of_answer configuration past (clock past) x)) some.4
-      ∙ answer-silence configuration (clock past) i j (known i past) some.0.query some.1
+  other-silence j a is =
+      by-answer configuration past i (λ x. list_any (is_silence j) (notices_of_answer configuration past (clock past) x) ≡ false) refl
+      (λ asked outcome out. answer-silence configuration (clock past) i j (known i past) asked.query outcome) a is
 
 -- ---- a piece that is heard
 

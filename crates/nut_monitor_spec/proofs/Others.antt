@@ -1,7 +1,7 @@
 -- An event of a link changes nothing that is known of another line's UPS.
 use Rattle.std.proofs.Common.{◌≡◌, ℕ, true, false, eqb, List, [], ◌∷◌, refl, ◌∙◌, ap, Some, None}
 use Rattle.nut_monitor_spec.specs.Configuration.{Configuration}
-use Rattle.nut_monitor_spec.specs.Event.{Event, Moment, Linked, LinkBytes, LinkLost, LinkTook, OutOfMemory, NoticeTaken}
+use Rattle.nut_monitor_spec.specs.Event.{Event, Linked, LinkBytes, LinkLost, LinkTook, OutOfMemory}
 use Rattle.nut_monitor_spec.specs.Trace.{Entry, came, entry_of, known, query_put, notices_of, trace}
 use Rattle.nut_monitor_spec.specs.Content.{content_of}
 use Rattle.nut_monitor_spec.specs.laws.Laws.{OthersStay}
@@ -31,8 +31,6 @@ same-link : (k i j : ℕ) → Some k ≡ Some i → eqb i j ≡ false → eqb k 
 same-link k i j is differ = let e : k ≡ i = cc in ap (λ m. eqb m j) e ∙ differ
 
 pub others-stay : OthersStay
-others-stay configuration events (Moment t) i j accepted of differ = cc
-others-stay configuration events NoticeTaken i j accepted of differ = cc
 others-stay configuration events (Linked k) i j accepted of differ =
     by-apart configuration (trace configuration events) (Linked k) k j (made-apart configuration (trace configuration events) k j (same-link k i j of differ))
 others-stay configuration events (LinkLost k) i j accepted of differ =
@@ -50,3 +48,4 @@ others-stay configuration events (OutOfMemory k piece n) i j accepted of differ 
 others-stay configuration events (LinkTook k n) i j accepted of differ =
     let past = trace configuration events in
     took-stay configuration past k n j (all-hold configuration events accepted.0) (took-there configuration past k n (found configuration past k) refl accepted.1.0)
+others-stay configuration events event i j accepted of differ = cc

@@ -20,7 +20,7 @@ use Rattle.nut_monitor_spec.specs.machine.Machine.{update, took}
 use Rattle.nut_monitor_spec.proofs.Lists.{for_each-update, earliest-moment, earliest-any, earliest-none, begins_now}
 use Rattle.nut_monitor_spec.proofs.Newest.{marked}
 use Rattle.nut_monitor_spec.proofs.Apart.{watch_by}
-use Rattle.nut_monitor_spec.proofs.Settled.{IsTidy, entry_is}
+use Rattle.nut_monitor_spec.proofs.Settled.{IsEither, IsTidy, entry_is}
 
 -- an entry that brings nothing
 abbrev pub bare : Event → Entry
@@ -186,10 +186,7 @@ module _ (configuration : Configuration) (newest : Entry) (older : List Entry) w
       by : (b : Bool) → eqb i j ≡ b → IsTidy configuration j (bare (LinkTook i n) ∷ past)
       by false differ there =
           let same : taken j (bare (LinkTook i n) ∷ past) ≡ taken j past = ap (λ b. if b then taken j past + n else taken j past) differ in
-          elim (tidy there) [
-            | inl idle ↦ inl (record { answered = idle.answered; turn = idle.turn; taken = same ∙ idle.taken })
-            | inr asked ↦ inr (record { asked = asked.asked; older = asked.older; queries = asked.queries; answered = asked.answered; turn = asked.turn; sent = omega (arith, same, asked.sent); taken = omega (arith, same, asked.taken) })
-          ]
+          subst (λ m. IsEither (line_in configuration.lines j) (queries j past) (answers j past) m) (sym same) (tidy there)
       by true is there =
           let e : i ≡ j = eqb-true i j is in
           let less : n ≤ length (waits configuration j past) = subst (λ k. n ≤ length (waits configuration k past)) e (within (ap (λ k. linked k past) e ∙ there)) in
@@ -211,10 +208,7 @@ module _ (configuration : Configuration) (newest : Entry) (older : List Entry) w
 
   pub notice-tidy : (j : ℕ) → ((k : ℕ) → query_put configuration past k ≡ None) → IsTidy configuration j past → IsTidy configuration j (entry_of configuration past NoticeTaken ∷ past)
   notice-tidy j still tidy =
-      subst (λ x. IsTidy configuration j (x ∷ past)) (sym (notice-entry still)) (λ there. elim (tidy there) [
-        | inl idle ↦ inl (record { answered = idle.answered; turn = idle.turn; taken = idle.taken })
-        | inr asked ↦ inr (record { asked = asked.asked; older = asked.older; queries = asked.queries; answered = asked.answered; turn = asked.turn; sent = asked.sent; taken = asked.taken })
-      ])
+      subst (λ x. IsTidy configuration j (x ∷ past)) (sym (notice-entry still)) tidy
 
   -- at most as many notices were taken as were given
   pub took-waiting : (i n : ℕ) → ((k : ℕ) → query_put configuration past k ≡ None) → notices_taken past ≤ length (Trace.notices past) →

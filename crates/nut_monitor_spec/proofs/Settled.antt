@@ -8,7 +8,7 @@ use Rattle.nut_words.specs.Lines.{rest}
 use Rattle.nut_proto.specs.Requests.{request_line}
 use Rattle.nut_monitor_spec.specs.declared.Notice.{Notice}
 use Rattle.nut_monitor_spec.specs.declared.Query.{Query}
-use Rattle.nut_monitor_spec.specs.Configuration.{Configuration, line_in}
+use Rattle.nut_monitor_spec.specs.Configuration.{Line, Configuration, line_in}
 use Rattle.nut_monitor_spec.specs.Event.{Event}
 use Rattle.nut_monitor_spec.specs.Query.{request}
 use Rattle.nut_monitor_spec.specs.Decision.{shutdown_told, when, phase_at, next_query, is_over_by}
@@ -23,21 +23,31 @@ use Rattle.nut_monitor_spec.proofs.Lists.{for_each-same, supply-law, alone-law, 
 abbrev pub asked_by : List Answer → List Asked
 asked_by answers = map (λ a. a.asked) answers
 
--- The exchange of link i is idle: no query is outstanding, and all bytes are taken.
-pub record IsIdle (configuration : Configuration) (i : ℕ) (past : List Entry) : Type 0 where
-  pub answered : length (queries i past) ≡ length (answers i past)
-  pub turn : queries i past ≡ asked_by (answers i past)
-  pub taken : taken i past ≡ length (due configuration i past)
+-- No query is outstanding: each was answered in turn, and all their bytes are taken.
+pub record IsIdleBy (line : Line) (asks : List Asked) (said : List Answer) (count : ℕ) : Type 0 where
+  pub answered : length asks ≡ length said
+  pub turn : asks ≡ asked_by said
+  pub taken : count ≡ length (joined_queries line asks)
 
--- One query is outstanding on link i; all older ones were taken whole and answered.
-pub record IsAsked (configuration : Configuration) (i : ℕ) (past : List Entry) : Type 0 where
+-- One query is outstanding; all older ones were taken whole and answered.
+pub record IsAskedBy (line : Line) (asks : List Asked) (said : List Answer) (count : ℕ) : Type 0 where
   pub asked : Asked
   pub older : List Asked
-  pub queries : queries i past ≡ asked ∷ older
-  pub answered : length older ≡ length (answers i past)
-  pub turn : older ≡ asked_by (answers i past)
-  pub sent : length (joined_queries (line_in configuration.lines i) older) ≤ taken i past
-  pub taken : taken i past ≤ length (due configuration i past)
+  pub queries : asks ≡ asked ∷ older
+  pub answered : length older ≡ length said
+  pub turn : older ≡ asked_by said
+  pub sent : length (joined_queries line older) ≤ count
+  pub taken : count ≤ length (joined_queries line asks)
+
+abbrev pub IsEither : Line → List Asked → List Answer → ℕ → Type 0
+IsEither line asks said count = IsIdleBy line asks said count ⊎ IsAskedBy line asks said count
+
+-- so it is on link i
+abbrev pub IsIdle : Configuration → ℕ → List Entry → Type 0
+IsIdle configuration i past = IsIdleBy (line_in configuration.lines i) (queries i past) (answers i past) (taken i past)
+
+abbrev pub IsAsked : Configuration → ℕ → List Entry → Type 0
+IsAsked configuration i past = IsAskedBy (line_in configuration.lines i) (queries i past) (answers i past) (taken i past)
 
 abbrev pub IsTidy : Configuration → ℕ → List Entry → Type 0
 IsTidy configuration i past = linked i past ≡ true → IsIdle configuration i past ⊎ IsAsked configuration i past
@@ -145,8 +155,7 @@ may-law configuration past i = may-cases (linked i past) (outstanding i past)
         ≡ (b && is_none o)
     may-cases true None = refl
     may-cases true (Some asked) = refl
-    may-cases false None = refl
-    may-cases false (Some asked) = refl
+    may-cases false o = refl
 
 -- a watch whose link has these queries
 abbrev watch_with : Configuration → List Entry → ℕ → List Asked → Watch

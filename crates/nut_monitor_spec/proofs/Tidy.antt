@@ -1,5 +1,5 @@
 -- At most one query is outstanding on a link, and it is answered only once all its bytes are taken.
-use Rattle.std.proofs.Common.{◌≡◌, ℕ, ◌≤◌, true, false, ◌&&◌, ◌⊎◌, inl, inr, eqb, List, [], ◌∷◌, length, drop, refl, sym, ◌∙◌, ap, arith, Option, Some, None, is_some, is_none, if◌then◌else◌, length-append, length-drop}
+use Rattle.std.proofs.Common.{◌≡◌, ℕ, ◌≤◌, true, false, ◌&&◌, ◌⊎◌, inl, inr, eqb, List, [], ◌∷◌, length, drop, refl, sym, ◌∙◌, ap, arith, subst, Option, Some, None, is_some, is_none, if◌then◌else◌, length-append, length-drop}
 use Rattle.std.proofs.lemmas.Bool.{eq-eqb, eqb-true, and_parts}
 use Rattle.nut_words.specs.Lines.{LineText}
 use Rattle.nut_proto.specs.Requests.{request_line}
@@ -13,7 +13,7 @@ use Rattle.nut_monitor_spec.proofs.Lists.{number-none, number-head}
 use Rattle.nut_monitor_spec.proofs.Newest.{marked, forced-same}
 use Rattle.nut_monitor_spec.proofs.Answered.{and-false}
 use Rattle.nut_monitor_spec.proofs.Apart.{IsApart, other-linked, other-queries, other-said}
-use Rattle.nut_monitor_spec.proofs.Settled.{IsTidy, IsIdle, IsAsked, asked_by, told_entry, phase-same, may-of_some}
+use Rattle.nut_monitor_spec.proofs.Settled.{IsEither, IsTidy, IsIdle, IsAsked, asked_by, told_entry, phase-same, may-of_some}
 use Rattle.nut_monitor_spec.proofs.Links.{IsAnswerOf, answer-cases}
 
 -- an event that changes neither the queries, the answers nor the bytes taken leaves a link tidy
@@ -21,19 +21,9 @@ pub tidy-same : (configuration : Configuration) (i : ℕ) (entry : Entry) (past 
     answers i (entry ∷ past) ≡ answers i past → taken i (entry ∷ past) ≡ taken i past → IsTidy configuration i past → IsTidy configuration i (entry ∷ past)
 tidy-same configuration i entry past l q a t tidy there =
     let line = line_in configuration.lines i in
-    let bytes : length (due configuration i (entry ∷ past)) ≡ length (due configuration i past) = ap (λ qs. length (joined_queries line qs)) q in
-    elim (tidy (sym l ∙ there)) [
-      | inl idle ↦ inl (record { answered = ap length q ∙ idle.answered ∙ sym (ap length a); turn = q ∙ idle.turn ∙ sym (ap asked_by a); taken = t ∙ idle.taken ∙ sym bytes })
-      | inr asked ↦ inr (record {
-        asked = asked.asked;
-        older = asked.older;
-        queries = q ∙ asked.queries;
-        answered = asked.answered ∙ sym (ap length a);
-        turn = asked.turn ∙ sym (ap asked_by a);
-        sent = omega (arith, t, asked.sent);
-        taken = omega (arith, t, bytes, asked.taken);
-      })
-    ]
+    subst (λ qs. IsEither line qs (answers i (entry ∷ past)) (taken i (entry ∷ past))) (sym q)
+    (subst (λ xs. IsEither line (queries i past) xs (taken i (entry ∷ past))) (sym a)
+    (subst (λ n. IsEither line (queries i past) (answers i past) n) (sym t) (tidy (sym l ∙ there))))
 
 pub tidy-apart : (configuration : Configuration) (i j : ℕ) (entry : Entry) (past : List Entry) → IsApart i j entry past → IsTidy configuration j past → IsTidy configuration j (entry ∷ past)
 tidy-apart configuration i j entry past apart tidy =
@@ -70,11 +60,7 @@ module _ (configuration : Configuration) (past : List Entry) (i : ℕ) (piece : 
 
   by-answer : IsAnswerOf configuration past i entry.answer → IsIdle configuration i (entry ∷ past) ⊎ IsAsked configuration i (entry ∷ past)
   by-answer (inl none) =
-      let same : answers i (entry ∷ past) ≡ answers i past = ap (λ a. answered_in i a (answers i past)) none in
-      elim tidy [
-        | inl idle ↦ inl (record { answered = idle.answered ∙ sym (ap length same); turn = idle.turn ∙ sym (ap asked_by same); taken = idle.taken })
-        | inr asked ↦ inr (record { asked = asked.asked; older = asked.older; queries = asked.queries; answered = asked.answered ∙ sym (ap length same); turn = asked.turn ∙ sym (ap asked_by same); sent = asked.sent; taken = asked.taken })
-      ]
+      subst (λ xs. IsEither (line_in configuration.lines i) (queries i past) xs (taken i past)) (sym (ap (λ a. answered_in i a (answers i past)) none)) tidy
   by-answer (inr some) =
       let a : Answer = record { link = i; asked = some.0; outcome = some.1 } in
       let more : answers i (entry ∷ past) ≡ a ∷ answers i past =
@@ -116,11 +102,7 @@ module _ (configuration : Configuration) (past : List Entry) (event : Event) (i 
   asked_now query = asked_in (clock before) (length before) query (queries i before)
 
   abbrev IsTidyBy : Option Query → Type 0
-  IsTidyBy query =
-      ((length (asked_now query) ≡ length (answers i before)) × (asked_now query ≡ asked_by (answers i before)) × (taken i before ≡ length (joined_queries (line_in configuration.lines i) (asked_now query))))
-      ⊎ ((asked : Asked) × (older : List Asked) × (asked_now query ≡ asked ∷ older) × (length older ≡ length (answers i before)) × (older ≡ asked_by (answers i before))
-      × (length (joined_queries (line_in configuration.lines i) older) ≤ taken i before)
-      × (taken i before ≤ length (joined_queries (line_in configuration.lines i) (asked_now query))))
+  IsTidyBy query = IsEither (line_in configuration.lines i) (asked_now query) (answers i before) (taken i before)
 
   idle-where : IsIdle configuration i before ⊎ IsAsked configuration i before → may_ask i before ≡ true → IsIdle configuration i before
   idle-where (inl idle) may = idle
@@ -130,30 +112,24 @@ module _ (configuration : Configuration) (past : List Entry) (event : Event) (i 
       let e : is_none (Some asked.asked) ≡ true = sym (ap is_none some) ∙ free in cc
 
   put-tidy : (query : Option Query) → (is_some query ≡ true → may_ask i before ≡ true) → IsIdle configuration i before ⊎ IsAsked configuration i before → IsTidyBy query
-  put-tidy None may (inl idle) = inl (idle.answered, idle.turn, idle.taken)
-  put-tidy None may (inr asked) = inr (asked.asked, asked.older, asked.queries, asked.answered, asked.turn, asked.sent, asked.taken)
+  put-tidy None may tidy = tidy
   put-tidy (Some query) may tidy =
       let idle = idle-where tidy (may refl) in
-      let line = line_in configuration.lines i in
-      inr (
-        record { query = query; moment = clock before; event = length before },
-        queries i before,
-        refl,
-        idle.answered,
-        idle.turn,
-        omega (arith, idle.taken),
-        omega (arith, idle.taken, length-append (joined_queries line (queries i before)) (request_line (request line query))),
-      )
-
-  as-tidy : IsTidyBy (queries_now i) → IsIdle configuration i full ⊎ IsAsked configuration i full
-  as-tidy (inl idle) = inl (record { answered = idle.0; turn = idle.1; taken = idle.2 })
-  as-tidy (inr asked) = inr (record { asked = asked.0; older = asked.1; queries = asked.2; answered = asked.3; turn = asked.4; sent = asked.5; taken = asked.6 })
+      inr (record {
+        asked = record { query = query; moment = clock before; event = length before };
+        older = queries i before;
+        queries = refl;
+        answered = idle.answered;
+        turn = idle.turn;
+        sent = omega (arith, idle.taken);
+        taken = omega (arith, idle.taken, length-append (joined_queries (line_in configuration.lines i) (queries i before)) (request_line (request (line_in configuration.lines i) query)));
+      })
 
   may-now : is_some (queries_now i) ≡ true → may_ask i before ≡ true
   may-now is = may-of_some (may_ask i before) _ is
 
   pub tidy-settled : IsTidy configuration i before → IsTidy configuration i full
-  tidy-settled tidy there = as-tidy (put-tidy (queries_now i) may-now (tidy there))
+  tidy-settled tidy there = put-tidy (queries_now i) may-now (tidy there)
 
   -- then no further query may be put
   still-by : (query : Option Query) → queries_now i ≡ query → IsTidy configuration i before → query_put configuration full i ≡ None

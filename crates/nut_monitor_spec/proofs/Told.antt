@@ -4,7 +4,7 @@ use Rattle.std.specs.Prelude.{nat_lt}
 use Rattle.std.proofs.lemmas.Bool.{cases_Bool, eqb-true, ltb-true, ltb-false}
 use Rattle.nut_monitor_spec.specs.declared.MonitorFault.TheVariants.{NoSuchLink}
 use Rattle.nut_monitor_spec.specs.Configuration.{Configuration}
-use Rattle.nut_monitor_spec.specs.Event.{Event, Moment, Linked, LinkBytes, LinkLost, LinkTook, OutOfMemory, NoticeTaken}
+use Rattle.nut_monitor_spec.specs.Event.{Event, Linked}
 use Rattle.nut_monitor_spec.specs.Trace.{Entry, is_link, since_linked, linked, taken, due, came, entry_of, trace}
 use Rattle.nut_monitor_spec.specs.Content.{Watch, watch, content}
 use Rattle.nut_monitor_spec.specs.Acceptance.{IsAccepted, is_linked, linked_refusal, waiting_on, watch_at}
@@ -45,12 +45,7 @@ never-linked configuration (Linked j ∷ events) i accepted past_end =
           absurd (let bad : Some NoSuchLink ≡ None = sym (ap linked_refusal none) ∙ refused in cc)
       | inr e ↦ ap (λ b. if b then true else linked i past) e ∙ never-linked configuration events i accepted.0 past_end
     ])
-never-linked configuration (Moment t ∷ events) i accepted past_end = linked-after configuration (trace configuration events) (Moment t) i (never-linked configuration events i accepted.0 past_end)
-never-linked configuration (LinkBytes j piece ∷ events) i accepted past_end = linked-after configuration (trace configuration events) (LinkBytes j piece) i (never-linked configuration events i accepted.0 past_end)
-never-linked configuration (LinkLost j ∷ events) i accepted past_end = linked-after configuration (trace configuration events) (LinkLost j) i (never-linked configuration events i accepted.0 past_end)
-never-linked configuration (LinkTook j n ∷ events) i accepted past_end = linked-after configuration (trace configuration events) (LinkTook j n) i (never-linked configuration events i accepted.0 past_end)
-never-linked configuration (OutOfMemory j piece k ∷ events) i accepted past_end = linked-after configuration (trace configuration events) (OutOfMemory j piece k) i (never-linked configuration events i accepted.0 past_end)
-never-linked configuration (NoticeTaken ∷ events) i accepted past_end = linked-after configuration (trace configuration events) NoticeTaken i (never-linked configuration events i accepted.0 past_end)
+never-linked configuration (event ∷ events) i accepted past_end = linked-after configuration (trace configuration events) event i (never-linked configuration events i accepted.0 past_end)
 
 pub links-told : LinksAreTold
 links-told = record {

@@ -26,6 +26,23 @@ pub record Configuration : Type 0 where
   pub rb_warn_time : ℕ
   pub no_comm_warn_time : ℕ
 
+-- what stands for a monitor that isn't there
+abbrev pub no_configuration : Configuration
+no_configuration = record { lines = []; min_supplies = 0; poll_freq = 0; dead_time = 0; host_sync = 0; final_delay = 0; rb_warn_time = 0; no_comm_warn_time = 0 }
+
+-- these MONITOR lines, and the default of all else
+abbrev pub with_defaults : List Line → Configuration
+with_defaults lines = record {
+  lines = lines;
+  min_supplies = 1;
+  poll_freq = 5;
+  dead_time = 15;
+  host_sync = 15;
+  final_delay = 5;
+  rb_warn_time = 43_200;
+  no_comm_warn_time = 300;
+}
+
 -- what `line_in` gives for a number that no line has
 abbrev pub no_line : Line
 no_line = record { ups = []; power = 0; user = []; password = []; primary = false }

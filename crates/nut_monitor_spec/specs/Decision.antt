@@ -5,7 +5,7 @@ use Rattle.nut_conf.specs.declared.notice.Notice.{Notice as Kind}
 use Rattle.nut_conf.specs.declared.notice.Notice.TheVariants as kinds
 use Rattle.nut_link.specs.declared.outcome.Outcome.{Outcome}
 use Rattle.nut_monitor_spec.specs.declared.Communication.{Communication}
-use Rattle.nut_monitor_spec.specs.declared.Communication.TheVariants.{Never, Good, Bad}
+use Rattle.nut_monitor_spec.specs.declared.Communication.TheVariants.{Good, Bad}
 use Rattle.nut_monitor_spec.specs.declared.Known.{Known}
 use Rattle.nut_monitor_spec.specs.declared.LastQuery.{LastQuery}
 use Rattle.nut_monitor_spec.specs.declared.Notice.{Notice}
@@ -79,9 +79,8 @@ abbrev pub when : Bool → Notice → List Notice
 when test notice = if test then notice ∷ [] else []
 
 abbrev pub is_bad : Communication → Bool
-is_bad Never = false
-is_bad Good = false
 is_bad Bad = true
+is_bad communication = false
 
 -- whether the status before had the flag; false if there was none
 abbrev pub had : (StatusFlags → Bool) → Option StatusFlags → Bool
@@ -138,10 +137,8 @@ phase_at configuration clock begun (Some ended) =
 
 -- the monitor has decided that its machine has to be halted
 abbrev pub is_halted : Phase → Bool
-is_halted Watching = false
-is_halted Forcing = false
-is_halted Final = false
 is_halted (Halted flag) = true
+is_halted phase = false
 
 -- Forcing is over once the last count of logins is at most 1 for each UPS of which this machine is the primary, or once
 -- more than HOSTSYNC has passed since the shutdown began.
@@ -161,28 +158,21 @@ opening line (Some last) = behind last.query
     behind Username = Some Password
     behind Password = Some Login
     behind Login = if line.primary then Some Primary else None
-    behind Primary = None
-    behind Status = None
-    behind Fsd = None
-    behind NumLogins = None
+    behind query = None
 
 -- What is asked once a link is opened, by the phase: while Watching, the status; in Forcing, on a primary line, FSD
 -- until it was answered OK, and then how many are logged in.
 abbrev pub wanted : Phase → Bool → Bool → Option Query
 wanted Watching primary forced = Some Status
 wanted Forcing primary forced = if primary then (if forced then Some NumLogins else Some Fsd) else None
-wanted Final primary forced = None
-wanted (Halted flag) primary forced = None
+wanted phase primary forced = None
 
 -- how many seconds must pass before a query is put again
 abbrev pub interval : Configuration → Query → ℕ
-interval configuration Username = 0
-interval configuration Password = 0
-interval configuration Login = 0
-interval configuration Primary = 0
 interval configuration Status = configuration.poll_freq
 interval configuration Fsd = 1
 interval configuration NumLogins = 1
+interval configuration query = 0
 
 -- Both are the same one of the queries that are put again and again. An opening query isn't put again on a link.
 abbrev pub is_same : Query → Query → Bool

@@ -5,7 +5,7 @@ use Rattle.nut_link.specs.Exchange.{Exchange}
 use Rattle.nut_link.specs.Hearing.{RunsOut}
 use Rattle.nut_link.specs.Link.{LinkValue}
 use Rattle.nut_monitor_spec.specs.declared.MonitorFault.{MonitorFault}
-use Rattle.nut_monitor_spec.specs.declared.MonitorFault.TheVariants.{NoSuchLink, WrongLinkState, PieceTooLong, TooMuchTaken, Busy, Memory}
+use Rattle.nut_monitor_spec.specs.declared.MonitorFault.TheVariants.{Memory}
 use Rattle.nut_monitor_spec.specs.Event.{Event, LinkBytes, OutOfMemory}
 use Rattle.nut_monitor_spec.specs.Content.{Watch, Content}
 use Rattle.nut_monitor_spec.specs.Acceptance.{refusal, Accepts, watch_at}
@@ -28,11 +28,7 @@ MayLack s link k event = ⊥
 -- event; or no test refuses it, and memory may run out there.
 abbrev pub IsRefusal : Content → Event → MonitorFault → Type 0
 IsRefusal s event (Memory link k) = (refusal s event ≡ None) × MayLack s link k event
-IsRefusal s event NoSuchLink = refusal s event ≡ Some NoSuchLink
-IsRefusal s event WrongLinkState = refusal s event ≡ Some WrongLinkState
-IsRefusal s event PieceTooLong = refusal s event ≡ Some PieceTooLong
-IsRefusal s event TooMuchTaken = refusal s event ≡ Some TooMuchTaken
-IsRefusal s event Busy = refusal s event ≡ Some Busy
+IsRefusal s event fault = refusal s event ≡ Some fault
 
 -- A monitor with this content may answer the event by this result.
 abbrev pub IsAnswer : {U : Type 0} → Content → Event → Result U MonitorFault → Type 0

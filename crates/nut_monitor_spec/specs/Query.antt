@@ -13,7 +13,7 @@ use Rattle.nut_proto.specs.declared.request.Request.TheVariants as requests
 use Rattle.nut_link.specs.declared.fault.LinkFault.{LinkFault}
 use Rattle.nut_link.specs.declared.outcome.Outcome.{Outcome}
 use Rattle.nut_link.specs.declared.outcome.Outcome.TheVariants as outcomes
-use Rattle.nut_link.specs.Matching.{Progress, Listing, Complete, expected, progress}
+use Rattle.nut_link.specs.Matching.{Progress, Complete, expected, progress}
 use Rattle.nut_monitor_spec.specs.declared.Query.{Query}
 use Rattle.nut_monitor_spec.specs.declared.Query.TheVariants.{Username, Password, Login, Primary, Status, Fsd, NumLogins}
 use Rattle.nut_monitor_spec.specs.declared.StatusFlags.{StatusFlags}
@@ -33,8 +33,7 @@ request line NumLogins = requests.GetNumLogins line.ups
 
 abbrev pub complete : Result Progress LinkFault → Option Outcome
 complete (Ok (Complete outcome)) = Some outcome
-complete (Ok (Listing rows)) = None
-complete (Err fault) = None
+complete progress = None
 
 abbrev pub outcome_by : Request → Result Answer AnswerFault → Option Outcome
 outcome_by asked (Ok answer) = complete (progress (expected asked) None answer)

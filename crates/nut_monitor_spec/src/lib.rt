@@ -244,6 +244,7 @@ pub fn notices_come_in_order()
 
 /// States worked examples and does nothing when called: what is told, asked, decided and refused in some runs, computed
 /// from the definitions.
+#[tactic(auto, unfolding(nut_words::specs::Reader::read, nut_proto::specs::Answers::answer_of, nut_proto::specs::Lines::line, nut_proto::specs::Requests::request_line, crate::specs::Trace::entry_of))]
 pub fn worked_examples()
     ensures primaries { PrimaryExamples }
     ensures secondaries { SecondaryExamples }

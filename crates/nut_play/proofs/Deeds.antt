@@ -66,7 +66,7 @@ nothing : (n : ℕ) (xs : List ℕ) → min n (length xs) ≡ 0 → take n xs �
 nothing n xs none = sym (take_min n xs) ∙ ap (λ k. take k xs) none
 
 module _ (m : ℕ) (t : knowledge.Content) (i : ℕ) (ends : Ends) (n : ℕ) where
-  land-is : (there : Bool) (piece : List ℕ) → linked_by t i ≡ there → take (min n PIECE_MAX) ends.to_monitor ≡ piece →
+  pub land-is : (there : Bool) (piece : List ℕ) → linked_by t i ≡ there → take (min n PIECE_MAX) ends.to_monitor ≡ piece →
       land_by m t i ends n ≡ (if there then carried piece (λ bytes. inform_by m t (events.LinkBytes i bytes)) else Skip)
   land-is there piece a b =
       ap (λ x. if x then carried (take (min n PIECE_MAX) ends.to_monitor) (λ bytes. inform_by m t (events.LinkBytes i bytes)) else Skip) a
@@ -79,7 +79,7 @@ module _ (m : ℕ) (t : knowledge.Content) (i : ℕ) (ends : Ends) (n : ℕ) whe
   land-rests there none = land-is true [] there (nothing (min n PIECE_MAX) ends.to_monitor none)
 
 module _ (s : server.Content) (ends : Ends) (n : ℕ) where
-  reach-is : (up : Bool) (piece : List ℕ) → open_by s ends ≡ up → take (min n PIECE_MAX) ends.to_server ≡ piece →
+  pub reach-is : (up : Bool) (piece : List ℕ) → open_by s ends ≡ up → take (min n PIECE_MAX) ends.to_server ≡ piece →
       reach_by s ends n ≡ (if up then carried piece (λ bytes. tell_by s (arrivals.Bytes ends.connection bytes)) else Skip)
   reach-is up piece a b =
       ap (λ x. if x then carried (take (min n PIECE_MAX) ends.to_server) (λ bytes. tell_by s (arrivals.Bytes ends.connection bytes)) else Skip) a

@@ -10,4 +10,5 @@ pub mod Changes
 pub mod Deeds
 pub mod Stepping
 pub mod Standing
+pub mod Lacking
 pub mod Rooms

@@ -1,24 +1,24 @@
 -- The result of a call of a fleet that is that of a world.
 use Rattle.std.proofs.Common.{◌≡◌, ◌<◌, ◌≤◌, ◌++◌, ℕ, zero, suc, Bool, true, false, List, [], ◌∷◌, length, map, take, reverse, slice_get, Some, Result, Ok, Err, IfOk, IfErr, OnOk, refl, sym, ◌∙◌, ap, subst, arith}
 use Rattle.std.specs.Prelude.{not}
-use Rattle.std.proofs.lemmas.Bool.{and_parts}
 use Rattle.std.proofs.lemmas.List.{map-append, length-map, reverse-append}
 use Rattle.nut_fleet.specs.Schedule as S
-use Rattle.nut_fleet.specs.World.{Setup}
+use Rattle.nut_fleet.specs.World.{Setup, world}
+use Rattle.nut_fleet.specs.Fleet.{EventsAreAccepted}
 use Rattle.nut_fleet.specs.Log.{Logged}
 use Rattle.nut_fleet.specs.machine.Going.{FleetsGoOn}
 use Rattle.nut_play.specs.declared.types.Step.{Step}
 use Rattle.nut_play.specs.declared.types.FleetFault.{FleetFault}
 use Rattle.nut_play.specs.declared.types.FleetFault.TheVariants.{BadStep, Memory, Failed}
-use Rattle.nut_play.specs.Lack.{may_lack}
 use Rattle.nut_play.specs.Kept.{Kept}
 use Rattle.nut_play.specs.machine.Next.{fits}
 use Rattle.nut_play.specs.Steps.{step_of, steps_of}
-use Rattle.nut_play.specs.machine.Play.{firsts, before_all, run, run_log, told_at, IsPlayed, IsStopped, IsLacking, IsLog, IsFault}
+use Rattle.nut_play.specs.machine.Play.{firsts, before_all, run, run_log, MayRunOut, IsPlayed, IsStopped, IsLacking, IsLog, IsFault}
 use Rattle.nut_play.specs.machine.Play as machine
 use Rattle.nut_play.specs.Room.{HasPlayed, WerePlayed, StopsBehind, LacksBehind, IsFaultOf}
 use Rattle.nut_play.proofs.Runs.{some-get, get-map}
-use Rattle.nut_play.proofs.Standing.{run-stands, run-tells, run-fits, same-fit, tells-on}
+use Rattle.nut_play.proofs.Standing.{run-stands, run-tells, run-fits, same-fit}
+use Rattle.nut_play.proofs.Lacking.{may-lack}
 
 -- ---- the steps of a call, the newest first
 
@@ -84,29 +84,30 @@ module _ (setup : Setup) (before : List S.Step) (k : Kept) (go : (schedule : Lis
         bad = (x.0, x.1, sym (same-fit setup (steps_of (take n schedule) ++ before) new fleet x.0) ∙ unfit);
       }
 
-  lacks-behind : (schedule : List Step) (n at : ℕ) (last : Kept) → IsLacking k (map step_of schedule) n at last → LacksBehind setup before schedule n
-  lacks-behind schedule n at last s =
-      let within : n < length schedule = subst (λ j. n < j) (length-map schedule step_of) s.within in
-      let same : firsts n (map step_of schedule) ≡ steps_of (take n schedule) = firsts-are schedule n (omega arith) in
-      let fit : machine.AreFit k (steps_of (take n schedule)) = subst (machine.AreFit k) same s.played.fit in
-      let fleet : HasPlayed setup (steps_of (take n schedule) ++ before) last =
-      stands-at (steps_of (take n schedule)) last fit (s.played.fleet ∙ ap (run k) same) in
-      let x = some-get (map step_of schedule) n s.within in
-      let both = and_parts (fits last x.0) (may_lack x.0 (told_at last x.0)) (sym (ap (machine.may_run_out last) x.1) ∙ s.lacks) in
-      record {
-        fit = run-fits setup before k go is (steps_of (take n schedule)) fit;
-        lacks = (
-          x.0,
-          x.1,
-          sym (same-fit setup (steps_of (take n schedule) ++ before) last fleet x.0) ∙ both.0,
-          ap (may_lack x.0) (sym (tells-on setup (steps_of (take n schedule) ++ before) last x.0 (go (steps_of (take n schedule) ++ before)) fleet both.0)) ∙ both.1,
-        );
-      }
+  module _ (accepted : (schedule : List S.Step) (new : Kept) → HasPlayed setup schedule new → EventsAreAccepted setup (world setup schedule)) where
+    lacks-behind : (schedule : List Step) (n at : ℕ) (last : Kept) → IsLacking k (map step_of schedule) n at last → LacksBehind setup before schedule n
+    lacks-behind schedule n at last s =
+        let within : n < length schedule = subst (λ j. n < j) (length-map schedule step_of) s.within in
+        let same : firsts n (map step_of schedule) ≡ steps_of (take n schedule) = firsts-are schedule n (omega arith) in
+        let fit : machine.AreFit k (steps_of (take n schedule)) = subst (machine.AreFit k) same s.played.fit in
+        let earlier : List S.Step = steps_of (take n schedule) ++ before in
+        let fleet : HasPlayed setup earlier last = stands-at (steps_of (take n schedule)) last fit (s.played.fleet ∙ ap (run k) same) in
+        let x = some-get (map step_of schedule) n s.within in
+        let why : MayRunOut last (Some x.0) = subst (MayRunOut last) x.1 s.lacks in
+        record {
+          fit = run-fits setup before k go is (steps_of (take n schedule)) fit;
+          lacks = (
+            x.0,
+            x.1,
+            sym (same-fit setup earlier last fleet x.0) ∙ why.0,
+            may-lack setup earlier last (go earlier) (accepted earlier last fleet) fleet x.0 why.0 why.1,
+          );
+        }
 
-  pub fault-of : (schedule : List Step) (fault : FleetFault) (new : Kept) → IsFault k (map step_of schedule) fault new → IsFaultOf setup before schedule fault new
-  fault-of schedule (BadStep at) new s = (s.0, s.1.number, stops-behind schedule s.0 at new s.1)
-  fault-of schedule (Memory at) new s = (s.0, s.1, s.3.number, lacks-behind schedule s.1 at s.2 s.3)
-  fault-of schedule Failed new s = s
+    pub fault-of : (schedule : List Step) (fault : FleetFault) (new : Kept) → IsFault k (map step_of schedule) fault new → IsFaultOf setup before schedule fault new
+    fault-of schedule (BadStep at) new s = (s.0, s.1.number, stops-behind schedule s.0 at new s.1)
+    fault-of schedule (Memory at) new s = (s.0, s.1, s.3.number, lacks-behind schedule s.1 at s.2 s.3)
+    fault-of schedule Failed new s = s
 
 -- ---- the answer of a call
 

@@ -1,11 +1,10 @@
 -- The result of a run of steps.
-use Rattle.std.proofs.Common.{◌≡◌, ◌<◌, ◌≤◌, ◌++◌, ◌+◌, ◌&&◌, ℕ, zero, suc, Bool, true, List, [], ◌∷◌, length, map, slice_get, Some, false, not, refl, sym, ◌∙◌, ap, subst, arith}
+use Rattle.std.proofs.Common.{◌≡◌, ◌<◌, ◌≤◌, ◌++◌, ◌+◌, ℕ, zero, suc, true, List, [], ◌∷◌, length, map, slice_get, Some, not, refl, sym, ◌∙◌, ap, subst, arith}
 use Rattle.nut_fleet.specs.Schedule.{Step}
 use Rattle.nut_fleet.specs.Log.{Logged, logged}
-use Rattle.nut_play.specs.Lack.{may_lack}
 use Rattle.nut_play.specs.Kept.{Kept}
 use Rattle.nut_play.specs.machine.Next.{next, fits}
-use Rattle.nut_play.specs.machine.Play.{firsts, before_all, run, run_log, told_at, is_bad, may_run_out, AreFit, IsPlayed, IsLacking, IsFault, IsFaultAt}
+use Rattle.nut_play.specs.machine.Play.{firsts, before_all, run, run_log, told_at, is_bad, LacksAt, MayRunOut, AreFit, IsPlayed, IsLacking, IsFault, IsFaultAt}
 use Rattle.nut_play.specs.declared.types.FleetFault.{FleetFault}
 use Rattle.nut_play.specs.declared.types.FleetFault.TheVariants.{BadStep, Memory, Failed}
 
@@ -40,17 +39,13 @@ module _ (k : Kept) (steps : List Step) (n : ℕ) (old new : Kept) (x : Step) (i
       ∙ ap (λ y. run_log k (firsts n steps) ++ logged (suc (length (firsts n steps))) (told_at y x)) before.fleet
       ∙ sym (ap (λ o. run_log k (before_all o (firsts n steps))) is)
 
-both : (a b : Bool) → a ≡ true → b ≡ true → a && b ≡ true
-both true b e f = f
-both false b e f = cc
-
 pub lacking : (k : Kept) (steps : List Step) (n at : ℕ) (last : Kept) (x : Step) → slice_get steps n ≡ Some x → at ≡ n + 1 → n < length steps →
-    IsPlayed k steps n last → fits last x ≡ true → may_lack x (told_at last x) ≡ true → IsLacking k steps n at last
+    IsPlayed k steps n last → fits last x ≡ true → LacksAt last x → IsLacking k steps n at last
 lacking k steps n at last x is number within played ok lack = record {
   number = number;
   within = within;
   played = played;
-  lacks = ap (may_run_out last) is ∙ both (fits last x) (may_lack x (told_at last x)) ok lack;
+  lacks = subst (MayRunOut last) (sym is) (ok, lack);
 }
 
 -- A fault of the next step is one of the call.

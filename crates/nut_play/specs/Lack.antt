@@ -1,36 +1,26 @@
 -- At which steps memory may be lacking.
-use Rattle.std.specs.Prelude.{Bool, true, false, ◌||◌, List, [], ◌∷◌}
-use Rattle.nut_server_spec.specs.Event as arrivals
-use Rattle.nut_monitor_spec.specs.Event as events
-use Rattle.nut_fleet.specs.Schedule.{Step, Driver, Out, Reach, Back, Land}
-use Rattle.nut_fleet.specs.Log.{News}
+use Rattle.std.specs.Prelude.{ℕ, ◌<◌, ◌⊎◌, Bool, false, IsTrue, length, Option}
+use Rattle.nut_server_spec.specs.declared.Place.{Place}
+use Rattle.nut_server_spec.specs.Outcome as server
+use Rattle.nut_monitor_spec.specs.Outcome as monitor
+use Rattle.nut_fleet.specs.Schedule.{Step, Out, Back}
+use Rattle.nut_fleet.specs.World.{Setup, World, Deed, Tell, Inform, known, is_open, is_linked, deed}
+use Rattle.nut_fleet.specs.Log.{news}
 
--- Of what a server is told, only pieces of bytes and reloads may allocate.
-abbrev pub may_allocate : arrivals.Event → Bool
-may_allocate (arrivals.Bytes c piece) = true
-may_allocate (arrivals.DriverBytes u piece) = true
-may_allocate (arrivals.Reload configuration) = true
-may_allocate event = false
+-- A core may lack memory at what a step does: the server, or a monitor, at what it is told.
+abbrev pub CoreMayLack : Setup → World → Deed → Type 0
+CoreMayLack setup w (Tell event) = (place : Place) × server.MayLack setup.server w.server place event
+CoreMayLack setup w (Inform m event) = (link : Option ℕ) × (k : ℕ) × monitor.MayLack (known setup w m) link k event
+CoreMayLack setup w d = ⊥
 
--- Of what a monitor is told, only pieces of bytes may.
-abbrev pub is_link_piece : events.Event → Bool
-is_link_piece (events.LinkBytes i piece) = true
-is_link_piece event = false
+-- whether bytes come into a pipe: an end puts some in, and the other end isn't cut
+abbrev pub pipe_grows : Setup → World → Step → Deed → Bool
+pipe_grows setup w (Out m i n) (Inform k event) = is_open setup w m i
+pipe_grows setup w (Back m i n) (Tell event) = is_linked setup w m i
+pipe_grows setup w step d = false
 
--- whether there is anything to log
-abbrev pub is_told : List News → Bool
-is_told [] = false
-is_told (one ∷ more) = true
-
--- whether a step brings a driver's line or moves bytes
-abbrev pub brings_bytes : Step → Bool
-brings_bytes (Driver u line) = true
-brings_bytes (Out m i n) = true
-brings_bytes (Reach m i n) = true
-brings_bytes (Back m i n) = true
-brings_bytes (Land m i n) = true
-brings_bytes step = false
-
--- Memory may be lacking at such a step, and at any other that tells something.
-abbrev pub may_lack : Step → List News → Bool
-may_lack step news = brings_bytes step || is_told news
+-- Memory may be lacking at a step if a core may lack it there, if bytes come into a pipe, or if something is logged.
+abbrev pub MayLack : Setup → World → Step → Type 0
+MayLack setup w step =
+    let d : Deed = deed setup w step in
+    CoreMayLack setup w d ⊎ (IsTrue (pipe_grows setup w step d) ⊎ (0 < length (news setup w step)))

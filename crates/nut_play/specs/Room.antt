@@ -6,12 +6,12 @@ use Rattle.nut_server_spec.specs.Configuration.{Configuration as ServerConfigura
 use Rattle.nut_monitor_spec.specs.Configuration.{configuration_of}
 use Rattle.nut_fleet.specs.Schedule as S
 use Rattle.nut_fleet.specs.World.{Setup, is_fit, world}
-use Rattle.nut_fleet.specs.Log.{Logged, log, news}
+use Rattle.nut_fleet.specs.Log.{Logged, log}
 use Rattle.nut_fleet.specs.Fleet.{EventsAreAccepted, PipesCarryBeginnings, StatusesWereShown, ShutdownsHaveCauses, SupplySufficesBefore, PrimariesGoLast}
 use Rattle.nut_play.specs.declared.types.Step.{Step}
 use Rattle.nut_play.specs.declared.types.FleetFault.{FleetFault}
 use Rattle.nut_play.specs.declared.types.FleetFault.TheVariants.{BadStep, Memory, Failed}
-use Rattle.nut_play.specs.Lack.{may_lack}
+use Rattle.nut_play.specs.Lack.{MayLack}
 use Rattle.nut_play.specs.Kept.{Kept, IsFleet}
 use Rattle.nut_play.specs.Steps.{step_of, steps_of}
 
@@ -43,7 +43,7 @@ pub record StopsBehind (setup : Setup) (before : List S.Step) (schedule : List S
 pub record LacksBehind (setup : Setup) (before : List S.Step) (schedule : List Step) (n : ℕ) : Type 0 where
   pub fit : AreFit setup (steps_of (take n schedule))
   pub lacks : (step : S.Step) × (slice_get (map step_of schedule) n ≡ Some step) × (is_fit setup step ≡ true)
-      × (may_lack step (news setup (world setup (steps_of (take n schedule) ++ before)) step) ≡ true)
+      × MayLack setup (world setup (steps_of (take n schedule) ++ before)) step
 
 -- Why a call of a fleet that hasn't failed stops: at a step that doesn't fit, or for a lack of memory at one that does.
 abbrev pub IsFaultOf : Setup → List S.Step → List Step → FleetFault → Kept → Type 0

@@ -1,6 +1,6 @@
 //! The fleet.
 
-ghost use Rattle.std.specs.Prelude.{◌≡◌, ◌++◌, ◌∷◌, ◌<◌, ◌||◌, true, false, List, [], length, map, IfOk, IfErr, Err, OnOk, OnErr, IsTrue, slice_get};
+ghost use Rattle.std.specs.Prelude.{◌≡◌, ◌++◌, ◌∷◌, ◌<◌, true, false, List, [], length, map, IfOk, IfErr, Err, OnOk, OnErr, IsTrue, slice_get};
 ghost use Rattle.nut_server_spec.specs.Event as arrivals;
 ghost use Rattle.nut_monitor_spec.specs.Event as events;
 ghost use Rattle.std.specs.Option.{option_map};
@@ -8,11 +8,11 @@ ghost use Rattle.nut_server.specs.Arrival.{event_of};
 ghost use Rattle.nut_monitor.specs.Events.{event_of as told_as};
 ghost use Rattle.nut_fleet.specs.Log.{logged};
 ghost use Rattle.nut_fleet.specs.Seen.{deed_by};
-ghost use Rattle.nut_play.specs.Lack.{may_allocate, is_link_piece, is_told, may_lack};
 ghost use Rattle.nut_play.specs.Kept.{fleet_of, links_in, fresh_seat, fresh_fleet};
-ghost use Rattle.nut_play.specs.machine.Next.{is_played, tell_by, inform_by, reach_by, back_by, out_by, land_by, link_by, told_news, told_to, with_seat, hear_seat, out_seat, land_seat, known_of, link_of, fits, fits_link, next, said, reach_next, back_next, join_next};
+ghost use Rattle.nut_play.specs.machine.Next.{is_played, tell_by, inform_by, reach_by, back_by, out_by, land_by, link_by, told_news, told_to, with_seat, hear_seat, out_seat, land_seat, known_of, link_of, open_by, linked_by, fits, fits_link, next, said, reach_next, back_next, join_next};
+ghost use Rattle.nut_play.specs.machine.Lacking.{ServerLacks, MonitorLacks, SendLacks, StepLacks, back_grows};
 ghost use Rattle.nut_play.specs.Steps.{step_of, steps_of, logged_of};
-ghost use Rattle.nut_play.specs.machine.Play.{told_at, IsLog, IsFault, IsFaultAt};
+ghost use Rattle.nut_play.specs.machine.Play.{told_at, LacksAt, IsLog, IsFault, IsFaultAt};
 ghost use Rattle.nut_play.specs.Room.{setup_of, HasPlayed, WerePlayed, IsFaultOf, RoomHolds};
 ghost use Rattle.nut_fleet.specs.World.{Setup};
 ghost use Rattle.nut_fleet.specs.Schedule as S;
@@ -99,7 +99,7 @@ impl Fleet {
     fn serve(&mut self, arrival: Arrival<'_>) -> Result<bool, Lack>
         ensures played { IfOk result (λ played. played ≡ is_played (tell_by self.old.server (event_of arrival.entry))) }
         ensures fleet { OnOk result (self.new ≡ told_to self.old (event_of arrival.entry)) }
-        ensures lack { OnErr result (IsTrue (may_allocate (event_of arrival.entry))) }
+        ensures lack { OnErr result (ServerLacks self.old.server (tell_by self.old.server (event_of arrival.entry))) }
     {
         tell(&mut self.server, arrival)
     }
@@ -117,8 +117,7 @@ impl Fleet {
         ensures fleet { OnOk result (self.new ≡ with_seat self.old m (hear_seat m (told_as event.entry))) }
         ensures log { OnOk result (map logged_of log.new.items
             ≡ map logged_of log.old.items ++ logged step (told_news (inform_by m (known_of self.old m) (told_as event.entry)) (known_of self.old m))) }
-        ensures lack { OnErr result (IsTrue (is_link_piece (told_as event.entry)
-            || is_told (told_news (inform_by m (known_of self.old m) (told_as event.entry)) (known_of self.old m)))) }
+        ensures lack { OnErr result (MonitorLacks m (known_of self.old m) (inform_by m (known_of self.old m) (told_as event.entry))) }
     {
         self.seats[m].hear(m, event, step, log)
     }
@@ -129,6 +128,7 @@ impl Fleet {
         requires there { i < length (links_in (slice_get self.old.seats m)) }
         ensures played { IfOk result (λ played. played ≡ is_played (reach_by self.old.server (link_of self.old m i) n)) }
         ensures fleet { OnOk result (self.new ≡ reach_next self.old m i n) }
+        ensures lack { OnErr result (ServerLacks self.old.server (reach_by self.old.server (link_of self.old m i) n)) }
     {
         self.seats[m].reach(&mut self.server, i, n)
     }
@@ -139,6 +139,7 @@ impl Fleet {
         requires there { i < length (links_in (slice_get self.old.seats m)) }
         ensures played { IfOk result (λ played. played ≡ is_played (back_by self.old.server (link_of self.old m i) n)) }
         ensures fleet { OnOk result (self.new ≡ back_next self.old m i n) }
+        ensures lack { OnErr result (IsTrue (back_grows (linked_by (known_of self.old m) i) (back_by self.old.server (link_of self.old m i) n))) }
     {
         self.seats[m].back(&mut self.server, i, n)
     }
@@ -151,6 +152,8 @@ impl Fleet {
         ensures fleet { OnOk result (self.new ≡ with_seat self.old place.monitor (out_seat self.old.server place.monitor place.link n)) }
         ensures log { OnOk result (map logged_of log.new.items
             ≡ map logged_of log.old.items ++ logged place.step (told_news (out_by place.monitor (known_of self.old place.monitor) place.link n) (known_of self.old place.monitor))) }
+        ensures lack { OnErr result (SendLacks (open_by self.old.server (link_of self.old place.monitor place.link)) place.monitor
+            (known_of self.old place.monitor) (out_by place.monitor (known_of self.old place.monitor) place.link n)) }
     {
         self.seats[place.monitor].send(&self.server, place, n, log)
     }
@@ -163,6 +166,8 @@ impl Fleet {
         ensures fleet { OnOk result (self.new ≡ with_seat self.old place.monitor (land_seat place.monitor place.link n)) }
         ensures log { OnOk result (map logged_of log.new.items
             ≡ map logged_of log.old.items ++ logged place.step (told_news (land_by place.monitor (known_of self.old place.monitor) place.link (link_of self.old place.monitor place.link) n) (known_of self.old place.monitor))) }
+        ensures lack { OnErr result (MonitorLacks place.monitor (known_of self.old place.monitor)
+            (land_by place.monitor (known_of self.old place.monitor) place.link (link_of self.old place.monitor place.link) n)) }
     {
         self.seats[place.monitor].land(place, n, log)
     }
@@ -176,7 +181,7 @@ impl Fleet {
         ensures fleet { OnOk result (self.new ≡ join_next self.old place.monitor place.link) }
         ensures log { OnOk result (map logged_of log.new.items
             ≡ map logged_of log.old.items ++ logged place.step (told_news (link_by place.monitor self.old.server (known_of self.old place.monitor) place.link (link_of self.old place.monitor place.link)) (known_of self.old place.monitor))) }
-        ensures lack { OnErr result (IsTrue (is_told (told_news (link_by place.monitor self.old.server (known_of self.old place.monitor) place.link (link_of self.old place.monitor place.link)) (known_of self.old place.monitor)))) }
+        ensures lack { OnErr result (0 < length (told_news (link_by place.monitor self.old.server (known_of self.old place.monitor) place.link (link_of self.old place.monitor place.link)) (known_of self.old place.monitor))) }
     {
         self.seats[place.monitor].join(&mut self.server, place, log)
     }
@@ -195,7 +200,7 @@ impl Fleet {
     fn show_clock(&mut self, t: u64) -> Result<bool, Lack>
         ensures played { IfOk result (λ played. played ≡ is_played (tell_by self.old.server (arrivals.Moment t))) }
         ensures fleet { OnOk result (self.new ≡ told_to self.old (arrivals.Moment t)) }
-        ensures lack { OnErr result (IsTrue (may_allocate (arrivals.Moment t))) }
+        ensures lack { OnErr result (ServerLacks self.old.server (tell_by self.old.server (arrivals.Moment t))) }
     {
         self.serve(Arrival::Moment(t))
     }
@@ -204,7 +209,7 @@ impl Fleet {
     fn connect(&mut self, u: usize) -> Result<bool, Lack>
         ensures played { IfOk result (λ played. played ≡ is_played (tell_by self.old.server (arrivals.DriverUp u))) }
         ensures fleet { OnOk result (self.new ≡ told_to self.old (arrivals.DriverUp u)) }
-        ensures lack { OnErr result (IsTrue (may_allocate (arrivals.DriverUp u))) }
+        ensures lack { OnErr result (ServerLacks self.old.server (tell_by self.old.server (arrivals.DriverUp u))) }
     {
         self.serve(Arrival::DriverUp(u))
     }
@@ -214,6 +219,7 @@ impl Fleet {
         requires fit { length line.now < PIECE_MAX }
         ensures played { IfOk result (λ played. played ≡ is_played (tell_by self.old.server (arrivals.DriverBytes u (line.now ++ 10 ∷ [])))) }
         ensures fleet { OnOk result (self.new ≡ told_to self.old (arrivals.DriverBytes u (line.now ++ 10 ∷ []))) }
+        ensures lack { OnErr result (ServerLacks self.old.server (tell_by self.old.server (arrivals.DriverBytes u (line.now ++ 10 ∷ [])))) }
     {
         let piece = with_feed(line);
         self.serve(Arrival::DriverBytes(u, piece.as_slice()))
@@ -223,7 +229,7 @@ impl Fleet {
     fn disconnect(&mut self, u: usize) -> Result<bool, Lack>
         ensures played { IfOk result (λ played. played ≡ is_played (tell_by self.old.server (arrivals.DriverDown u))) }
         ensures fleet { OnOk result (self.new ≡ told_to self.old (arrivals.DriverDown u)) }
-        ensures lack { OnErr result (IsTrue (may_allocate (arrivals.DriverDown u))) }
+        ensures lack { OnErr result (ServerLacks self.old.server (tell_by self.old.server (arrivals.DriverDown u))) }
     {
         self.serve(Arrival::DriverDown(u))
     }
@@ -234,7 +240,7 @@ impl Fleet {
         requires there { i < length (links_in (slice_get self.old.seats m)) }
         ensures played { IfOk result (λ played. played ≡ is_played (tell_by self.old.server (arrivals.Close (link_of self.old m i).connection))) }
         ensures fleet { OnOk result (self.new ≡ told_to self.old (arrivals.Close (link_of self.old m i).connection)) }
-        ensures lack { OnErr result (IsTrue (may_allocate (arrivals.Close (link_of self.old m i).connection))) }
+        ensures lack { OnErr result (ServerLacks self.old.server (tell_by self.old.server (arrivals.Close (link_of self.old m i).connection))) }
     {
         let c = self.connection(m, i);
         self.serve(Arrival::Close(c))
@@ -246,7 +252,7 @@ impl Fleet {
         ensures played { IfOk result (λ played. played ≡ is_played (deed_by (fleet_of self.old) (step_of step.now))) }
         ensures fleet { OnOk result (self.new ≡ next self.old (step_of step.now)) }
         ensures log { OnOk result (map logged_of log.new.items ≡ map logged_of log.old.items ++ logged k (said self.old (step_of step.now))) }
-        ensures lack { OnErr result (IsTrue (may_lack (step_of step.now) (said self.old (step_of step.now)))) }
+        ensures lack { OnErr result (StepLacks self.old (step_of step.now)) }
     {
         match step {
             Step::ServerClock(t) => self.show_clock(*t),
@@ -295,12 +301,11 @@ impl Fleet {
     }
 
     /// Plays one step and logs what it tells, also that it was skipped.
-    #[tactic(auto, using(crate::proofs::Lacks::lacks_skipped, crate::proofs::Lacks::lacks_told))]
     fn play_one(&mut self, step: &Step, k: usize, log: &mut Vec<Logged>) -> Result<(), Lack>
         requires fit { fits self.old (step_of step.now) ≡ true }
         ensures fleet { OnOk result (self.new ≡ next self.old (step_of step.now)) }
         ensures log { OnOk result (map logged_of log.new.items ≡ map logged_of log.old.items ++ logged k (told_at self.old (step_of step.now))) }
-        ensures lack { OnErr result (IsTrue (may_lack (step_of step.now) (told_at self.old (step_of step.now)))) }
+        ensures lack { OnErr result (LacksAt self.old (step_of step.now)) }
     {
         if self.step(step, k, log)? {
             return Ok(());
@@ -369,8 +374,9 @@ impl Fleet {
     ///
     /// `BadStep` if a step names what doesn't exist or has a line that is too long; the steps before it took effect.
     /// What they told is not returned: a caller that needs it plays one step at a time. `Memory` if memory cannot be
-    /// allocated, which can happen at a line of a driver, at a step that moves bytes, and at one that tells something.
-    /// The fleet has then failed: nothing is claimed of it, and every later call returns `Failed`.
+    /// allocated, which can happen where the server or a monitor may need some for a line, where bytes come into a pipe,
+    /// and where something is told. The fleet has then failed: nothing is claimed of it, and every later call returns
+    /// `Failed`.
     pub fn play(&mut self, schedule: &[Step]) -> Result<FleetLog, FleetFault>
         ensures failed { self.old.failed ≡ true → (result ≡ Err Failed) × (self.new ≡ self.old) }
         ensures played { (setup : Setup) (before : List S.Step) → HasPlayed setup before self.old

@@ -7,8 +7,8 @@ ghost use Rattle.nut_server_spec.specs.machine.Machine.{advance};
 ghost use Rattle.nut_fleet.specs.World.{address_of};
 ghost use Rattle.nut_fleet.specs.Log.{logged};
 ghost use Rattle.nut_fleet.specs.machine.Going.{put_on};
-ghost use Rattle.nut_play.specs.Lack.{is_told};
 ghost use Rattle.nut_play.specs.machine.Next.{is_played, reach_by, back_by, out_by, land_by, link_by, told_by, heard_by, told_news, reached_by, landed_by, back_put, out_put, made_by, open_by, waits_by};
+ghost use Rattle.nut_play.specs.machine.Lacking.{ServerLacks, MonitorLacks, SendLacks, back_grows};
 ghost use Rattle.nut_play.specs.Kept.{no_ends};
 ghost use Rattle.nut_play.specs.Steps.{logged_of};
 
@@ -83,6 +83,7 @@ impl Link {
         ensures played { IfOk result (λ played. played ≡ is_played (reach_by server.old self.old n)) }
         ensures server { OnOk result (server.new ≡ told_by (reach_by server.old self.old n) 0 server.old) }
         ensures link { OnOk result (self.new ≡ reached_by (reach_by server.old self.old n) self.old) }
+        ensures lack { OnErr result (ServerLacks server.old (reach_by server.old self.old n)) }
     {
         if !is_open(server, self.connection) {
             return Ok(false);
@@ -117,6 +118,7 @@ impl Link {
         ensures link { OnOk result (self.new ≡ landed_by (land_by place.monitor monitor.old.content place.link self.old n) place.link self.old) }
         ensures log { OnOk result (map logged_of log.new.items
             ≡ map logged_of log.old.items ++ logged place.step (told_news (land_by place.monitor monitor.old.content place.link self.old n) monitor.old.content)) }
+        ensures lack { OnErr result (MonitorLacks place.monitor monitor.old.content (land_by place.monitor monitor.old.content place.link self.old n)) }
     {
         if !monitor.linked(place.link) {
             return Ok(false);
@@ -151,6 +153,8 @@ impl Link {
             (waits_by monitor.old.content place.link) self.old) }
         ensures log { OnOk result (map logged_of log.new.items
             ≡ map logged_of log.old.items ++ logged place.step (told_news (out_by place.monitor monitor.old.content place.link n) monitor.old.content)) }
+        ensures lack { OnErr result (SendLacks (open_by server.now self.old) place.monitor monitor.old.content
+            (out_by place.monitor monitor.old.content place.link n)) }
     {
         if !monitor.linked(place.link) {
             return Ok(false);
@@ -173,6 +177,7 @@ impl Link {
         ensures played { IfOk result (λ played. played ≡ is_played (back_by server.old self.old n)) }
         ensures server { OnOk result (server.new ≡ told_by (back_by server.old self.old n) 0 server.old) }
         ensures link { OnOk result (self.new ≡ back_put (back_by server.old self.old n) linked server.old self.old) }
+        ensures lack { OnErr result (IsTrue (back_grows linked (back_by server.old self.old n))) }
     {
         if !is_open(server, self.connection) {
             return Ok(false);
@@ -203,7 +208,7 @@ impl Link {
         ensures link { OnOk result (self.new ≡ made_by (link_by place.monitor server.old monitor.old.content place.link self.old) server.old self.old) }
         ensures log { OnOk result (map logged_of log.new.items
             ≡ map logged_of log.old.items ++ logged place.step (told_news (link_by place.monitor server.old monitor.old.content place.link self.old) monitor.old.content)) }
-        ensures lack { OnErr result (IsTrue (is_told (told_news (link_by place.monitor server.old monitor.old.content place.link self.old) monitor.old.content))) }
+        ensures lack { OnErr result (0 < length (told_news (link_by place.monitor server.old monitor.old.content place.link self.old) monitor.old.content)) }
     {
         if is_open(server, self.connection) || monitor.linked(place.link) {
             return Ok(false);
@@ -245,6 +250,7 @@ fn take_some(
     requires within { count ≤ length (waiting_of c server.old.sessions) }
     ensures server { OnOk result (server.new ≡ advance server.old (Took c count)) }
     ensures pipe { OnOk result (pipe.new.items ≡ put_on linked (take count (waiting_of c server.old.sessions)) pipe.old.items) }
+    ensures lack { OnErr result (linked ≡ true) }
 {
     let mut moved = 0;
     while moved < count {
@@ -269,6 +275,7 @@ fn take_front(
     ensures few { IfOk result (λ k. k ≤ most) }
     ensures server { IfOk result (λ k. server.new ≡ advance server.old (Took c k)) }
     ensures pipe { IfOk result (λ k. pipe.new.items ≡ put_on linked (take k (waiting_of c server.old.sessions)) pipe.old.items) }
+    ensures lack { OnErr result (linked ≡ true) }
 {
     let part = server.waiting(c);
     let count = most.min(part.len());

@@ -1,10 +1,10 @@
 //! A monitor with its links.
 
-ghost use Rattle.std.specs.Prelude.{◌≡◌, ◌++◌, ◌<◌, ◌||◌, IfOk, OnOk, OnErr, IsTrue, map, length};
+ghost use Rattle.std.specs.Prelude.{◌≡◌, ◌++◌, ◌<◌, IfOk, OnOk, OnErr, IsTrue, map, length};
 ghost use Rattle.nut_fleet.specs.Log.{logged};
 ghost use Rattle.nut_monitor.specs.Events.{event_of as told_as};
-ghost use Rattle.nut_play.specs.Lack.{is_link_piece, is_told};
-ghost use Rattle.nut_play.specs.machine.Next.{is_played, inform_by, reach_by, back_by, out_by, land_by, link_by, told_by, told_news, hear_seat, reach_seat, back_seat, out_seat, land_seat, join_seat};
+ghost use Rattle.nut_play.specs.machine.Next.{is_played, inform_by, reach_by, back_by, out_by, land_by, link_by, open_by, linked_by, told_by, told_news, hear_seat, reach_seat, back_seat, out_seat, land_seat, join_seat};
+ghost use Rattle.nut_play.specs.machine.Lacking.{ServerLacks, MonitorLacks, SendLacks, back_grows};
 ghost use Rattle.nut_play.specs.Kept.{ends_at, no_ends, fresh_seat};
 ghost use Rattle.nut_play.specs.Steps.{logged_of};
 
@@ -70,8 +70,7 @@ impl Seat {
         ensures seat { OnOk result (self.new ≡ hear_seat m (told_as event.entry) self.old) }
         ensures log { OnOk result (map logged_of log.new.items
             ≡ map logged_of log.old.items ++ logged step (told_news (inform_by m self.old.monitor.content (told_as event.entry)) self.old.monitor.content)) }
-        ensures lack { OnErr result (IsTrue (is_link_piece (told_as event.entry)
-            || is_told (told_news (inform_by m self.old.monitor.content (told_as event.entry)) self.old.monitor.content))) }
+        ensures lack { OnErr result (MonitorLacks m self.old.monitor.content (inform_by m self.old.monitor.content (told_as event.entry))) }
     {
         inform(&mut self.monitor, event, m, step, log)
     }
@@ -82,6 +81,7 @@ impl Seat {
         ensures played { IfOk result (λ played. played ≡ is_played (reach_by server.old (ends_at self.old.links i) n)) }
         ensures server { OnOk result (server.new ≡ told_by (reach_by server.old (ends_at self.old.links i) n) 0 server.old) }
         ensures seat { OnOk result (self.new ≡ reach_seat server.old i n self.old) }
+        ensures lack { OnErr result (ServerLacks server.old (reach_by server.old (ends_at self.old.links i) n)) }
     {
         self.links[i].reach(server, n)
     }
@@ -92,6 +92,7 @@ impl Seat {
         ensures played { IfOk result (λ played. played ≡ is_played (back_by server.old (ends_at self.old.links i) n)) }
         ensures server { OnOk result (server.new ≡ told_by (back_by server.old (ends_at self.old.links i) n) 0 server.old) }
         ensures seat { OnOk result (self.new ≡ back_seat server.old i n self.old) }
+        ensures lack { OnErr result (IsTrue (back_grows (linked_by self.old.monitor.content i) (back_by server.old (ends_at self.old.links i) n))) }
     {
         let linked = self.monitor.linked(i);
         self.links[i].back(server, linked, n)
@@ -110,6 +111,8 @@ impl Seat {
         ensures seat { OnOk result (self.new ≡ out_seat server.now place.monitor place.link n self.old) }
         ensures log { OnOk result (map logged_of log.new.items
             ≡ map logged_of log.old.items ++ logged place.step (told_news (out_by place.monitor self.old.monitor.content place.link n) self.old.monitor.content)) }
+        ensures lack { OnErr result (SendLacks (open_by server.now (ends_at self.old.links place.link)) place.monitor self.old.monitor.content
+            (out_by place.monitor self.old.monitor.content place.link n)) }
     {
         self.links[place.link].send(server, &mut self.monitor, place, n, log)
     }
@@ -121,6 +124,8 @@ impl Seat {
         ensures seat { OnOk result (self.new ≡ land_seat place.monitor place.link n self.old) }
         ensures log { OnOk result (map logged_of log.new.items
             ≡ map logged_of log.old.items ++ logged place.step (told_news (land_by place.monitor self.old.monitor.content place.link (ends_at self.old.links place.link) n) self.old.monitor.content)) }
+        ensures lack { OnErr result (MonitorLacks place.monitor self.old.monitor.content
+            (land_by place.monitor self.old.monitor.content place.link (ends_at self.old.links place.link) n)) }
     {
         self.links[place.link].land(&mut self.monitor, place, n, log)
     }
@@ -139,7 +144,7 @@ impl Seat {
         ensures seat { OnOk result (self.new ≡ join_seat server.old place.monitor place.link self.old) }
         ensures log { OnOk result (map logged_of log.new.items
             ≡ map logged_of log.old.items ++ logged place.step (told_news (link_by place.monitor server.old self.old.monitor.content place.link (ends_at self.old.links place.link)) self.old.monitor.content)) }
-        ensures lack { OnErr result (IsTrue (is_told (told_news (link_by place.monitor server.old self.old.monitor.content place.link (ends_at self.old.links place.link)) self.old.monitor.content))) }
+        ensures lack { OnErr result (0 < length (told_news (link_by place.monitor server.old self.old.monitor.content place.link (ends_at self.old.links place.link)) self.old.monitor.content)) }
     {
         self.links[place.link].join(server, &mut self.monitor, place, log)
     }

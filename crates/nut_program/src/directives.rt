@@ -2,11 +2,11 @@
 
 use nut_conf::{
     Address, COMMAND_MAX, CONNECTIONS_MAX, DESCRIPTION_MAX, DESCRIPTIONS_MAX, DEVICE_MAX,
-    DRIVER_NAME_MAX, INSTCMDS_MAX, LISTENERS_MAX, MESSAGE_MAX, MONITORS_MAX, NoticeFlags,
+    DRIVER_NAME_MAX, INSTCMDS_MAX, LISTENERS_MAX, MESSAGE_MAX, MONITORS_MAX, NOTICES, NoticeFlags,
     PASSWORD_MAX, Target, USER_NAME_MAX,
 };
 use nut_words::{NAME_MAX, is_name, natural};
-use std::fmt;
+use std::{fmt, str};
 
 /// What a value of a directive is. It is displayed as what is meant in the place of a word that isn't one.
 #[derive(Clone, Copy)]
@@ -23,6 +23,8 @@ pub enum Kind {
     Text(usize, usize),
     /// One of these words.
     Word(&'static [&'static str]),
+    /// A type of notice.
+    Notice,
     /// What becomes of a notice.
     Flags,
 }
@@ -37,6 +39,7 @@ impl Kind {
             Kind::Number(least, most) => is_between(word, *least, *most),
             Kind::Text(least, most) => *least <= word.len() && word.len() <= *most,
             Kind::Word(words) => words.iter().any(|it| it.as_bytes() == word),
+            Kind::Notice => NOTICES.iter().any(|notice| notice.word() == word),
             Kind::Flags => NoticeFlags::read(word).is_ok(),
         }
     }
@@ -68,6 +71,7 @@ impl fmt::Display for Kind {
             Kind::Number(least, most) => { write!(f, "a number from {least} to {most} is meant") }
             Kind::Text(least, most) => write!(f, "{least} to {most} bytes are meant"),
             Kind::Word(words) => write_words(words, f),
+            Kind::Notice => write_types(f),
             Kind::Flags => write!(
                 f,
                 "SYSLOG, WALL, EXEC and IGNORE are meant, with '+' between them"
@@ -79,16 +83,35 @@ impl fmt::Display for Kind {
 /// Writes that one of these words is meant.
 fn write_words<W: fmt::Write>(words: &[&str], f: &mut fmt::Formatter<W>) -> fmt::Result {
     for (i, word) in words.iter().enumerate() {
-        let before = if i == 0 {
-            ""
-        } else if i < words.len() - 1 {
-            ", "
-        } else {
-            " or "
-        };
-        write!(f, "{before}'{word}'")?;
+        write_word(i, words.len(), word, f)?;
     }
     write!(f, " is meant")
+}
+
+/// Writes that a type of notice is meant.
+fn write_types<W: fmt::Write>(f: &mut fmt::Formatter<W>) -> fmt::Result {
+    for (i, notice) in NOTICES.iter().enumerate() {
+        let word = str::from_utf8(notice.word()).map_err(|_| fmt::Error)?;
+        write_word(i, NOTICES.len(), word, f)?;
+    }
+    write!(f, " is meant")
+}
+
+/// Writes word `i` of `count`, of which one is meant.
+fn write_word<W: fmt::Write>(
+    i: usize,
+    count: usize,
+    word: &str,
+    f: &mut fmt::Formatter<W>,
+) -> fmt::Result {
+    let before = if i == 0 {
+        ""
+    } else if i < count.saturating_sub(1) {
+        ", "
+    } else {
+        " or "
+    };
+    write!(f, "{before}'{word}'")
 }
 
 /// A value of a directive, with what its line's form calls it.
@@ -155,10 +178,15 @@ const DESCRIBED: [Value; 2] = [
 /// What a monitor is to its UPS.
 const ROLES: [&str; 2] = ["primary", "secondary"];
 
-/// The types of notices.
-const TYPES: [&str; 9] = [
-    "ONLINE", "ONBATT", "LOWBATT", "FSD", "COMMOK", "COMMBAD", "SHUTDOWN", "REPLBATT", "NOCOMM",
-];
+/// What most directives have in common: the value comes right behind the word, and the line is allowed once.
+const ONCE: Directive = Directive {
+    word: "",
+    form: "",
+    first: 1,
+    values: &[],
+    lines: Some(1),
+    has_password: false,
+};
 
 /// The directives of all files. No word is one of two files.
 static DIRECTIVES: [Directive; 25] = [
@@ -170,8 +198,7 @@ static DIRECTIVES: [Directive; 25] = [
             name: "NAME",
             kind: Kind::Name(DRIVER_NAME_MAX),
         }],
-        lines: Some(1),
-        has_password: false,
+        ..ONCE
     },
     Directive {
         word: "port",
@@ -181,8 +208,7 @@ static DIRECTIVES: [Directive; 25] = [
             name: "TEXT",
             kind: Kind::Text(0, DEVICE_MAX),
         }],
-        lines: Some(1),
-        has_password: false,
+        ..ONCE
     },
     Directive {
         word: "desc",
@@ -192,8 +218,7 @@ static DIRECTIVES: [Directive; 25] = [
             name: "TEXT",
             kind: Kind::Text(0, DESCRIPTION_MAX),
         }],
-        lines: Some(1),
-        has_password: false,
+        ..ONCE
     },
     Directive {
         word: "password",
@@ -203,8 +228,8 @@ static DIRECTIVES: [Directive; 25] = [
             name: "TEXT",
             kind: Kind::Text(1, PASSWORD_MAX),
         }],
-        lines: Some(1),
         has_password: true,
+        ..ONCE
     },
     Directive {
         word: "actions",
@@ -215,7 +240,7 @@ static DIRECTIVES: [Directive; 25] = [
             kind: Kind::Word(&["SET", "FSD"]),
         }],
         lines: None,
-        has_password: false,
+        ..ONCE
     },
     Directive {
         word: "instcmds",
@@ -226,23 +251,20 @@ static DIRECTIVES: [Directive; 25] = [
             kind: Kind::Name(NAME_MAX),
         }],
         lines: Some(INSTCMDS_MAX),
-        has_password: false,
+        ..ONCE
     },
     Directive {
         word: "upsmon",
         form: "upsmon primary or upsmon secondary",
-        first: 1,
         values: &[Value {
             name: "ROLE",
             kind: Kind::Word(&ROLES),
         }],
-        lines: Some(1),
-        has_password: false,
+        ..ONCE
     },
     Directive {
         word: "LISTEN",
         form: "LISTEN ADDRESS [PORT]",
-        first: 1,
         values: &[
             Value {
                 name: "ADDRESS",
@@ -254,34 +276,29 @@ static DIRECTIVES: [Directive; 25] = [
             },
         ],
         lines: Some(LISTENERS_MAX),
-        has_password: false,
+        ..ONCE
     },
     Directive {
         word: "MAXAGE",
         form: "MAXAGE SECONDS",
-        first: 1,
         values: &[Value {
             name: "SECONDS",
             kind: Kind::Number(1, 86_400),
         }],
-        lines: Some(1),
-        has_password: false,
+        ..ONCE
     },
     Directive {
         word: "MAXCONN",
         form: "MAXCONN NUMBER",
-        first: 1,
         values: &[Value {
             name: "NUMBER",
             kind: Kind::Number(1, CONNECTIONS_MAX),
         }],
-        lines: Some(1),
-        has_password: false,
+        ..ONCE
     },
     Directive {
         word: "MONITOR",
         form: "MONITOR UPS@HOST[:PORT] POWER USER PASSWORD primary|secondary",
-        first: 1,
         values: &[
             Value {
                 name: "UPS@HOST[:PORT]",
@@ -306,101 +323,81 @@ static DIRECTIVES: [Directive; 25] = [
         ],
         lines: Some(MONITORS_MAX),
         has_password: true,
+        ..ONCE
     },
     Directive {
         word: "MINSUPPLIES",
         form: "MINSUPPLIES NUMBER",
-        first: 1,
         values: &[Value {
             name: "NUMBER",
             kind: Kind::Number(0, 32_000),
         }],
-        lines: Some(1),
-        has_password: false,
+        ..ONCE
     },
     Directive {
         word: "SHUTDOWNCMD",
         form: "SHUTDOWNCMD \"COMMAND\"",
-        first: 1,
         values: &COMMAND,
-        lines: Some(1),
-        has_password: false,
+        ..ONCE
     },
     Directive {
         word: "NOTIFYCMD",
         form: "NOTIFYCMD \"COMMAND\"",
-        first: 1,
         values: &COMMAND,
-        lines: Some(1),
-        has_password: false,
+        ..ONCE
     },
     Directive {
         word: "POWERDOWNFLAG",
         form: "POWERDOWNFLAG \"FILE\"",
-        first: 1,
         values: &[Value {
             name: "FILE",
             kind: Kind::Text(1, COMMAND_MAX),
         }],
-        lines: Some(1),
-        has_password: false,
+        ..ONCE
     },
     Directive {
         word: "POLLFREQ",
         form: "POLLFREQ SECONDS",
-        first: 1,
         values: &TIME,
-        lines: Some(1),
-        has_password: false,
+        ..ONCE
     },
     Directive {
         word: "DEADTIME",
         form: "DEADTIME SECONDS",
-        first: 1,
         values: &TIME,
-        lines: Some(1),
-        has_password: false,
+        ..ONCE
     },
     Directive {
         word: "RBWARNTIME",
         form: "RBWARNTIME SECONDS",
-        first: 1,
         values: &TIME,
-        lines: Some(1),
-        has_password: false,
+        ..ONCE
     },
     Directive {
         word: "NOCOMMWARNTIME",
         form: "NOCOMMWARNTIME SECONDS",
-        first: 1,
         values: &TIME,
-        lines: Some(1),
-        has_password: false,
+        ..ONCE
     },
     Directive {
         word: "HOSTSYNC",
         form: "HOSTSYNC SECONDS",
-        first: 1,
         values: &TIME_OR_NONE,
-        lines: Some(1),
-        has_password: false,
+        ..ONCE
     },
     Directive {
         word: "FINALDELAY",
         form: "FINALDELAY SECONDS",
-        first: 1,
         values: &TIME_OR_NONE,
-        lines: Some(1),
-        has_password: false,
+        ..ONCE
     },
     Directive {
         word: "NOTIFYMSG",
         form: "NOTIFYMSG TYPE \"TEXT\"",
-        first: 1,
         values: &[
             Value {
                 name: "TYPE",
-                kind: Kind::Word(&TYPES),
+                kind: Kind::Notice,
             },
             Value {
                 name: "TEXT",
@@ -408,16 +405,15 @@ static DIRECTIVES: [Directive; 25] = [
             },
         ],
         lines: None,
-        has_password: false,
+        ..ONCE
     },
     Directive {
         word: "NOTIFYFLAG",
         form: "NOTIFYFLAG TYPE FLAG[+FLAG]..",
-        first: 1,
         values: &[
             Value {
                 name: "TYPE",
-                kind: Kind::Word(&TYPES),
+                kind: Kind::Notice,
             },
             Value {
                 name: "FLAGS",
@@ -425,22 +421,20 @@ static DIRECTIVES: [Directive; 25] = [
             },
         ],
         lines: None,
-        has_password: false,
+        ..ONCE
     },
     Directive {
         word: "VARDESC",
         form: "VARDESC NAME \"TEXT\"",
-        first: 1,
         values: &DESCRIBED,
         lines: Some(DESCRIPTIONS_MAX),
-        has_password: false,
+        ..ONCE
     },
     Directive {
         word: "CMDDESC",
         form: "CMDDESC NAME \"TEXT\"",
-        first: 1,
         values: &DESCRIBED,
         lines: Some(DESCRIPTIONS_MAX),
-        has_password: false,
+        ..ONCE
     },
 ];

@@ -1,5 +1,5 @@
 -- The decision on a request is what its answer requires.
-use Rattle.std.proofs.Common.{◌≡◌, ℕ, ◌<◌, suc, zero, true, false, List, [], ◌∷◌, refl, sym, ◌∙◌, ap, arith, length, Result, Ok, Err, Option, None, inl, inr, slice_index_or, Some}
+use Rattle.std.proofs.Common.{◌≡◌, ℕ, ◌<◌, suc, zero, Bool, true, false, List, [], ◌∷◌, refl, sym, ◌∙◌, ap, arith, length, Result, Ok, Err, Option, None, inl, inr, slice_index_or, subst, Some}
 use Rattle.std.specs.Prelude.{MatchResult, map}
 use Rattle.std.proofs.lemmas.Bool.{cases_Bool}
 use Rattle.nut_state.specs.Table.{Entry, variable, has_command}
@@ -10,6 +10,7 @@ use Rattle.nut_server_spec.specs.Command.{Command, Blank, Asks}
 use Rattle.nut_server_spec.specs.Content.{Supply}
 use Rattle.nut_proto.specs.declared.refusal.Refusal.TheVariants.{DriverNotConnected, InstCmdFailed, SetFailed}
 use Rattle.nut_proto.specs.declared.reply.Reply.TheVariants as replies
+use Rattle.nut_proto.specs.declared.request.Request.{Request}
 use Rattle.nut_proto.specs.declared.request.Request.TheVariants as requests
 use Rattle.nut_proto.specs.declared.driver_ask.DriverAsk.TheVariants as asks
 use Rattle.nut_proto.specs.DriverAsks.{ask_line}
@@ -17,19 +18,52 @@ use Rattle.nut_server_spec.specs.Effect.{target}
 use Rattle.nut_server_spec.specs.Device.{Device, absent, trouble}
 use Rattle.nut_server_spec.specs.machine.Machine.{acted, requested}
 use Rattle.nut_server.specs.inside.Answers.{given}
-use Rattle.nut_server.specs.inside.Decisions.{Answers, Decides, Grants, HandsOn, IsNextNumber}
+use Rattle.nut_server.specs.inside.Decisions.{Answers, Decides, Grants, HandsOn, IsNextNumber, grants_nothing, is_question, told}
 use Rattle.nut_server.specs.inside.Effects.{Does, forced}
 use Rattle.nut_server.specs.declared.changes.HandedOn.{HandedOn}
 use Rattle.nut_server.specs.declared.decision.Decision.{Decision}
 use Rattle.nut_server.specs.declared.effect.Effect.{Effect}
 use Rattle.nut_server.specs.declared.effect.Effect.TheVariants as effects
 use Rattle.nut_server.proofs.Acting.{act_idle, requested_none, update_at_same}
-use Rattle.nut_server.proofs.Quiet.{IsQuiet}
+use Rattle.nut_server.proofs.Quiet.{IsQuiet, quiet}
 
 -- A quiet answer to a line that changes nothing.
 pub tells : (s : Scene) (d : Decision) (reply : Answer) (line : List ℕ) → given d.answer ≡ reply → d.effect ≡ effects.Nothing → IsQuiet reply → Answers s Blank reply d line
 tells s d reply line is none quiet =
     (is, rw none (λ k. rw (quiet.0 k.logged_out, quiet.1 (numbering_in s) k.login) refl, λ supplies. refl, rw quiet.2 refl), rw none tt)
+
+-- What only asks is none of the other requests.
+pub only_asks : (request : Request) → (request ≡ requests.GetTracking → ⊥) → ((u v x : List ℕ) → request ≡ requests.SetVar u v x → ⊥)
+    → ((on : Bool) → request ≡ requests.SetTracking on → ⊥) → ((u k : List ℕ) (x : Option (List ℕ)) → request ≡ requests.InstCmd u k x → ⊥)
+    → ((x : List ℕ) → request ≡ requests.Username x → ⊥) → ((x : List ℕ) → request ≡ requests.Password x → ⊥) → ((u : List ℕ) → request ≡ requests.Login u → ⊥)
+    → ((u : List ℕ) → request ≡ requests.Primary u → ⊥) → ((u : List ℕ) → request ≡ requests.Fsd u → ⊥) → (request ≡ requests.Logout → ⊥)
+    → is_question request ≡ true
+only_asks requests.GetTracking a b c d e f g h i j = absurd (a refl)
+only_asks (requests.SetVar u v x) a b c d e f g h i j = absurd (b u v x refl)
+only_asks (requests.SetTracking on) a b c d e f g h i j = absurd (c on refl)
+only_asks (requests.InstCmd u k x) a b c d e f g h i j = absurd (d u k x refl)
+only_asks (requests.Username x) a b c d e f g h i j = absurd (e x refl)
+only_asks (requests.Password x) a b c d e f g h i j = absurd (f x refl)
+only_asks (requests.Login u) a b c d e f g h i j = absurd (g u refl)
+only_asks (requests.Primary u) a b c d e f g h i j = absurd (h u refl)
+only_asks (requests.Fsd u) a b c d e f g h i j = absurd (i u refl)
+only_asks requests.Logout a b c d e f g h i j = absurd (j refl)
+only_asks request a b c d e f g h i j = refl
+
+-- A request that only asks, and an answer that grants nothing.
+pub question : (s : Scene) (k : Caller) (request : Request) (d : Decision) (reply : Answer) (line : List ℕ) → is_question request ≡ true → grants_nothing reply ≡ true
+    → reply ≡ told s request → given d.answer ≡ reply → d.effect ≡ effects.Nothing → Decides s k (Asks request) d line
+question s k requests.GetTracking d reply line asks-only grants is given none = absurd (cc)
+question s k (requests.SetVar ups variable value) d reply line asks-only grants is given none = absurd (cc)
+question s k (requests.SetTracking on) d reply line asks-only grants is given none = absurd (cc)
+question s k (requests.InstCmd ups command parameter) d reply line asks-only grants is given none = absurd (cc)
+question s k (requests.Username name) d reply line asks-only grants is given none = absurd (cc)
+question s k (requests.Password password) d reply line asks-only grants is given none = absurd (cc)
+question s k (requests.Login ups) d reply line asks-only grants is given none = absurd (cc)
+question s k (requests.Primary ups) d reply line asks-only grants is given none = absurd (cc)
+question s k (requests.Fsd ups) d reply line asks-only grants is given none = absurd (cc)
+question s k requests.Logout d reply line asks-only grants is given none = absurd (cc)
+question s k request d reply line asks-only grants is given none = tells s d _ line (given ∙ is) none (subst IsQuiet is (quiet reply grants))
 
 -- A request that changes nothing if it is refused.
 abbrev pub IsRefusable : Scene → Command → Type 0

@@ -1,17 +1,15 @@
 -- Only the answer to LOGOUT logs a client out.
 use Rattle.std.proofs.Common.{◌≡◌, ℕ, Bool, true, false, List, refl, Option, Some, None}
 use Rattle.nut_proto.specs.declared.refusal.Refusal.{Refusal}
-use Rattle.nut_proto.specs.declared.request.ListQuery.{ListQuery}
-use Rattle.nut_proto.specs.declared.request.ListQuery.TheVariants as queries
 use Rattle.nut_proto.specs.declared.reply.Reply.TheVariants as replies
-use Rattle.std.specs.Prelude.{map, filter}
-use Rattle.nut_state.specs.Table.{Entry, variable, has_command}
-use Rattle.nut_server_spec.specs.Answer.{Answer, Scene, require, check, unless, on_device, on_ups, on_data, on_variable, on_command, ups_number, device_at, described, list_answer, Listing, var_row, rw_row, guests_of}
+use Rattle.nut_state.specs.Table.{Entry, variable}
+use Rattle.nut_server_spec.specs.Answer.{Answer, Scene, require, unless, on_device, Line, on_ups, on_data, on_variable, ups_number, device_at, described}
 use Rattle.nut_server_spec.specs.Command.{Blank}
 use Rattle.nut_server_spec.specs.Configuration.{Ups}
 use Rattle.nut_server_spec.specs.Device.{Device, trouble}
 use Rattle.nut_server_spec.specs.Effect.{login_then, logged_out_then, number_in}
 use Rattle.nut_server_spec.specs.Numbering.{Numbering}
+use Rattle.nut_server.specs.inside.Decisions.{grants_nothing}
 
 -- The answer changes neither the login of its client nor whether the client has logged out, and gives no number.
 abbrev pub IsQuiet : Answer → Type 0
@@ -19,13 +17,14 @@ IsQuiet reply =
     ((b : Bool) → logged_out_then Blank reply b ≡ b) × ((now : Numbering) (b : Option ℕ) → login_then now Blank reply b ≡ b)
     × (number_in reply ≡ None)
 
+pub quiet : (reply : Answer) → grants_nothing reply ≡ true → IsQuiet reply
+quiet (Line replies.Goodbye) grants = absurd (cc)
+quiet (Line (replies.AcceptedAs number)) grants = absurd (cc)
+quiet reply grants = (λ b. refl, λ now b. refl, refl)
+
 pub of_require : {A : Type 0} (refusal : Refusal) (o : Option A) (next : A → Answer) → ((x : A) → IsQuiet (next x)) → IsQuiet (require refusal o next)
 of_require refusal None next quiet = (λ b. refl, λ now b. refl, refl)
 of_require refusal (Some x) next quiet = quiet x
-
-pub of_check : (refusal : Refusal) (holds : Bool) (next : Answer) → IsQuiet next → IsQuiet (check refusal holds next)
-of_check refusal true next quiet = quiet
-of_check refusal false next quiet = (λ b. refl, λ now b. refl, refl)
 
 pub of_unless : (trouble : Option Refusal) (next : Answer) → IsQuiet next → IsQuiet (unless trouble next)
 of_unless None next quiet = quiet
@@ -45,21 +44,3 @@ of_device s name next quiet = of_ups s name (λ u. next) (λ u. quiet)
 pub of_variable : (s : Scene) (ups name : List ℕ) (next : Device → Entry → Answer) → ((d : Device) (v : Entry) → IsQuiet (next d v)) → IsQuiet (on_device s ups (λ d. on_variable name d (next d)))
 of_variable s ups name next quiet =
     of_device s ups (λ d. on_variable name d (next d)) (λ d. of_require _ (variable d.table name) (next d) (quiet d))
-
-pub of_command : (s : Scene) (ups name : List ℕ) (next : Answer) → IsQuiet next → IsQuiet (on_device s ups (λ d. on_command name d next))
-of_command s ups name next quiet = of_device s ups (λ d. on_command name d next) (λ d. of_check _ (has_command d.table name) next quiet)
-
-pub of_list : (s : Scene) (query : ListQuery) → IsQuiet (list_answer s query)
-of_list s queries.Ups = (λ b. refl, λ now b. refl, refl)
-of_list s (queries.Var ups) =
-    of_device s ups (λ d. Listing (queries.Var ups) (map (var_row ups d) d.table.variables)) (λ d. (λ b. refl, λ now b. refl, refl))
-of_list s (queries.Rw ups) =
-    of_device s ups (λ d. Listing (queries.Rw ups) (map (rw_row ups d) (filter (λ v. v.flags.writable) d.table.variables))) (λ d. (λ b. refl, λ now b. refl, refl))
-of_list s (queries.Cmd ups) =
-    of_device s ups (λ d. Listing (queries.Cmd ups) (map (λ k. replies.Cmd ups k) d.table.commands)) (λ d. (λ b. refl, λ now b. refl, refl))
-of_list s (queries.Enum ups name) =
-    of_variable s ups name (λ d v. Listing (queries.Enum ups name) (map (λ x. replies.Enum ups name x) v.enums)) (λ d v. (λ b. refl, λ now b. refl, refl))
-of_list s (queries.Range ups name) =
-    of_variable s ups name (λ d v. Listing (queries.Range ups name) (map (λ r. replies.Range ups name r.minimum r.maximum) v.ranges)) (λ d v. (λ b. refl, λ now b. refl, refl))
-of_list s (queries.Client ups) =
-    of_ups s ups (λ u d. Listing (queries.Client ups) (map (λ g. replies.Client ups g.address) (guests_of u s.guests))) (λ u d. (λ b. refl, λ now b. refl, refl))

@@ -1,15 +1,16 @@
 -- A plain query changes nothing.
 use Rattle.std.proofs.Common.{ℕ, List, refl}
+use Rattle.std.specs.Prelude.{map}
 use Rattle.nut_proto.specs.declared.plain.PlainQuery.{PlainQuery}
 use Rattle.nut_proto.specs.declared.plain.PlainQuery.TheVariants.{GetVar, GetUpsDesc, ListVar}
 use Rattle.nut_proto.specs.declared.request.ListQuery.TheVariants as queries
 use Rattle.nut_proto.specs.PlainQueries.{request_of}
-use Rattle.nut_server_spec.specs.Answer.{Answer, Caller, Line, Scene, answer, numbering_in, var_row}
+use Rattle.nut_server_spec.specs.Answer.{Answer, Caller, Line, Listing, Scene, answer, numbering_in, var_row}
 use Rattle.nut_server_spec.specs.Command.{Asks, Blank}
 use Rattle.nut_server_spec.specs.Configuration.{ups_named}
 use Rattle.nut_server.specs.declared.effect.Effect.TheVariants as effects
 use Rattle.nut_server.specs.inside.Effects.{Does}
-use Rattle.nut_server.proofs.Quiet.{IsQuiet, of_described, of_list, of_variable}
+use Rattle.nut_server.proofs.Quiet.{IsQuiet, of_described, of_device, of_variable}
 
 does_nothing : (s : Scene) (reply : Answer) (line : List ℕ) → IsQuiet reply → Does s Blank reply effects.Nothing line
 does_nothing s reply line quiet = (λ k. rw (quiet.0 k.logged_out, quiet.1 (numbering_in s) k.login) refl, λ supplies. refl, rw quiet.2 refl)
@@ -19,4 +20,5 @@ pub quiet_query : (s : Scene) (k : Caller) (query : PlainQuery) (line : List ℕ
 quiet_query s k (GetVar front ups name) line =
     does_nothing s _ line (of_variable s ups.now name.now (λ d v. Line (var_row ups.now d v)) (λ d v. (λ b. refl, λ now b. refl, refl)))
 quiet_query s k (GetUpsDesc ups) line = does_nothing s _ line (of_described ups.now (ups_named ups.now s.configuration.upses))
-quiet_query s k (ListVar ups) line = does_nothing s _ line (of_list s (queries.Var ups.now))
+quiet_query s k (ListVar ups) line =
+    does_nothing s _ line (of_device s ups.now (λ d. Listing (queries.Var ups.now) (map (var_row ups.now d) d.table.variables)) (λ d. (λ b. refl, λ now b. refl, refl)))

@@ -18,10 +18,7 @@ use crate::changes::{
 };
 use crate::connection::Connection;
 use crate::effect::Effect;
-use crate::lists::list_answer;
-use crate::queries::{
-    count_logins, describe_command, describe_ups, describe_variable, show_type, show_variable,
-};
+use crate::queries::answer_question;
 use crate::scene::Scene;
 use arrayvec::ArrayVec;
 use nut_proto::{Refusal, Reply, Request};
@@ -45,14 +42,6 @@ fn only<'a>(answer: Answer<'a>) -> Decision<'a, 'static>
         answer,
         effect: Effect::Nothing,
     }
-}
-
-/// Returns the decision to give this line and change nothing.
-fn say<'a>(reply: Reply<'a>) -> Decision<'a, 'static>
-    ensures answer { given result.answer ≡ definitions.Line reply.entry }
-    ensures effect { result.effect ≡ effects.Nothing }
-{
-    only(Answer::Line(reply))
 }
 
 /// Returns the decision on a request that changes nothing: its answer or its refusal.
@@ -143,36 +132,9 @@ fn decide_request<'a, 'l>(
     ensures { Decides scene.now (caller_of caller.now) (Asks request.now) result line.new.items }
 {
     match request {
-        Request::GetNumLogins { ups } => tell(count_logins(scene, ups.as_bytes())),
-        Request::GetUpsDesc { ups } => tell(describe_ups(scene, ups.as_bytes())),
-        Request::GetVar { ups, variable } => tell(show_variable(
-            scene,
-            ups.as_bytes(),
-            variable.as_bytes(),
-        )),
-        Request::GetType { ups, variable } => tell(show_type(
-            scene,
-            ups.as_bytes(),
-            variable.as_bytes(),
-        )),
-        Request::GetDesc { ups, variable } => tell(describe_variable(
-            scene,
-            ups.as_bytes(),
-            variable.as_bytes(),
-        )),
-        Request::GetCmdDesc { ups, command } => tell(describe_command(
-            scene,
-            ups.as_bytes(),
-            command.as_bytes(),
-        )),
-        Request::GetTracking => say(Reply::TrackingIs {
+        Request::GetTracking => only(Answer::Line(Reply::TrackingIs {
             on: caller.tracks_requests(),
-        }),
-        Request::GetTrackingOf { number } => say(Reply::Tracking {
-            number: *number,
-            status: scene.status_of(*number),
-        }),
-        Request::List(query) => tell(list_answer(scene, query)),
+        })),
         Request::SetVar {
             ups,
             variable,
@@ -204,10 +166,7 @@ fn decide_request<'a, 'l>(
         Request::Primary { ups } => accept(become_primary(scene, caller, ups.as_bytes())),
         Request::Fsd { ups } => grant(Reply::FsdSet, force(scene, caller, ups.as_bytes())),
         Request::Logout => log_out(),
-        Request::Ver => say(Reply::Version),
-        Request::NetVer => say(Reply::NetworkVersion),
-        Request::Help => say(Reply::Commands),
-        Request::StartTls => say(Reply::Refused(Refusal::FeatureNotConfigured)),
+        _ => tell(answer_question(scene, request)),
     }
 }
 

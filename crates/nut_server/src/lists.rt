@@ -1,9 +1,10 @@
 //! Answers LIST (RFC 9271).
 
-ghost use Rattle.std.specs.Prelude.{◌≡◌};
+ghost use Rattle.std.specs.Prelude.{◌≡◌, IsTrue};
 ghost use Rattle.nut_proto.specs.declared.request.ListQuery.TheVariants as queries;
 ghost use Rattle.nut_server_spec.specs.Answer.{list_answer};
 ghost use Rattle.nut_server.specs.inside.Answers.{given, outcome};
+ghost use Rattle.nut_server.specs.inside.Decisions.{grants_nothing};
 
 use crate::answer::{Answer, Rows};
 use crate::config::Config;
@@ -13,7 +14,8 @@ use nut_proto::{ListQuery, Refusal, Word};
 
 /// Answers `LIST UPS`: all UPSes.
 fn list_upses<'a>(scene: &'a Scene<'_>) -> Answer<'a>
-    ensures { given result ≡ list_answer scene.now queries.Ups }
+    ensures answer { given result ≡ list_answer scene.now queries.Ups }
+    ensures quiet { IsTrue (grants_nothing (given result)) }
 {
     let config: &'a Config = scene.config;
     Answer::Listing(ListQuery::Ups, Rows::Upses(config))
@@ -21,7 +23,8 @@ fn list_upses<'a>(scene: &'a Scene<'_>) -> Answer<'a>
 
 /// Answers `LIST VAR`: the variables of a UPS.
 pub fn list_variables<'a>(scene: &'a Scene<'_>, ups: &'a [u8]) -> Result<Answer<'a>, Refusal>
-    ensures { outcome result ≡ list_answer scene.now (queries.Var ups.now) }
+    ensures answer { outcome result ≡ list_answer scene.now (queries.Var ups.now) }
+    ensures quiet { IsTrue (grants_nothing (outcome result)) }
 {
     let device = scene.device_named(ups)?;
     Ok(Answer::Listing(
@@ -34,7 +37,8 @@ pub fn list_variables<'a>(scene: &'a Scene<'_>, ups: &'a [u8]) -> Result<Answer<
 
 /// Answers `LIST RW`: the variables of a UPS that clients may set.
 fn list_writable<'a>(scene: &'a Scene<'_>, ups: &'a [u8]) -> Result<Answer<'a>, Refusal>
-    ensures { outcome result ≡ list_answer scene.now (queries.Rw ups.now) }
+    ensures answer { outcome result ≡ list_answer scene.now (queries.Rw ups.now) }
+    ensures quiet { IsTrue (grants_nothing (outcome result)) }
 {
     let device = scene.device_named(ups)?;
     Ok(Answer::Listing(
@@ -47,7 +51,8 @@ fn list_writable<'a>(scene: &'a Scene<'_>, ups: &'a [u8]) -> Result<Answer<'a>, 
 
 /// Answers `LIST CMD`: the commands of a UPS.
 fn list_commands<'a>(scene: &'a Scene<'_>, ups: &'a [u8]) -> Result<Answer<'a>, Refusal>
-    ensures { outcome result ≡ list_answer scene.now (queries.Cmd ups.now) }
+    ensures answer { outcome result ≡ list_answer scene.now (queries.Cmd ups.now) }
+    ensures quiet { IsTrue (grants_nothing (outcome result)) }
 {
     let device = scene.device_named(ups)?;
     Ok(Answer::Listing(
@@ -64,7 +69,8 @@ fn list_enums<'a>(
     ups: &'a [u8],
     name: &'a [u8],
 ) -> Result<Answer<'a>, Refusal>
-    ensures { outcome result ≡ list_answer scene.now (queries.Enum ups.now name.now) }
+    ensures answer { outcome result ≡ list_answer scene.now (queries.Enum ups.now name.now) }
+    ensures quiet { IsTrue (grants_nothing (outcome result)) }
 {
     let device = scene.device_named(ups)?;
     let variable = variable_of(device, name)?;
@@ -83,7 +89,8 @@ fn list_ranges<'a>(
     ups: &'a [u8],
     name: &'a [u8],
 ) -> Result<Answer<'a>, Refusal>
-    ensures { outcome result ≡ list_answer scene.now (queries.Range ups.now name.now) }
+    ensures answer { outcome result ≡ list_answer scene.now (queries.Range ups.now name.now) }
+    ensures quiet { IsTrue (grants_nothing (outcome result)) }
 {
     let device = scene.device_named(ups)?;
     let variable = variable_of(device, name)?;
@@ -98,7 +105,8 @@ fn list_ranges<'a>(
 
 /// Answers `LIST CLIENT`: the clients that are logged in to a UPS.
 fn list_clients<'a>(scene: &'a Scene<'_>, ups: &'a [u8]) -> Result<Answer<'a>, Refusal>
-    ensures { outcome result ≡ list_answer scene.now (queries.Client ups.now) }
+    ensures answer { outcome result ≡ list_answer scene.now (queries.Client ups.now) }
+    ensures quiet { IsTrue (grants_nothing (outcome result)) }
 {
     let u = scene.number_of(ups)?;
     scene.data_of(u)?;
@@ -120,7 +128,8 @@ pub fn list_answer<'a>(
     scene: &'a Scene<'_>,
     query: &'a ListQuery<'_>,
 ) -> Result<Answer<'a>, Refusal>
-    ensures { outcome result ≡ list_answer scene.now query.now }
+    ensures answer { outcome result ≡ list_answer scene.now query.now }
+    ensures quiet { IsTrue (grants_nothing (outcome result)) }
 {
     match query {
         ListQuery::Ups => Ok(list_upses(scene)),

@@ -1,19 +1,18 @@
-//! Answers GET (RFC 9271).
+//! Answers requests that only ask (RFC 9271).
 
-ghost use Rattle.std.specs.Prelude.{◌≡◌, None, Some, MatchResult, length};
+ghost use Rattle.std.specs.Prelude.{◌≡◌, None, Some, IsTrue, MatchResult};
 ghost use Rattle.nut_proto.specs.declared.refusal.Refusal.TheVariants as refusals;
-ghost use Rattle.nut_proto.specs.declared.reply.Reply.TheVariants as replies;
-ghost use Rattle.nut_proto.specs.Descriptions.{variable_description, command_description};
-ghost use Rattle.nut_server_spec.specs.Answer.{Line, described, guests_of, on_command, on_data, on_device, on_ups, on_variable, type_reply, var_row};
-ghost use Rattle.nut_server_spec.specs.Configuration.{ups_named};
+ghost use Rattle.nut_proto.specs.declared.request.Request.TheVariants as requests;
 ghost use Rattle.nut_state.specs.Table.{variable};
 ghost use Rattle.nut_server.specs.inside.Answers.{outcome};
+ghost use Rattle.nut_server.specs.inside.Decisions.{grants_nothing, is_question, told};
 
-use crate::answer::{Answer, Rows};
+use crate::answer::Answer;
 use crate::device::Device;
+use crate::lists::list_answer;
 use crate::scene::Scene;
 use crate::setting::kind_of;
-use nut_proto::{ListQuery, Refusal, Reply, Word};
+use nut_proto::{Refusal, Reply, Request, Word};
 use nut_state::Variable;
 
 /// Returns the variable with this name, or `VarNotSupported` if the UPS has none.
@@ -33,8 +32,9 @@ pub fn variable_of<'a>(device: &'a Device, name: &[u8]) -> Result<&'a Variable, 
 /// # Errors
 ///
 /// `UnknownUps` if there is no such UPS; then `DriverNotConnected` or `DataStale` if its data can't be relied on.
-pub fn count_logins<'a>(scene: &'a Scene<'_>, ups: &'a [u8]) -> Result<Answer<'a>, Refusal>
-    ensures { outcome result ≡ on_ups scene.now ups.now (λ u. on_data scene.now u (λ d. Line (replies.NumLogins ups.now (length (guests_of u scene.now.guests))))) }
+fn count_logins<'a>(scene: &'a Scene<'_>, ups: &'a [u8]) -> Result<Answer<'a>, Refusal>
+    ensures answer { outcome result ≡ told scene.now (requests.GetNumLogins ups.now) }
+    ensures quiet { IsTrue (grants_nothing (outcome result)) }
 {
     let u = scene.number_of(ups)?;
     scene.data_of(u)?;
@@ -49,8 +49,9 @@ pub fn count_logins<'a>(scene: &'a Scene<'_>, ups: &'a [u8]) -> Result<Answer<'a
 /// # Errors
 ///
 /// `UnknownUps` if there is no such UPS.
-pub fn describe_ups<'a>(scene: &'a Scene<'_>, ups: &'a [u8]) -> Result<Answer<'a>, Refusal>
-    ensures { outcome result ≡ described ups.now (ups_named ups.now scene.now.configuration.upses) }
+fn describe_ups<'a>(scene: &'a Scene<'_>, ups: &'a [u8]) -> Result<Answer<'a>, Refusal>
+    ensures answer { outcome result ≡ told scene.now (requests.GetUpsDesc ups.now) }
+    ensures quiet { IsTrue (grants_nothing (outcome result)) }
 {
     let Some(entry) = scene.config.ups_named(ups) else {
         return Err(Refusal::UnknownUps);
@@ -67,12 +68,13 @@ pub fn describe_ups<'a>(scene: &'a Scene<'_>, ups: &'a [u8]) -> Result<Answer<'a
 ///
 /// `UnknownUps` if there is no such UPS; then `DriverNotConnected` or `DataStale` if its data can't be relied on; then
 /// `VarNotSupported` if it has no such variable.
-pub fn show_variable<'a>(
+fn show_variable<'a>(
     scene: &'a Scene<'_>,
     ups: &'a [u8],
     name: &[u8],
 ) -> Result<Answer<'a>, Refusal>
-    ensures { outcome result ≡ on_device scene.now ups.now (λ d. on_variable name.now d (λ v. Line (var_row ups.now d v))) }
+    ensures answer { outcome result ≡ told scene.now (requests.GetVar ups.now name.now) }
+    ensures quiet { IsTrue (grants_nothing (outcome result)) }
 {
     let device = scene.device_named(ups)?;
     let variable = variable_of(device, name)?;
@@ -85,12 +87,9 @@ pub fn show_variable<'a>(
 ///
 /// `UnknownUps` if there is no such UPS; then `DriverNotConnected` or `DataStale` if its data can't be relied on; then
 /// `VarNotSupported` if it has no such variable.
-pub fn show_type<'a>(
-    scene: &'a Scene<'_>,
-    ups: &'a [u8],
-    name: &[u8],
-) -> Result<Answer<'a>, Refusal>
-    ensures { outcome result ≡ on_device scene.now ups.now (λ d. on_variable name.now d (λ v. Line (type_reply ups.now v))) }
+fn show_type<'a>(scene: &'a Scene<'_>, ups: &'a [u8], name: &[u8]) -> Result<Answer<'a>, Refusal>
+    ensures answer { outcome result ≡ told scene.now (requests.GetType ups.now name.now) }
+    ensures quiet { IsTrue (grants_nothing (outcome result)) }
 {
     let device = scene.device_named(ups)?;
     let variable = variable_of(device, name)?;
@@ -108,12 +107,13 @@ pub fn show_type<'a>(
 ///
 /// `UnknownUps` if there is no such UPS; then `DriverNotConnected` or `DataStale` if its data can't be relied on; then
 /// `VarNotSupported` if it has no such variable.
-pub fn describe_variable<'a>(
+fn describe_variable<'a>(
     scene: &'a Scene<'_>,
     ups: &'a [u8],
     name: &'a [u8],
 ) -> Result<Answer<'a>, Refusal>
-    ensures { outcome result ≡ on_device scene.now ups.now (λ d. on_variable name.now d (λ v. Line (replies.Desc ups.now name.now (variable_description scene.now.configuration.variable_texts name.now)))) }
+    ensures answer { outcome result ≡ told scene.now (requests.GetDesc ups.now name.now) }
+    ensures quiet { IsTrue (grants_nothing (outcome result)) }
 {
     let device = scene.device_named(ups)?;
     variable_of(device, name)?;
@@ -130,12 +130,13 @@ pub fn describe_variable<'a>(
 ///
 /// `UnknownUps` if there is no such UPS; then `DriverNotConnected` or `DataStale` if its data can't be relied on; then
 /// `CmdNotSupported` if it has no such command.
-pub fn describe_command<'a>(
+fn describe_command<'a>(
     scene: &'a Scene<'_>,
     ups: &'a [u8],
     name: &'a [u8],
 ) -> Result<Answer<'a>, Refusal>
-    ensures { outcome result ≡ on_device scene.now ups.now (λ d. on_command name.now d (Line (replies.CmdDesc ups.now name.now (command_description scene.now.configuration.command_texts name.now)))) }
+    ensures answer { outcome result ≡ told scene.now (requests.GetCmdDesc ups.now name.now) }
+    ensures quiet { IsTrue (grants_nothing (outcome result)) }
 {
     let device = scene.device_named(ups)?;
     if !device.table().has_cmd(name) {
@@ -146,4 +147,45 @@ pub fn describe_command<'a>(
         command: Word::new(name),
         description: Word::new(scene.config.describe_command(name)),
     }))
+}
+
+/// Answers a request that only asks.
+///
+/// # Errors
+///
+/// The refusal of the first test that fails.
+pub fn answer_question<'a>(
+    scene: &'a Scene<'_>,
+    request: &'a Request<'_>,
+) -> Result<Answer<'a>, Refusal>
+    requires { IsTrue (is_question request.now) }
+    ensures answer { outcome result ≡ told scene.now request.now }
+    ensures quiet { IsTrue (grants_nothing (outcome result)) }
+{
+    match request {
+        Request::GetNumLogins { ups } => count_logins(scene, ups.as_bytes()),
+        Request::GetUpsDesc { ups } => describe_ups(scene, ups.as_bytes()),
+        Request::GetVar { ups, variable } => {
+            show_variable(scene, ups.as_bytes(), variable.as_bytes())
+        }
+        Request::GetType { ups, variable } => {
+            show_type(scene, ups.as_bytes(), variable.as_bytes())
+        }
+        Request::GetDesc { ups, variable } => {
+            describe_variable(scene, ups.as_bytes(), variable.as_bytes())
+        }
+        Request::GetCmdDesc { ups, command } => {
+            describe_command(scene, ups.as_bytes(), command.as_bytes())
+        }
+        Request::GetTrackingOf { number } => Ok(Answer::Line(Reply::Tracking {
+            number: *number,
+            status: scene.status_of(*number),
+        })),
+        Request::List(query) => list_answer(scene, query),
+        Request::Ver => Ok(Answer::Line(Reply::Version)),
+        Request::NetVer => Ok(Answer::Line(Reply::NetworkVersion)),
+        Request::Help => Ok(Answer::Line(Reply::Commands)),
+        Request::StartTls => Err(Refusal::FeatureNotConfigured),
+        _ => unreachable!(),
+    }
 }

@@ -1,7 +1,7 @@
 -- What an arrival and the server's answer to it do to `Served`.
-use Rattle.std.proofs.Common.{◌≡◌, ℕ, eqb, List, [], ◌∷◌, Option, Some, unwrap_or, Result, Ok, Err, if◌then◌else◌, refl, sym, ◌∙◌, ap, subst, inl, inr, Bool, true, false}
+use Rattle.std.proofs.Common.{◌≡◌, ℕ, List, [], ◌∷◌, ◌++◌, Option, Some, unwrap_or, Result, Ok, Err, refl, sym, ◌∙◌, ap, subst, true, false}
 use Rattle.std.specs.Prelude.{option_map, is_err}
-use Rattle.std.proofs.lemmas.Bool.{cases_Bool, eqb-true, true≢false}
+use Rattle.std.proofs.lemmas.Bool.{true≢false}
 use Rattle.nut_server_spec.specs.declared.Place.{Place}
 use Rattle.nut_server_spec.specs.declared.Place.TheVariants.{Line, Report, NewUpses}
 use Rattle.nut_server_spec.specs.declared.Refused.{Refused}
@@ -9,23 +9,21 @@ use Rattle.nut_server_spec.specs.declared.Refused.TheVariants.{NoSuchConnection,
 use Rattle.nut_server_spec.specs.Configuration.{Configuration}
 use Rattle.nut_server_spec.specs.Event.{Event}
 use Rattle.nut_server_spec.specs.Event as event
-use Rattle.nut_server_spec.specs.Trace.{driver_sent, numbering}
-use Rattle.nut_server_spec.specs.Content.{Content, content, past}
-use Rattle.nut_server_spec.specs.Acceptance.{up_refusal, IsAccepted, Tells}
+use Rattle.nut_server_spec.specs.Trace.{driver_sent}
+use Rattle.nut_server_spec.specs.Content.{Content, past, sent}
+use Rattle.nut_server_spec.specs.Acceptance.{Tells}
 use Rattle.nut_server_spec.specs.Outcome.{IsRefusal, after_refusal}
 use Rattle.nut_server_spec.specs.Reloading.{drivers_ended, connections_ended}
 use Rattle.nut_server_spec.proofs.Sent.{taken_by, sent-refused}
-use Rattle.nut_server_spec.proofs.DriverSent.{driver_sent-refused}
+use Rattle.nut_server_spec.proofs.DriverSent.{drained_by, driver_sent-refused}
 use Rattle.nut_server.specs.declared.arrival.Arrival.{Arrival}
 use Rattle.nut_server.specs.Arrival.{event_of}
-use Rattle.nut_server_loop.specs.Record.{Entry, Gave, tells, tells_next, tells_arrival, arrival_of, is_reload, since_up}
+use Rattle.nut_server_loop.specs.Record.{Entry, Gave, tells, tells_next, tells_arrival, arrival_of, is_reload}
 use Rattle.nut_server_loop.specs.declared.types.Next.{Next}
 use Rattle.nut_server_loop.specs.declared.types.Next.TheVariants as next
-use Rattle.nut_server_loop.specs.Served.{Served, ServedBefore, ended_in, to_close, ended_by, ended_by_event, ended_by_lack, ended_by_refusal, cleared_since_up}
-use Rattle.nut_server_loop.proofs.Steps.{Answered, Leads, goes_on, same_sent, same_asked}
-use Rattle.nut_server_loop.proofs.Unconnected.{none_sent}
-use Rattle.nut_server_spec.specs.Numbering.{is_taken, fate_of, is_cleared}
-use Rattle.nut_server_loop.proofs.Cleared.{WasSent, cleared-refused, cleared_by_fate}
+use Rattle.nut_server_loop.specs.Served.{Served, ServedBefore, ended_in, to_close, ended_by, ended_by_event, ended_by_lack, ended_by_refusal, history_of, driver_taken}
+use Rattle.nut_server_loop.proofs.Steps.{Answered, Leads, goes_on, same_sent}
+use Rattle.nut_server_loop.proofs.Begun.{asked_on, refusal_leaves}
 
 -- an event that `next` can give: no bytes were taken, and no write failed
 abbrev pub IsGiven : Event → Type 0
@@ -89,89 +87,41 @@ takes_none (event.DriverTook u n) c given = absurd given
 takes_none (event.DriverDown u) c given = refl
 takes_none (event.Reload k) c given = refl
 
-accepted_asked : (first : Configuration) (h : List Event) (e : Event) (u : ℕ) (before : List ℕ) → IsGiven e → IsAccepted first (e ∷ h) → WasSent first h u before
-    → WasSent first (e ∷ h) u (since_up u e before)
-accepted_asked first h (event.Moment t) u before given accepted same = same_asked first h (event.Moment t) u before accepted refl refl same
-accepted_asked first h (event.Open address) u before given accepted same = same_asked first h (event.Open address) u before accepted refl refl same
-accepted_asked first h (event.Bytes c piece) u before given accepted same = same_asked first h (event.Bytes c piece) u before accepted refl refl same
-accepted_asked first h (event.Took c n) u before given accepted same = absurd given
-accepted_asked first h (event.Close c) u before given accepted same = same_asked first h (event.Close c) u before accepted refl refl same
-accepted_asked first h (event.WriteFailed c) u before given accepted same = absurd given
-accepted_asked first h (event.DriverUp v) u before given accepted same =
-    elim (cases_Bool (eqb v u)) [
-      | inl e ↦ λ known. rw e refl
-      | inr e ↦ rw e same
-    ]
-accepted_asked first h (event.DriverBytes v piece) u before given accepted same = same_asked first h (event.DriverBytes v piece) u before accepted refl refl same
-accepted_asked first h (event.DriverTook v n) u before given accepted same = absurd given
-accepted_asked first h (event.Reload k) u before given accepted same =
-    let fate = fate_of k.upses (numbering first (past first h)) u in
-    elim (cases_Bool (is_cleared fate)) [
-      | inl e ↦ λ known. absurd (true≢false (sym (cleared_by_fate fate (cleared_since_up u (past first h)) e) ∙ known))
-      | inr e ↦ same_asked first h (event.Reload k) u before accepted refl e same
-    ]
-accepted_asked first h (event.DriverDown v) u before given accepted same = same_asked first h (event.DriverDown v) u before accepted refl refl same
-
--- ---- a refused arrival
-
-free_up : (taken : Bool) (r : Refused) → up_refusal taken ≡ Some r → taken ≡ false
-free_up false r is = refl
-free_up true r is = cc
-
--- A driver that connects is refused only if no UPS has the number.
-refused_up : (first : Configuration) (h : List Event) (v : ℕ) (r : Refused) → IsRefusal first h (event.DriverUp v) r → is_taken v (content first h).numbers ≡ false
-refused_up first h v (Memory (Line c k)) is = absurd is.1
-refused_up first h v (Memory (Report u k)) is = absurd is.1
-refused_up first h v (Memory NewUpses) is = absurd is.1
-refused_up first h v NoSuchConnection is = free_up (is_taken v (content first h).numbers) NoSuchConnection is
-refused_up first h v NotConnected is = free_up (is_taken v (content first h).numbers) NotConnected is
-refused_up first h v PieceTooLong is = free_up (is_taken v (content first h).numbers) PieceTooLong is
-refused_up first h v Busy is = free_up (is_taken v (content first h).numbers) Busy is
-refused_up first h v TooMuchTaken is = free_up (is_taken v (content first h).numbers) TooMuchTaken is
-refused_up first h v BadAddress is = free_up (is_taken v (content first h).numbers) BadAddress is
-refused_up first h v Full is = free_up (is_taken v (content first h).numbers) Full is
-
-refused_asked : (first : Configuration) (h : List Event) (s : Content) (e : Event) (r : Refused) (u : ℕ) (before : List ℕ) → Tells first h s → IsRefusal first h e r → before ≡ driver_sent u (past first h)
-    → since_up u e before ≡ driver_sent u (past first (after_refusal r e h))
-refused_asked first h s (event.Moment t) r u before told is same = same ∙ sym (driver_sent-refused first h u r (event.Moment t) told.0)
-refused_asked first h s (event.Open address) r u before told is same = same ∙ sym (driver_sent-refused first h u r (event.Open address) told.0)
-refused_asked first h s (event.Bytes c piece) r u before told is same = same ∙ sym (driver_sent-refused first h u r (event.Bytes c piece) told.0)
-refused_asked first h s (event.Took c n) r u before told is same = same ∙ sym (driver_sent-refused first h u r (event.Took c n) told.0)
-refused_asked first h s (event.Close c) r u before told is same = same ∙ sym (driver_sent-refused first h u r (event.Close c) told.0)
-refused_asked first h s (event.WriteFailed c) r u before told is same = same ∙ sym (driver_sent-refused first h u r (event.WriteFailed c) told.0)
-refused_asked first h s (event.DriverBytes v piece) r u before told is same = same ∙ sym (driver_sent-refused first h u r (event.DriverBytes v piece) told.0)
-refused_asked first h s (event.DriverTook v n) r u before told is same = same ∙ sym (driver_sent-refused first h u r (event.DriverTook v n) told.0)
-refused_asked first h s (event.Reload k) r u before told is same = same ∙ sym (driver_sent-refused first h u r (event.Reload k) told.0)
-refused_asked first h s (event.DriverDown v) r u before told is same = same ∙ sym (driver_sent-refused first h u r (event.DriverDown v) told.0)
-refused_asked first h s (event.DriverUp v) r u before told is same =
-    elim (cases_Bool (eqb v u)) [
-      | inl e ↦
-          let there : is_taken u (content first h).numbers ≡ false = subst (λ x. is_taken x (content first h).numbers ≡ false) (eqb-true v u e) (refused_up first h v r is) in
-          let free : is_taken u s.numbers ≡ false = subst (λ (x : Content). is_taken u x.numbers ≡ false) (sym told.1) there in
-          ap (λ b. if b then [] else before) e ∙ sym (none_sent first h s u told free) ∙ sym (driver_sent-refused first h u r (event.DriverUp v) told.0)
-      | inr e ↦ ap (λ b. if b then [] else before) e ∙ same ∙ sym (driver_sent-refused first h u r (event.DriverUp v) told.0)
-    ]
+drains_none : (e : Event) (u : ℕ) → IsGiven e → drained_by u e ≡ 0
+drains_none (event.Moment t) u given = refl
+drains_none (event.Open address) u given = refl
+drains_none (event.Bytes c piece) u given = refl
+drains_none (event.Took c n) u given = absurd given
+drains_none (event.Close c) u given = refl
+drains_none (event.WriteFailed c) u given = absurd given
+drains_none (event.DriverUp v) u given = refl
+drains_none (event.DriverBytes v piece) u given = refl
+drains_none (event.DriverTook v n) u given = absurd given
+drains_none (event.DriverDown v) u given = refl
+drains_none (event.Reload k) u given = refl
 
 -- ---- an arrival came and was answered
 
 gave_event : {U : Type 0} (first : Configuration) (o o' : Option (List Entry)) (s s' : Content) (e : Event) (r : Result U Refused)
     → Served first o s [] → o' ≡ tells (Gave e) o → IsGiven e → Answered s e r → Leads s e r s' → Served first o' s' (ended_by s e r)
 gave_event first o o' s s' e (Ok u) served more given answer leads =
-    let h = served.history in
+    let h = history_of served.steps in
     let holds = leads first h served.holds in
-    goes_on first o o' s s' [] (ended_by_event s e) (Gave e) served (e ∷ h) more
+    goes_on first o o' s s' [] (ended_by_event s e) (Gave e) served (e ∷ []) more
     (Ok tt, refl, answer first h served.holds, refl, ap (λ x. ended_by_event x e) served.holds.1)
     holds
     (λ c. same_sent first h e c _ served.holds.0 (takes_none e c given) (served.sent_is c))
-    (λ v. accepted_asked first h e v _ given holds.0 (served.asked_is v))
+    (λ v. asked_on first h e v _ (drains_none e v given) holds.0 (served.asked_is v))
 gave_event first o o' s s' e (Err r) served more given answer leads =
-    let h = served.history in
-    let holds = leads first h served.holds in
-    goes_on first o o' s s' [] (ended_by_refusal r) (Gave e) served (after_refusal r e h) more
-    (Err r, refl, answer first h served.holds, refl, refl)
-    holds
-    (λ c. served.sent_is c ∙ sym (sent-refused first h c r e served.holds.0))
-    (λ v known. refused_asked first h s e r v _ served.holds (answer first h served.holds) (served.asked_is v (sym (cleared-refused first h v r e) ∙ known)))
+    let h : List Event = history_of served.steps in
+    let joins : after_refusal r e [] ++ h ≡ after_refusal r e h = (refusal_leaves first h 0 [] r e).joins in
+    goes_on first o o' s s' [] (ended_by_refusal r) (Gave e) served (after_refusal r e []) more
+    (Err r, refl, answer first h served.holds, joins, refl)
+    (subst (λ g. Tells first g s') (sym joins) (leads first h served.holds))
+    (λ c. served.sent_is c ∙ sym (sent-refused first h c r e served.holds.0) ∙ ap (sent first c) (sym joins))
+    (λ v.
+    (refusal_leaves first h v (driver_taken first v served.steps) r e).stays ∙ served.asked_is v ∙ sym (driver_sent-refused first h v r e served.holds.0)
+    ∙ ap (λ g. driver_sent v (past first g)) (sym joins))
 
 -- What `next` gave was told to the server as the arrival that it stands for.
 gave : {U : Type 0} (first : Configuration) (o o' : Option (List Entry)) (s s' : Content) (n : Next) (items : List ℕ) (found : Option Arrival) (arrival : Arrival) (r : Result U Refused)
@@ -249,7 +199,7 @@ pub reload_refused : (first : Configuration) (o' : Option (List Entry)) (s s' : 
     → is_err r ≡ true → Served first o' s' []
 reload_refused first o' s s' n items k (Ok u) before is answer leads failed = absurd (true≢false (sym failed))
 reload_refused first o' s s' n items k (Err r) before is answer leads failed =
-    subst (λ w. Served first o' s' w) (refused_reload first before.1.history k r (answer first before.1.history before.1.holds))
+    subst (λ w. Served first o' s' w) (refused_reload first (history_of before.1.steps) k r (answer first (history_of before.1.steps) before.1.holds))
     (reloaded {U = Unit {0}} first o' s s' n items k (Err r) before is answer leads)
 
 -- What the world gave, before the server is told.

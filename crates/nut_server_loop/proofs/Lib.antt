@@ -1,8 +1,7 @@
-pub mod Cleared
+pub mod Begun
 pub mod Steps
 pub mod Writes
 pub mod Requests
-pub mod Unconnected
 pub mod Arrivals
 pub mod Settles
 pub mod Noted

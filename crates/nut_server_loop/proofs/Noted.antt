@@ -25,17 +25,9 @@ pub tells_given : (n : Next) (items : List ℕ) (e : Event) (o : Option (List En
 tells_given n items e o same = ap (λ a. tells_arrival a o) same
 
 may_come_next : (s : Content) (n : Next) (items : List ℕ) (e : Event) → may_come s e ≡ true → arrival_of n items ≡ Some e → MayCome n s
-may_come_next s (next.Moment t) items e may is = tt
-may_come_next s next.Open items e may is = tt
 may_come_next s (next.Bytes c) items e may is =
     subst (λ a. may_come s (unwrap_or a (event.Close 0)) ≡ true) (sym is) may
-may_come_next s (next.Close c) items e may is = tt
-may_come_next s (next.DriverUp u) items e may is = tt
-may_come_next s (next.DriverBytes u) items e may is = tt
-may_come_next s (next.DriverDown u) items e may is = tt
-may_come_next s (next.Reload config) items e may is = tt
-may_come_next s next.Again items e may is = tt
-may_come_next s next.End items e may is = tt
+may_come_next s n items e may is = tt
 
 -- The first arrival that may come does come, and it isn't the end.
 pub came : (s : Content) (left left' : List Given) (i : ℕ) (n : Next) (items : List ℕ) → first_coming s left ≡ Some i → GivesAt (Some i) left left' n items → MayCome n s

@@ -14,10 +14,10 @@ use Rattle.nut_server_spec.specs.Acceptance.{refusal, drain_refusal, down_refusa
 use Rattle.nut_server_spec.proofs.Kept.{supply_is}
 use Rattle.nut_server_spec.proofs.DriverSent.{driver_sent-took_told, driver_sent-other}
 use Rattle.nut_io.specs.Writes.{IsWithin}
-use Rattle.nut_server_loop.specs.Record.{Entry, TookRequests, DriverWasLate, DriverBroke, DriverWasClosed, tells, tells_request, driver_taken}
+use Rattle.nut_server_loop.specs.Record.{Entry, TookRequests, DriverWasLate, DriverBroke, DriverWasClosed, tells, tells_request}
 use Rattle.nut_io.specs.declared.types.Written.{Written}
 use Rattle.nut_io.specs.declared.types.Written.TheVariants.{Took, Later, Failed}
-use Rattle.nut_server_loop.specs.Served.{Served, Ended, Driver}
+use Rattle.nut_server_loop.specs.Served.{Served, Ended, Driver, history_of, driver_taken}
 use Rattle.nut_server_loop.proofs.Steps.{Answered, Leads, goes_on, holds_on, same_sent, same_asked, length_of_front, take_of_front, no_memory_drained, no_memory_down}
 
 -- If bytes wait for a driver, it is connected.
@@ -72,14 +72,14 @@ more_drained first h s u v bytes before holds free later front same =
 
 -- Bytes were taken, the first of those that waited.
 took_requests : (first : Configuration) (o o' : Option (List Entry)) (s s' : Content) (u : ℕ) (bytes : List ℕ) → (served : Served first o s []) → o' ≡ tells (TookRequests u bytes) o
-    → bytes ≡ take (length bytes) (asks_of u s.supplies) → refusal s (event.DriverTook u (length bytes)) ≡ None → Tells first (event.DriverTook u (length bytes) ∷ served.history) s' → Served first o' s' []
+    → bytes ≡ take (length bytes) (asks_of u s.supplies) → refusal s (event.DriverTook u (length bytes)) ≡ None → Tells first (event.DriverTook u (length bytes) ∷ history_of served.steps) s' → Served first o' s' []
 took_requests first o o' s s' u bytes served more front free holds =
-    let h = served.history in
-    goes_on first o o' s s' [] [] (TookRequests u bytes) served (event.DriverTook u (length bytes) ∷ h) more
+    let h = history_of served.steps in
+    goes_on first o o' s s' [] [] (TookRequests u bytes) served (event.DriverTook u (length bytes) ∷ []) more
     (subst (λ t. refusal t (event.DriverTook u (length bytes)) ≡ None) served.holds.1 free, refl, refl)
     holds
     (λ d. same_sent first h (event.DriverTook u (length bytes)) d _ served.holds.0 refl (served.sent_is d))
-    (λ v known. more_drained first h s u v bytes (driver_taken v served.entries) served.holds free holds.0 front (served.asked_is v known))
+    (λ v. more_drained first h s u v bytes (driver_taken first v served.steps) served.holds free holds.0 front (served.asked_is v))
 
 -- Some of what was offered was taken.
 pub request_took : {U : Type 0} (first : Configuration) (o o' : Option (List Entry)) (s s' : Content) (u : ℕ) (part : List ℕ) (w : Written) (n : ℕ) (r : Result U Refused)
@@ -92,26 +92,26 @@ request_took first o o' s s' u part w n r served is more within front answer lea
     let reach : n ≤ length (asks_of u s.supplies) = omega (arith, length_of_front part (asks_of u s.supplies) front) in
     let len : length (take n part) ≡ n = length-take-le n part fits in
     let told : o' ≡ tells (TookRequests u (take n part)) o = more ∙ ap (λ v. tells_request v u part o) is in
-    let free = may_drain first served.history s u n served.holds some reach in
+    let free = may_drain first (history_of served.steps) s u n served.holds some reach in
     took_requests first o o' s s' u (take n part) served told
     (take_of_front n part (asks_of u s.supplies) front fits ∙ ap (λ m. take m (asks_of u s.supplies)) (sym len))
     (subst (λ m. refusal s (event.DriverTook u m) ≡ None) (sym len) free)
-    (subst (λ m. Tells first (event.DriverTook u m ∷ served.history) s') (sym len) (holds_on first served.history s s' (event.DriverTook u n) r served.holds free (no_memory_drained u n) answer leads))
+    (subst (λ m. Tells first (event.DriverTook u m ∷ history_of served.steps) s') (sym len) (holds_on first (history_of served.steps) s s' (event.DriverTook u n) r served.holds free (no_memory_drained u n) answer leads))
 
 -- A write is to come later.
 pub request_late : (first : Configuration) (o o' : Option (List Entry)) (s : Content) (u : ℕ) (part : List ℕ) (w : Written) → Served first o s [] → w ≡ Later → o' ≡ tells_request w u part o → Served first o' s []
 request_late first o o' s u part w served is more =
-    goes_on first o o' s s [] [] (DriverWasLate u) served served.history (more ∙ ap (λ v. tells_request v u part o) is) (refl, refl) served.holds served.sent_is served.asked_is
+    goes_on first o o' s s [] [] (DriverWasLate u) served [] (more ∙ ap (λ v. tells_request v u part o) is) (refl, refl) served.holds served.sent_is served.asked_is
 
 -- A write failed.
 pub request_broke : {U : Type 0} (first : Configuration) (o o' : Option (List Entry)) (s s' : Content) (u : ℕ) (part : List ℕ) (w : Written) (r : Result U Refused)
     → Served first o s [] → w ≡ Failed → o' ≡ tells_request w u part o → 0 < length (asks_of u s.supplies)
     → Answered s (event.DriverDown u) r → Leads s (event.DriverDown u) r s' → Served first o' s' (Driver u ∷ [])
 request_broke first o o' s s' u part w r served is more some answer leads =
-    let h = served.history in
+    let h = history_of served.steps in
     let free = may_go first h s u served.holds some in
     let holds = holds_on first h s s' (event.DriverDown u) r served.holds free (no_memory_down u) answer leads in
-    goes_on first o o' s s' [] (Driver u ∷ []) (DriverBroke u) served (event.DriverDown u ∷ h) (more ∙ ap (λ v. tells_request v u part o) is)
+    goes_on first o o' s s' [] (Driver u ∷ []) (DriverBroke u) served (event.DriverDown u ∷ []) (more ∙ ap (λ v. tells_request v u part o) is)
     (subst (λ t. refusal t (event.DriverDown u) ≡ None) served.holds.1 free, refl, refl)
     holds
     (λ d. same_sent first h (event.DriverDown u) d _ served.holds.0 refl (served.sent_is d))
@@ -120,7 +120,7 @@ request_broke first o o' s s' u part w r served is more some answer leads =
 -- The link that ended last is closed.
 pub closed_driver : (first : Configuration) (o o' : Option (List Entry)) (s : Content) (u : ℕ) (owed : List Ended) → Served first o s (Driver u ∷ owed) → o' ≡ tells (DriverWasClosed u) o → Served first o' s owed
 closed_driver first o o' s u owed served more =
-    goes_on first o o' s s (Driver u ∷ owed) owed (DriverWasClosed u) served served.history more (refl, refl) served.holds served.sent_is served.asked_is
+    goes_on first o o' s s (Driver u ∷ owed) owed (DriverWasClosed u) served [] more (refl, refl) served.holds served.sent_is served.asked_is
 
 pub closes_driver : {T E : Type 0} (r : Result T E) (first : Configuration) (o o' : Option (List Entry)) (s : Content) (u : ℕ) → Served first o s (Driver u ∷ []) → OnOk r (o' ≡ tells (DriverWasClosed u) o) → OnOk r (Served first o' s [])
 closes_driver (Ok _) first o o' s u served more = closed_driver first o o' s u [] served more

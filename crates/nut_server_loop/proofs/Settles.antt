@@ -15,7 +15,7 @@ use Rattle.nut_io.specs.Writes.{IsWithin}
 use Rattle.nut_server_loop.specs.Record.{Entry}
 use Rattle.nut_io.specs.declared.types.Written.{Written}
 use Rattle.nut_io.specs.declared.types.Written.TheVariants.{Took}
-use Rattle.nut_server_loop.specs.Served.{Served, OnlyAt, OnlyAtDriver}
+use Rattle.nut_server_loop.specs.Served.{Served, OnlyAt, OnlyAtDriver, history_of}
 use Rattle.nut_server_loop.proofs.Steps.{Answered, Leads, length_of_front, moved, no_memory_took, no_memory_failed, no_memory_close, no_memory_drained, no_memory_down}
 use Rattle.nut_server_loop.proofs.Writes.{may_take, may_fail, may_close}
 use Rattle.nut_server_loop.proofs.Requests.{may_drain, may_go}
@@ -94,7 +94,7 @@ drained_moved first o s s' u part w n r served is within front answer leads =
     let some : 0 < n = inside.0 in
     let fits : n ≤ length part = inside.1 in
     let reach : n ≤ length (asks_of u s.supplies) = omega (arith, length_of_front part (asks_of u s.supplies) front) in
-    (some, reach, moved first o s s' (event.DriverTook u n) r [] served (may_drain first served.history s u n served.holds some reach) (no_memory_drained u n) answer leads)
+    (some, reach, moved first o s s' (event.DriverTook u n) r [] served (may_drain first (history_of served.steps) s u n served.holds some reach) (no_memory_drained u n) answer leads)
 
 pub asks_less : {U : Type 0} (first : Configuration) (o : Option (List Entry)) (s s' : Content) (u : ℕ) (part : List ℕ) (w : Written) (n : ℕ) (r : Result U Refused)
     → Served first o s [] → w ≡ Took n → IsWithin w (length part) → IsFrontPart part (asks_of u s.supplies) → Answered s (event.DriverTook u n) r → Leads s (event.DriverTook u n) r s'
@@ -118,7 +118,7 @@ only_drained first o s s' u part w n r served is within front answer leads =
 gone_moved : {U : Type 0} (first : Configuration) (o : Option (List Entry)) (s s' : Content) (u : ℕ) (r : Result U Refused)
     → Served first o s [] → 0 < length (asks_of u s.supplies) → Answered s (event.DriverDown u) r → Leads s (event.DriverDown u) r s' → s' ≡ advance s (event.DriverDown u)
 gone_moved first o s s' u r served some answer leads =
-    moved first o s s' (event.DriverDown u) r [] served (may_go first served.history s u served.holds some) (no_memory_down u) answer leads
+    moved first o s s' (event.DriverDown u) r [] served (may_go first (history_of served.steps) s u served.holds some) (no_memory_down u) answer leads
 
 asks_nothing : (o : Option Supply) → asks_in (option_map down o) ≡ []
 asks_nothing None = refl

@@ -3,22 +3,22 @@ use Rattle.std.proofs.Common.{◌≡◌, ℕ, ◌≤◌, false, List, [], ◌∷
 use Rattle.std.proofs.lemmas.List.{append-nil, drop_all, take-append-le}
 use Rattle.nut_queue.specs.Front.{IsFrontPart}
 use Rattle.nut_server_spec.specs.declared.Place.{Place}
-use Rattle.nut_server_spec.specs.declared.Place.TheVariants.{Line, Report, NewUpses}
+use Rattle.nut_server_spec.specs.declared.Place.TheVariants.{Line}
 use Rattle.nut_server_spec.specs.declared.Refused.{Refused}
-use Rattle.nut_server_spec.specs.declared.Refused.TheVariants.{NoSuchConnection, NotConnected, PieceTooLong, Busy, TooMuchTaken, BadAddress, Full, Memory}
+use Rattle.nut_server_spec.specs.declared.Refused.TheVariants.{Memory}
 use Rattle.nut_server_spec.specs.Configuration.{Configuration}
 use Rattle.nut_server_spec.specs.Event.{Event}
 use Rattle.nut_server_spec.specs.Event as event
-use Rattle.nut_server_spec.specs.Content.{Content, content, sent}
+use Rattle.nut_server_spec.specs.Trace.{driver_sent}
+use Rattle.nut_server_spec.specs.Content.{Content, content, past, sent}
 use Rattle.nut_server_spec.specs.Acceptance.{refusal, IsAccepted, Tells}
 use Rattle.nut_server_spec.specs.machine.Machine.{advance}
 use Rattle.nut_server_spec.specs.Outcome.{IsAnswer, IsRefusal, MayLack, after}
 use Rattle.nut_server_spec.proofs.Sent.{taken_by, sent-other}
 use Rattle.nut_server_spec.proofs.DriverSent.{drained_by, begins_anew, driver_sent-other}
 use Rattle.nut_server_spec.proofs.Tells.{tells-step}
-use Rattle.nut_server_loop.specs.Record.{Entry, tells, taken, driver_taken}
-use Rattle.nut_server_loop.specs.Served.{Served, Stands, Ended}
-use Rattle.nut_server_loop.proofs.Cleared.{WasSent, cleared-other}
+use Rattle.nut_server_loop.specs.Record.{Entry, tells, taken}
+use Rattle.nut_server_loop.specs.Served.{Served, Step, Stands, Ended, entries_of, history_of, since_begun, taken_for, driver_taken}
 
 -- What `arrive` promises about the content after it.
 abbrev pub Leads : {U : Type 0} → Content → Event → Result U Refused → Content → Type 0
@@ -30,15 +30,17 @@ tells_more None entries entry same = tt
 tells_more (Some r) entries entry same = ap (λ q. entry ∷ q) same
 
 -- one entry more, and what it means for the history
-pub goes_on : (first : Configuration) (o o' : Option (List Entry)) (s s' : Content) (owed owed' : List Ended) (entry : Entry) (served : Served first o s owed) (h' : List Event)
-    → o' ≡ tells entry o → Stands first served.history owed entry h' owed' → Tells first h' s' → ((c : ℕ) → taken c (entry ∷ served.entries) ≡ sent first c h')
-    → ((u : ℕ) → WasSent first h' u (driver_taken u (entry ∷ served.entries))) → Served first o' s' owed'
-goes_on first o o' s s' owed owed' entry served h' more stands holds same asked =
+pub goes_on : (first : Configuration) (o o' : Option (List Entry)) (s s' : Content) (owed owed' : List Ended) (entry : Entry) (served : Served first o s owed) (events : List Event)
+    → o' ≡ tells entry o → Stands first (history_of served.steps) owed entry (events ++ history_of served.steps) owed' → Tells first (events ++ history_of served.steps) s'
+    → ((c : ℕ) → taken c (entry ∷ entries_of served.steps) ≡ sent first c (events ++ history_of served.steps))
+    → ((u : ℕ) → taken_for u entry (since_begun first u events (history_of served.steps) (driver_taken first u served.steps)) ≡ driver_sent u (past first (events ++ history_of served.steps)))
+    → Served first o' s' owed'
+goes_on first o o' s s' owed owed' entry served events more stands holds same asked =
+    let step : Step = record { entry = entry; events = events } in
     record {
-      entries = entry ∷ served.entries;
-      history = h';
-      tells = subst (λ q. IfSome q (λ r. r ≡ entry ∷ served.entries)) (sym more) (tells_more o served.entries entry served.tells);
-      told = (served.history, owed, served.told, stands);
+      steps = step ∷ served.steps;
+      tells = subst (λ q. IfSome q (λ r. r ≡ entry ∷ entries_of served.steps)) (sym more) (tells_more o (entries_of served.steps) entry served.tells);
+      told = (owed, served.told, stands);
       holds = holds;
       sent_is = same;
       asked_is = asked;
@@ -47,7 +49,7 @@ goes_on first o o' s s' owed owed' entry served h' more stands holds same asked 
 -- A server that was told nothing is served.
 pub begun : (first : Configuration) (o : Option (List Entry)) (s : Content) → s ≡ content first [] → IfSome o (λ r. r ≡ []) → Served first o s []
 begun first o s fresh blank =
-    record { entries = []; history = []; tells = blank; told = (refl, refl); holds = (tt, fresh); sent_is = λ c. refl; asked_is = λ u stays. refl }
+    record { steps = []; tells = blank; told = refl; holds = (tt, fresh); sent_is = λ c. refl; asked_is = λ u. refl }
 
 -- What is served with something left to close is so after an error.
 pub at_err : {T E : Type 0} (r : Result T E) (first : Configuration) (o : Option (List Entry)) (s : Content) (owed : List Ended) → Served first o s owed → OnErr r ((x : List Ended) × Served first o s x)
@@ -93,38 +95,27 @@ TakesNoMemory e = (first : Configuration) (h : List Event) (p : Place) → MayLa
 
 pub no_memory_took : (c n : ℕ) → TakesNoMemory (event.Took c n)
 no_memory_took c n first h (Line d k) lacks = lacks
-no_memory_took c n first h (Report v k) lacks = lacks
-no_memory_took c n first h NewUpses lacks = lacks
+no_memory_took c n first h place lacks = lacks
 
 pub no_memory_close : (c : ℕ) → TakesNoMemory (event.Close c)
 no_memory_close c first h (Line d k) lacks = lacks
-no_memory_close c first h (Report v k) lacks = lacks
-no_memory_close c first h NewUpses lacks = lacks
+no_memory_close c first h place lacks = lacks
 
 pub no_memory_failed : (c : ℕ) → TakesNoMemory (event.WriteFailed c)
 no_memory_failed c first h (Line d k) lacks = lacks
-no_memory_failed c first h (Report v k) lacks = lacks
-no_memory_failed c first h NewUpses lacks = lacks
+no_memory_failed c first h place lacks = lacks
 
 pub no_memory_drained : (u n : ℕ) → TakesNoMemory (event.DriverTook u n)
 no_memory_drained u n first h (Line d k) lacks = lacks
-no_memory_drained u n first h (Report v k) lacks = lacks
-no_memory_drained u n first h NewUpses lacks = lacks
+no_memory_drained u n first h place lacks = lacks
 
 pub no_memory_down : (u : ℕ) → TakesNoMemory (event.DriverDown u)
 no_memory_down u first h (Line d k) lacks = lacks
-no_memory_down u first h (Report v k) lacks = lacks
-no_memory_down u first h NewUpses lacks = lacks
+no_memory_down u first h place lacks = lacks
 
 refused_not : (first : Configuration) (h : List Event) (e : Event) (r : Refused) → refusal (content first h) e ≡ None → TakesNoMemory e → IsRefusal first h e r → ⊥
 refused_not first h e (Memory p) free small is = small first h p is.1
-refused_not first h e NoSuchConnection free small is = cc
-refused_not first h e NotConnected free small is = cc
-refused_not first h e PieceTooLong free small is = cc
-refused_not first h e Busy free small is = cc
-refused_not first h e TooMuchTaken free small is = cc
-refused_not first h e BadAddress free small is = cc
-refused_not first h e Full free small is = cc
+refused_not first h e r free small is = cc
 
 -- An event that allocates no memory and that no test refuses is accepted.
 accepted : {U : Type 0} (first : Configuration) (h : List Event) (e : Event) (r : Result U Refused) → refusal (content first h) e ≡ None → TakesNoMemory e → IsAnswer first h e r
@@ -142,7 +133,7 @@ holds_on first h s s' e r told free small answer leads =
 pub moved : {U : Type 0} (first : Configuration) (o : Option (List Entry)) (s s' : Content) (e : Event) (r : Result U Refused) (owed : List Ended)
     → Served first o s owed → refusal s e ≡ None → TakesNoMemory e → Answered s e r → Leads s e r s' → s' ≡ advance s e
 moved first o s s' e r owed served free small answer leads =
-    let h = served.history in
+    let h = history_of served.steps in
     (holds_on first h s s' e r served.holds free small answer leads).1 ∙ sym (tells-step first h s e served.holds free).1
 
 -- ---- what was sent
@@ -153,9 +144,8 @@ same_sent first h e c before accepted nothing same = same ∙ sym (sent-other fi
 
 -- what the driver of u was sent after an event in which it takes nothing and which neither connects it nor clears u
 pub same_asked : (first : Configuration) (h : List Event) (e : Event) (u : ℕ) (before : List ℕ) → IsAccepted first (e ∷ h) → drained_by u e ≡ 0 → begins_anew first h u e ≡ false
-    → WasSent first h u before → WasSent first (e ∷ h) u before
-same_asked first h e u before accepted nothing stays same = λ known.
-    same (sym (cleared-other first h u e stays) ∙ known) ∙ sym (driver_sent-other first h u e accepted nothing stays)
+    → before ≡ driver_sent u (past first h) → before ≡ driver_sent u (past first (e ∷ h))
+same_asked first h e u before accepted nothing stays same = same ∙ sym (driver_sent-other first h u e accepted nothing stays)
 
 -- ---- what is offered
 

@@ -14,7 +14,7 @@ use Rattle.nut_io.specs.Writes.{IsWithin}
 use Rattle.nut_server_loop.specs.Record.{Entry, TookBytes, WasLate, WriteBroke, WasClosed, tells, tells_write, taken}
 use Rattle.nut_io.specs.declared.types.Written.{Written}
 use Rattle.nut_io.specs.declared.types.Written.TheVariants.{Took, Later, Failed}
-use Rattle.nut_server_loop.specs.Served.{Served, Ended, Connection}
+use Rattle.nut_server_loop.specs.Served.{Served, Ended, Connection, entries_of, history_of}
 use Rattle.nut_server_loop.proofs.Steps.{Answered, Leads, goes_on, holds_on, same_sent, same_asked, length_of_front, take_of_front, no_memory_took, no_memory_close, no_memory_failed}
 
 -- A connection for which bytes wait is open, and so is one that is to be closed.
@@ -55,13 +55,13 @@ more_taken first h s c d bytes before holds free front same =
 
 -- Bytes were taken, the first of those that waited.
 took_bytes : (first : Configuration) (o o' : Option (List Entry)) (s s' : Content) (c : ℕ) (bytes : List ℕ) → (served : Served first o s []) → o' ≡ tells (TookBytes c bytes) o
-    → bytes ≡ take (length bytes) (waiting_of c s.sessions) → refusal s (event.Took c (length bytes)) ≡ None → Tells first (event.Took c (length bytes) ∷ served.history) s' → Served first o' s' []
+    → bytes ≡ take (length bytes) (waiting_of c s.sessions) → refusal s (event.Took c (length bytes)) ≡ None → Tells first (event.Took c (length bytes) ∷ history_of served.steps) s' → Served first o' s' []
 took_bytes first o o' s s' c bytes served more front free holds =
-    let h = served.history in
-    goes_on first o o' s s' [] [] (TookBytes c bytes) served (event.Took c (length bytes) ∷ h) more
+    let h = history_of served.steps in
+    goes_on first o o' s s' [] [] (TookBytes c bytes) served (event.Took c (length bytes) ∷ []) more
     (subst (λ t. refusal t (event.Took c (length bytes)) ≡ None) served.holds.1 free, refl, refl)
     holds
-    (λ d. more_taken first h s c d bytes (taken d served.entries) served.holds free front (served.sent_is d))
+    (λ d. more_taken first h s c d bytes (taken d (entries_of served.steps)) served.holds free front (served.sent_is d))
     (λ u. same_asked first h (event.Took c (length bytes)) u _ holds.0 refl refl (served.asked_is u))
 
 -- Some of what was offered was taken.
@@ -79,22 +79,22 @@ write_took first o o' s s' c part w n r served is more within front answer leads
     took_bytes first o o' s s' c (take n part) served told
     (take_of_front n part (waiting_of c s.sessions) front fits ∙ ap (λ m. take m (waiting_of c s.sessions)) (sym len))
     (subst (λ m. refusal s (event.Took c m) ≡ None) (sym len) free)
-    (subst (λ m. Tells first (event.Took c m ∷ served.history) s') (sym len) (holds_on first served.history s s' (event.Took c n) r served.holds free (no_memory_took c n) answer leads))
+    (subst (λ m. Tells first (event.Took c m ∷ history_of served.steps) s') (sym len) (holds_on first (history_of served.steps) s s' (event.Took c n) r served.holds free (no_memory_took c n) answer leads))
 
 -- A write is to come later.
 pub write_late : (first : Configuration) (o o' : Option (List Entry)) (s : Content) (c : ℕ) (part : List ℕ) (w : Written) → Served first o s [] → w ≡ Later → o' ≡ tells_write w c part o → Served first o' s []
 write_late first o o' s c part w served is more =
-    goes_on first o o' s s [] [] (WasLate c) served served.history (more ∙ ap (λ v. tells_write v c part o) is) (refl, refl) served.holds served.sent_is served.asked_is
+    goes_on first o o' s s [] [] (WasLate c) served [] (more ∙ ap (λ v. tells_write v c part o) is) (refl, refl) served.holds served.sent_is served.asked_is
 
 -- A write failed.
 pub write_broke : {U : Type 0} (first : Configuration) (o o' : Option (List Entry)) (s s' : Content) (c : ℕ) (part : List ℕ) (w : Written) (r : Result U Refused)
     → Served first o s [] → w ≡ Failed → o' ≡ tells_write w c part o → 0 < length (waiting_of c s.sessions)
     → Answered s (event.WriteFailed c) r → Leads s (event.WriteFailed c) r s' → Served first o' s' (Connection c ∷ [])
 write_broke first o o' s s' c part w r served is more some answer leads =
-    let h = served.history in
+    let h = history_of served.steps in
     let free = may_fail s c some in
     let holds = holds_on first h s s' (event.WriteFailed c) r served.holds free (no_memory_failed c) answer leads in
-    goes_on first o o' s s' [] (Connection c ∷ []) (WriteBroke c) served (event.WriteFailed c ∷ h) (more ∙ ap (λ v. tells_write v c part o) is)
+    goes_on first o o' s s' [] (Connection c ∷ []) (WriteBroke c) served (event.WriteFailed c ∷ []) (more ∙ ap (λ v. tells_write v c part o) is)
     (subst (λ t. refusal t (event.WriteFailed c) ≡ None) served.holds.1 free, refl, refl)
     holds
     (λ d. same_sent first h (event.WriteFailed c) d _ served.holds.0 refl (served.sent_is d))
@@ -103,7 +103,7 @@ write_broke first o o' s s' c part w r served is more some answer leads =
 -- The connection that ended last is closed.
 pub closed_ended : (first : Configuration) (o o' : Option (List Entry)) (s : Content) (c : ℕ) (owed : List Ended) → Served first o s (Connection c ∷ owed) → o' ≡ tells (WasClosed c) o → Served first o' s owed
 closed_ended first o o' s c owed served more =
-    goes_on first o o' s s (Connection c ∷ owed) owed (WasClosed c) served served.history more (inl (refl, refl)) served.holds served.sent_is served.asked_is
+    goes_on first o o' s s (Connection c ∷ owed) owed (WasClosed c) served [] more (inl (refl, refl)) served.holds served.sent_is served.asked_is
 
 pub closes_ended : {T E : Type 0} (r : Result T E) (first : Configuration) (o o' : Option (List Entry)) (s : Content) (c : ℕ) → Served first o s (Connection c ∷ []) → OnOk r (o' ≡ tells (WasClosed c) o) → OnOk r (Served first o' s [])
 closes_ended (Ok _) first o o' s c served more = closed_ended first o o' s c [] served more
@@ -114,9 +114,9 @@ pub closed_left : {U : Type 0} (first : Configuration) (o o' : Option (List Entr
     → Served first o s [] → o' ≡ tells (WasClosed c) o → leaves (session_of c s.sessions) ≡ true
     → Answered s (event.Close c) r → Leads s (event.Close c) r s' → Served first o' s' []
 closed_left first o o' s s' c r served more left answer leads =
-    let h = served.history in
+    let h = history_of served.steps in
     let holds = holds_on first h s s' (event.Close c) r served.holds (may_close s c left) (no_memory_close c) answer leads in
-    goes_on first o o' s s' [] [] (WasClosed c) served (event.Close c ∷ h) more
+    goes_on first o o' s s' [] [] (WasClosed c) served (event.Close c ∷ []) more
     (inr (subst (λ (t : Content). leaves (session_of c t.sessions) ≡ true) served.holds.1 left, refl, refl))
     holds
     (λ d. same_sent first h (event.Close c) d _ served.holds.0 refl (served.sent_is d))

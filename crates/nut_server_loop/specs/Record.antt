@@ -102,15 +102,3 @@ abbrev pub taken : ℕ → List Entry → List ℕ
 taken c [] = []
 taken c (TookBytes d bytes ∷ r) = if d == c then taken c r ++ bytes else taken c r
 taken c (entry ∷ r) = taken c r
-
--- the bytes taken for the driver of u after an arrival: none if it is connected by it, else those before
-abbrev pub since_up : ℕ → Event → List ℕ → List ℕ
-since_up u (event.DriverUp v) before = if v == u then [] else before
-since_up u e before = before
-
--- the bytes that the world took for the driver of u since it was last connected
-abbrev pub driver_taken : ℕ → List Entry → List ℕ
-driver_taken u [] = []
-driver_taken u (Gave e ∷ r) = since_up u e (driver_taken u r)
-driver_taken u (TookRequests v bytes ∷ r) = if v == u then driver_taken u r ++ bytes else driver_taken u r
-driver_taken u (entry ∷ r) = driver_taken u r

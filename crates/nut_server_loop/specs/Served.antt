@@ -1,19 +1,18 @@
 -- How the history that a server was told follows from the record of the world.
-use Rattle.std.specs.Prelude.{◌≡◌, ◌≢◌, ◌⊎◌, ℕ, Bool, true, false, List, [], ◌∷◌, ◌++◌, length, map, Option, Some, None, Result, Ok, Err, IfSome}
+use Rattle.std.specs.Prelude.{◌≡◌, ◌≢◌, ◌⊎◌, ℕ, ◌==◌, Bool, true, false, if◌then◌else◌, List, [], ◌∷◌, ◌++◌, length, map, Option, Some, None, Result, Ok, Err, IfSome}
 use Rattle.nut_server_spec.specs.declared.Refused.{Refused}
 use Rattle.nut_server_spec.specs.declared.Refused.TheVariants.{Memory}
 use Rattle.nut_server_spec.specs.declared.Place.{Place}
 use Rattle.nut_server_spec.specs.declared.Place.TheVariants.{Line, Report, NewUpses}
 use Rattle.nut_server_spec.specs.Configuration.{Configuration}
-use Rattle.nut_server_spec.specs.Event.{Event, Took, Close, WriteFailed, DriverTook, DriverDown, Reload}
-use Rattle.nut_server_spec.specs.Numbering.{by_fate}
-use Rattle.nut_server_spec.specs.Trace.{driver_sent, since_up}
-use Rattle.nut_server_spec.specs.Trace as trace
+use Rattle.nut_server_spec.specs.Event.{Event, Took, Close, WriteFailed, DriverUp, DriverTook, DriverDown, Reload}
+use Rattle.nut_server_spec.specs.Numbering.{fate_of, is_cleared}
+use Rattle.nut_server_spec.specs.Trace.{driver_sent, numbering}
 use Rattle.nut_server_spec.specs.Content.{Content, content, past, sent}
 use Rattle.nut_server_spec.specs.Acceptance.{refusal, session_of, supply_of, leaves, Tells}
 use Rattle.nut_server_spec.specs.Outcome.{IsAnswer, after}
 use Rattle.nut_server_spec.specs.Reloading.{drivers_ended, connections_ended}
-use Rattle.nut_server_loop.specs.Record.{Entry, Gave, TookBytes, WasLate, WriteBroke, WasClosed, TookRequests, DriverWasLate, DriverBroke, DriverWasClosed, tells_next, taken, driver_taken}
+use Rattle.nut_server_loop.specs.Record.{Entry, Gave, TookBytes, WasLate, WriteBroke, WasClosed, TookRequests, DriverWasLate, DriverBroke, DriverWasClosed, tells_next, taken}
 use Rattle.nut_server_loop.specs.declared.types.Next.{Next}
 
 -- What has ended for the server, and has still to be closed by the world: a connection, or the link to the driver of the
@@ -85,29 +84,56 @@ Stands first h owed (DriverBroke u) h' owed' =
     (refusal (content first h) (DriverDown u) ≡ None) × (h' ≡ DriverDown u ∷ h) × (owed' ≡ Driver u ∷ owed)
 Stands first h owed (DriverWasClosed u) h' owed' = (owed ≡ Driver u ∷ owed') × (h' ≡ h)
 
--- These entries, the newest first, lead to the events h, with `owed` still to be closed.
-abbrev pub Told : Configuration → List Entry → List Event → List Ended → Type 0
-Told first [] h owed = (h ≡ []) × (owed ≡ [])
-Told first (entry ∷ entries) h owed =
-    (h0 : List Event) × (owed0 : List Ended) × Told first entries h0 owed0 × Stands first h0 owed0 entry h owed
+-- An entry of the world's record, and the events of the server's history that stand for it, the newest first.
+pub record Step : Type 0 where
+  pub entry : Entry
+  pub events : List Event
 
--- whether a reload has cleared the UPS u since its driver was last connected
-abbrev pub cleared_since_up : ℕ → List trace.Entry → Bool
-cleared_since_up u [] = false
-cleared_since_up u (e ∷ past) =
-    by_fate (e.fate u) true (λ before. before) (since_up false u e.step (cleared_since_up u past))
+abbrev pub entries_of : List Step → List Entry
+entries_of steps = map (λ step. step.entry) steps
 
--- There are entries, which are the world's record if it keeps one, and a history that they lead to. The server has the
--- content of this history. The bytes that the world took for each connection, and for each driver since it was last
--- connected, are those that were sent. Of a UPS that a reload has cleared since then nothing is known any more.
+abbrev pub history_of : List Step → List Event
+history_of [] = []
+history_of (step ∷ steps) = step.events ++ history_of steps
+
+-- Each of these steps, the newest first, is right, and `owed` has still to be closed.
+abbrev pub Told : Configuration → List Step → List Ended → Type 0
+Told first [] owed = owed ≡ []
+Told first (step ∷ steps) owed =
+    (before : List Ended) × Told first steps before × Stands first (history_of steps) before step.entry (history_of (step ∷ steps)) owed
+
+-- whether an event after the history h connects the driver of u anew, or clears u
+abbrev pub begins_anew : Configuration → List Event → ℕ → Event → Bool
+begins_anew first h u (DriverUp v) = v == u
+begins_anew first h u (Reload new) = is_cleared (fate_of new.upses (numbering first (past first h)) u)
+begins_anew first h u e = false
+
+-- bytes taken for the driver of u, after more events: none if one of them begins anew, else those before
+abbrev pub since_begun : Configuration → ℕ → List Event → List Event → List ℕ → List ℕ
+since_begun first u [] h before = before
+since_begun first u (e ∷ events) h before = if begins_anew first (events ++ h) u e then [] else since_begun first u events h before
+
+-- the bytes taken for the driver of u, after one more entry
+abbrev pub taken_for : ℕ → Entry → List ℕ → List ℕ
+taken_for u (TookRequests v bytes) before = if v == u then before ++ bytes else before
+taken_for u entry before = before
+
+-- the bytes that the world took for the driver of u since it was last connected or u was last cleared
+abbrev pub driver_taken : Configuration → ℕ → List Step → List ℕ
+driver_taken first u [] = []
+driver_taken first u (step ∷ steps) =
+    taken_for u step.entry (since_begun first u step.events (history_of steps) (driver_taken first u steps))
+
+-- There are steps whose entries are the world's record, if it keeps one, and: the server has the content of their history;
+-- and the bytes that the world took for each connection, and for each driver since it was last connected or its UPS
+-- cleared, are those that were sent.
 pub record Served (first : Configuration) (log : Option (List Entry)) (s : Content) (owed : List Ended) : Type 0 where
-  pub entries : List Entry
-  pub history : List Event
-  pub tells : IfSome log (λ r. r ≡ entries)
-  pub told : Told first entries history owed
-  pub holds : Tells first history s
-  pub sent_is : (c : ℕ) → taken c entries ≡ sent first c history
-  pub asked_is : (u : ℕ) → cleared_since_up u (past first history) ≡ false → driver_taken u entries ≡ driver_sent u (past first history)
+  pub steps : List Step
+  pub tells : IfSome log (λ r. r ≡ entries_of steps)
+  pub told : Told first steps owed
+  pub holds : Tells first (history_of steps) s
+  pub sent_is : (c : ℕ) → taken c (entries_of steps) ≡ sent first c (history_of steps)
+  pub asked_is : (u : ℕ) → driver_taken first u steps ≡ driver_sent u (past first (history_of steps))
 
 -- `Served` held, with nothing to close, before the world gave this, with these bytes in the piece.
 abbrev pub ServedBefore : Configuration → Option (List Entry) → Content → Next → List ℕ → Type 0

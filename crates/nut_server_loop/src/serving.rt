@@ -22,8 +22,8 @@ use std::sync::Wait;
 /// that was ended by a failed write, a lack of memory or a reload. It closes no others.
 ///
 /// When it returns, the server holds the content of a history of accepted events that the world's record leads to. The
-/// bytes that the world took for each connection, and for each driver since it was last connected, are those that were
-/// sent.
+/// bytes that the world took for each connection, and for each driver since it was last connected or a reload cleared its
+/// UPS, are those that were sent.
 ///
 /// # Errors
 ///

@@ -8,7 +8,7 @@ use Rattle.nut_words.specs.Lines.{LineText}
 use Rattle.nut_state.specs.laws.Holds.{EveryTableHolds}
 use Rattle.nut_server_spec.specs.Configuration.{Configuration}
 use Rattle.nut_server_spec.specs.Command.{command_of}
-use Rattle.nut_server_spec.specs.Event.{Event, Moment, Open, Bytes, Took, Close, WriteFailed, DriverUp, DriverBytes, DriverTook, DriverDown, Step, Said, Reported, input, driver_input, steps, with_lines, with_reports, brought, Reload}
+use Rattle.nut_server_spec.specs.Event.{Event, Bytes, Took, DriverBytes, Step, Said, Reported, input, driver_input, steps, with_lines, with_reports, brought, Reload}
 use Rattle.nut_server_spec.specs.Answer.{Silence, Guest, text_of, answer}
 use Rattle.nut_server_spec.specs.Device.{Device}
 use Rattle.nut_server_spec.specs.Trace.{Entry, address, open_numbers, device, guest, scene, caller, logged_out, reports, ups_numbers, answer_to, trace, configuration}
@@ -69,24 +69,18 @@ module _ (every : EveryTableHolds) (first : Configuration) where
       let are = few_history first h accepted in
       let t = past first h in
       record {
-        configured = (allowed first h).within within;
-        few = omega (arith, length-map (open_numbers t) (session first h), are.few, (allowed first h).few within);
+        configured = (allowed first h).1 within;
+        few = omega (arith, length-map (open_numbers t) (session first h), are.few, (allowed first h).2 within);
         addresses = of_mapped (λ (k : Session). length k.address ≤ ADDRESS_MAX) (session first h) (open_numbers t) are.addresses;
       }
 
   answers_fit : (h : List Event) → AreWithin first h → IsAccepted first h → AreFit (past first h)
   answers_fit [] within accepted = tt
-  answers_fit (Moment t ∷ h) within accepted = (fit_silence, answers_fit h within accepted.0)
-  answers_fit (Open address ∷ h) within accepted = (fit_silence, answers_fit h within accepted.0)
   answers_fit (Bytes c piece ∷ h) within accepted = lines_fit c (brought (input c h) piece) (steps h) (past_short h within accepted.0) (answers_fit h within accepted.0)
   answers_fit (Took c n ∷ h) within accepted = answers_fit h within accepted.0
-  answers_fit (Close c ∷ h) within accepted = (fit_silence, answers_fit h within accepted.0)
-  answers_fit (WriteFailed c ∷ h) within accepted = (fit_silence, answers_fit h within accepted.0)
-  answers_fit (DriverUp u ∷ h) within accepted = (fit_silence, answers_fit h within accepted.0)
   answers_fit (DriverBytes u piece ∷ h) within accepted = reports_fit u (brought (driver_input u h) piece) (steps h) (answers_fit h within accepted.0)
-  answers_fit (DriverTook u n ∷ h) within accepted = (fit_silence, answers_fit h within accepted.0)
-  answers_fit (DriverDown u ∷ h) within accepted = (fit_silence, answers_fit h within accepted.0)
   answers_fit (Reload k ∷ h) within accepted = (fit_silence, answers_fit h within.1 accepted.0)
+  answers_fit (e ∷ h) within accepted = (fit_silence, answers_fit h within accepted.0)
 
 pub answers-bounded : EveryTableHolds → AnswersAreBounded
 answers-bounded every = record {

@@ -77,18 +77,16 @@ fit_accepted_as s (Some number) next = fit_line (replies.AcceptedAs number) (ome
 
 -- what a client asks for is within its own bounds
 abbrev pub IsReadableCommand : Command → Type 0
-IsReadableCommand Blank = Unit {0}
-IsReadableCommand (Malformed refusal) = Unit {0}
 IsReadableCommand (Asks request) = IsReadable request
+IsReadableCommand other = Unit {0}
 
 readable-asked : (words : List (List ℕ)) (r : Result Request Refusal) → meaning words ≡ r → IsReadableCommand (asked r)
 readable-asked words (Ok request) is = read_requests_are_readable words request is
 readable-asked words (Err refusal) is = tt
 
 readable-in : (r : Result (List (List ℕ)) WordFault) → IsReadableCommand (command_in r)
-readable-in (Ok []) = tt
 readable-in (Ok (word ∷ words)) = readable-asked (word ∷ words) (meaning (word ∷ words)) refl
-readable-in (Err fault) = tt
+readable-in other = tt
 
 pub readable-command : (line : LineText) → IsReadableCommand (command_of line)
 readable-command (Text bytes) = readable-in (spelled bytes)

@@ -15,7 +15,7 @@ use Rattle.nut_server_spec.specs.Configuration.{Configuration}
 use Rattle.nut_server_spec.specs.Command.{command_of}
 use Rattle.nut_server_spec.specs.Device.{Device, absent, is_past, fits, needs_ping}
 use Rattle.nut_server_spec.specs.Effect.{target, request_of}
-use Rattle.nut_server_spec.specs.Event.{Event, Moment, Open, Bytes, Took, Close, WriteFailed, DriverUp, DriverBytes, DriverTook, DriverDown, Step, Clock, Said, Reported, input, driver_input, steps, with_lines, with_reports, brought, Reload}
+use Rattle.nut_server_spec.specs.Event.{Event, Moment, Bytes, DriverUp, DriverBytes, DriverTook, DriverDown, Step, Clock, Said, Reported, input, driver_input, steps, with_lines, with_reports, brought, Reload}
 use Rattle.nut_server_spec.specs.Answer.{device_at}
 use Rattle.nut_server_spec.specs.Trace.{places, numbering, Entry, configuration, clock, device, connected, logged_out, driver_due, driver_taken, driver_waits, scene, caller, with_request, request_for, ping, trace, answer_to, asks_at}
 use Rattle.nut_server_spec.specs.Content.{Session, Supply, past, supply}
@@ -23,7 +23,7 @@ use Rattle.nut_server_spec.specs.laws.Laws.{IsBoundedSession, IsBoundedSupply, B
 use Rattle.nut_server_spec.proofs.Kept.{session_is, supply_is}
 use Rattle.nut_server_spec.proofs.Places.{get_below, found_below}
 use Rattle.nut_server_spec.proofs.Requests.{asked-fits}
-use Rattle.nut_server_spec.specs.Numbering.{Fate, Kept, Disconnected, Cleared, by_fate, fate_of}
+use Rattle.nut_server_spec.specs.Numbering.{Fate, Kept, by_fate, fate_of}
 use Rattle.nut_server_spec.proofs.Numbering.{no_ups_with, numbers_below}
 
 -- ---- lines
@@ -107,8 +107,7 @@ bounded-reports first v u (l ∷ ls) s bounded = bounded-reports first v u ls (R
 fated-bound : (fate : Fate) (is : Bool) (m : ℕ) (due : List ℕ) → length (if is then drop m due else []) ≤ ASKS_MAX
     → length (if by_fate fate false (λ before. false) is then drop (by_fate fate 0 (λ before. before) m) (by_fate fate [] (λ before. before) due) else []) ≤ ASKS_MAX
 fated-bound Kept is m due bounded = bounded
-fated-bound Disconnected is m due bounded = omega arith
-fated-bound Cleared is m due bounded = omega arith
+fated-bound fate is m due bounded = omega arith
 
 dump-bound : length (ask_line DumpAll) ≤ ASKS_MAX
 unfolding ask_line line
@@ -120,11 +119,7 @@ waits-bound first (Moment t ∷ h) u less =
     let p = past first h in
     asked-bound (connected u p) (driver_taken u p) (driver_due u p) (asks_at first p (Clock t) u) (waits-bound first h u less)
     (λ line is. fits-bound line (device first p u) (ping-fits (configuration first p).max_age (max (clock p) t) (device first p u) line is))
-waits-bound first (Open a ∷ h) u less = waits-bound first h u less
 waits-bound first (Bytes c piece ∷ h) u less = bounded-lines first c u (brought (input c h) piece) (steps h) (waits-bound first h u) less
-waits-bound first (Took c n ∷ h) u less = waits-bound first h u less
-waits-bound first (Close c ∷ h) u less = waits-bound first h u less
-waits-bound first (WriteFailed c ∷ h) u less = waits-bound first h u less
 waits-bound first (DriverUp v ∷ h) u less =
     elim (cases_Bool (eqb v u)) [ inl e ↦ rw e dump-bound | inr e ↦ rw e (waits-bound first h u less) ]
 waits-bound first (DriverBytes v piece ∷ h) u less = bounded-reports first v u (brought (driver_input v h) piece) (steps h) (waits-bound first h u) less
@@ -145,6 +140,7 @@ waits-bound first (Reload k ∷ h) u less =
           let none = no_ups_with (places first (past first h)) u (numbering first (past first h)) (numbers_below first (past first h)) (ltb-false u (places first (past first h)) e) in
           rw none (omega arith)
     ]
+waits-bound first (e ∷ h) u less = waits-bound first h u less
 
 pub bounds-hold : BoundsHold
 bounds-hold first h accepted = (

@@ -6,18 +6,18 @@ use Rattle.std.proofs.lemmas.List.{take-append-le, take-append-drop}
 use Rattle.std.proofs.Math.Seq.{take-add}
 use Rattle.nut_words.specs.Lines.{LineText}
 use Rattle.nut_words.specs.Quoting.{Begins}
-use Rattle.nut_server_spec.specs.declared.Place.TheVariants.{Line, Report, NewUpses}
+use Rattle.nut_server_spec.specs.declared.Place.TheVariants.{Line, Report}
 use Rattle.nut_server_spec.specs.declared.Refused.{Refused}
-use Rattle.nut_server_spec.specs.declared.Refused.TheVariants.{NoSuchConnection, NotConnected, PieceTooLong, Busy, TooMuchTaken, BadAddress, Full, Memory}
+use Rattle.nut_server_spec.specs.declared.Refused.TheVariants.{Memory}
 use Rattle.nut_server_spec.specs.Configuration.{Configuration}
-use Rattle.nut_server_spec.specs.Event.{Event, Moment, Open, Bytes, Took, Close, WriteFailed, DriverUp, DriverBytes, DriverTook, DriverDown, Step, Clock, Said, Reported, input, driver_input, steps, with_lines, with_reports, brought, Reload}
+use Rattle.nut_server_spec.specs.Event.{Event, Moment, Bytes, DriverUp, DriverBytes, DriverTook, Step, Clock, Said, Reported, input, driver_input, steps, with_lines, with_reports, brought, Reload}
 use Rattle.nut_server_spec.specs.Trace.{connected, driver_due, driver_taken, driver_sent, driver_waits, with_request, asks_at, trace, numbering}
 use Rattle.nut_server_spec.specs.Content.{Supply, Content, past, content}
 use Rattle.nut_server_spec.specs.Acceptance.{refusal, IsAccepted, Tells, supply_of, drain_refusal, asks_in, asks_of, front, lost, lost_report}
 use Rattle.nut_server_spec.specs.Outcome.{after_refusal}
 use Rattle.nut_server_spec.specs.laws.Laws.{driver_received, DriverSentIsReceived, DriverSentAndWaitingIsDue}
 use Rattle.nut_server_spec.proofs.Kept.{supply_is, drivers_covered}
-use Rattle.nut_server_spec.specs.Numbering.{Fate, Kept, Disconnected, Cleared, by_fate, fate_of, is_cleared}
+use Rattle.nut_server_spec.specs.Numbering.{Fate, Kept, by_fate, fate_of, is_cleared}
 
 -- how many bytes the driver of u takes in an event, and whether the event connects it anew or clears
 -- its UPS
@@ -77,8 +77,7 @@ driver_sent-reports first h v u piece = sent_reports first v u (brought (driver_
 -- A reload leaves what a driver was sent as it is, unless it clears the UPS.
 sent_fated : (fate : Fate) (n : ℕ) (x : List ℕ) → take (by_fate fate 0 (λ before. before) n) (by_fate fate [] (λ before. before) x) ≡ (if is_cleared fate then [] else take n x)
 sent_fated Kept n x = refl
-sent_fated Disconnected n x = refl
-sent_fated Cleared n x = refl
+sent_fated fate n x = refl
 
 pub driver_sent-reload : (first : Configuration) (h : List Event) (u : ℕ) (k : Configuration)
     → driver_sent u (past first (Reload k ∷ h)) ≡ (if is_cleared (fate_of k.upses (numbering first (past first h)) u) then [] else driver_sent u (past first h))
@@ -132,11 +131,7 @@ driver_sent-took_told first h s u n told accepted =
 pub driver_sent-step : (first : Configuration) (h : List Event) (u : ℕ) (e : Event) → IsAccepted first (e ∷ h)
     → driver_sent u (past first (e ∷ h)) ≡ (if begins_anew first h u e then [] else driver_sent u (past first h) ++ take (drained_by u e) (driver_waits u (past first h)))
 driver_sent-step first h u (Moment t) accepted = driver_sent-moment first h u t accepted.0 ∙ sym (append-nil (driver_sent u (past first h)))
-driver_sent-step first h u (Open a) accepted = sym (append-nil (driver_sent u (past first h)))
 driver_sent-step first h u (Bytes c piece) accepted = driver_sent-bytes first h c u piece accepted.0 ∙ sym (append-nil (driver_sent u (past first h)))
-driver_sent-step first h u (Took c n) accepted = sym (append-nil (driver_sent u (past first h)))
-driver_sent-step first h u (Close c) accepted = sym (append-nil (driver_sent u (past first h)))
-driver_sent-step first h u (WriteFailed c) accepted = sym (append-nil (driver_sent u (past first h)))
 driver_sent-step first h u (DriverUp v) accepted = elim (cases_Bool (eqb v u)) [ inl e ↦ rw e refl | inr e ↦ rw e (sym (append-nil (driver_sent u (past first h)))) ]
 driver_sent-step first h u (DriverBytes v piece) accepted = driver_sent-reports first h v u piece ∙ sym (append-nil (driver_sent u (past first h)))
 driver_sent-step first h u (DriverTook v n) accepted =
@@ -146,10 +141,10 @@ driver_sent-step first h u (DriverTook v n) accepted =
           rw e (took_bytes first h u n (subst P (eqb-true v u e) accepted.1))
       | inr e ↦ rw e (sym (append-nil (driver_sent u (past first h))))
     ]
-driver_sent-step first h u (DriverDown v) accepted = sym (append-nil (driver_sent u (past first h)))
 driver_sent-step first h u (Reload k) accepted =
     driver_sent-reload first h u k
     ∙ ap (λ bytes. if is_cleared (fate_of k.upses (numbering first (past first h)) u) then [] else bytes) (sym (append-nil (driver_sent u (past first h))))
+driver_sent-step first h u e accepted = sym (append-nil (driver_sent u (past first h)))
 
 -- An event in which the driver of u takes nothing, and which doesn't connect it, changes nothing of what it was sent.
 pub driver_sent-other : (first : Configuration) (h : List Event) (u : ℕ) (e : Event) → IsAccepted first (e ∷ h) → drained_by u e ≡ 0 → begins_anew first h u e ≡ false
@@ -170,47 +165,16 @@ driver_sent-lost_report first h v u piece (suc k) = driver_sent-reports first h 
 
 -- Nor does any other refusal.
 pub driver_sent-refused : (first : Configuration) (h : List Event) (u : ℕ) (r : Refused) (e : Event) → IsAccepted first h → driver_sent u (past first (after_refusal r e h)) ≡ driver_sent u (past first h)
-driver_sent-refused first h u (Memory (Line c k)) (Moment t) accepted = refl
-driver_sent-refused first h u (Memory (Report w k)) (Moment t) accepted = refl
-driver_sent-refused first h u (Memory (Line c k)) (Open a) accepted = refl
-driver_sent-refused first h u (Memory (Report w k)) (Open a) accepted = refl
 driver_sent-refused first h u (Memory (Line c k)) (Bytes b piece) accepted = driver_sent-lost first h b u piece k accepted
-driver_sent-refused first h u (Memory (Report w k)) (Bytes b piece) accepted = refl
-driver_sent-refused first h u (Memory (Line c k)) (Took b n) accepted = refl
-driver_sent-refused first h u (Memory (Report w k)) (Took b n) accepted = refl
-driver_sent-refused first h u (Memory (Line c k)) (Close b) accepted = refl
-driver_sent-refused first h u (Memory (Report w k)) (Close b) accepted = refl
-driver_sent-refused first h u (Memory (Line c k)) (WriteFailed b) accepted = refl
-driver_sent-refused first h u (Memory (Report w k)) (WriteFailed b) accepted = refl
-driver_sent-refused first h u (Memory (Line c k)) (DriverUp v) accepted = refl
-driver_sent-refused first h u (Memory (Report w k)) (DriverUp v) accepted = refl
-driver_sent-refused first h u (Memory (Line c k)) (DriverBytes v piece) accepted = refl
 driver_sent-refused first h u (Memory (Report w k)) (DriverBytes v piece) accepted = driver_sent-lost_report first h v u piece k
-driver_sent-refused first h u (Memory (Line c k)) (DriverTook v n) accepted = refl
-driver_sent-refused first h u (Memory (Report w k)) (DriverTook v n) accepted = refl
-driver_sent-refused first h u (Memory (Line c k)) (DriverDown v) accepted = refl
-driver_sent-refused first h u (Memory (Report w k)) (DriverDown v) accepted = refl
-driver_sent-refused first h u (Memory (Line c k)) (Reload j) accepted = refl
-driver_sent-refused first h u (Memory (Report w k)) (Reload j) accepted = refl
-driver_sent-refused first h u (Memory NewUpses) e accepted = refl
-driver_sent-refused first h u NoSuchConnection e accepted = refl
-driver_sent-refused first h u NotConnected e accepted = refl
-driver_sent-refused first h u PieceTooLong e accepted = refl
-driver_sent-refused first h u Busy e accepted = refl
-driver_sent-refused first h u TooMuchTaken e accepted = refl
-driver_sent-refused first h u BadAddress e accepted = refl
-driver_sent-refused first h u Full e accepted = refl
+driver_sent-refused first h u r e accepted = refl
 
 -- ---- the laws
 
 pub driver_sent-received : DriverSentIsReceived
 driver_sent-received first [] u accepted = refl
 driver_sent-received first (Moment t ∷ h) u accepted = driver_sent-moment first h u t accepted.0 ∙ driver_sent-received first h u accepted.0
-driver_sent-received first (Open a ∷ h) u accepted = driver_sent-received first h u accepted.0
 driver_sent-received first (Bytes c piece ∷ h) u accepted = driver_sent-bytes first h c u piece accepted.0 ∙ driver_sent-received first h u accepted.0
-driver_sent-received first (Took c n ∷ h) u accepted = driver_sent-received first h u accepted.0
-driver_sent-received first (Close c ∷ h) u accepted = driver_sent-received first h u accepted.0
-driver_sent-received first (WriteFailed c ∷ h) u accepted = driver_sent-received first h u accepted.0
 driver_sent-received first (DriverUp v ∷ h) u accepted =
     elim (cases_Bool (eqb v u)) [ inl e ↦ rw e refl | inr e ↦ rw e (driver_sent-received first h u accepted.0) ]
 driver_sent-received first (DriverBytes v piece ∷ h) u accepted = driver_sent-reports first h v u piece ∙ driver_sent-received first h u accepted.0
@@ -224,9 +188,9 @@ driver_sent-received first (DriverTook v n ∷ h) u accepted =
           ∙ ap (λ bytes. driver_received first u h ++ take n bytes) (sym (asks_are first h u found.0 found.1)))
       | inr e ↦ rw e (driver_sent-received first h u accepted.0)
     ]
-driver_sent-received first (DriverDown v ∷ h) u accepted = driver_sent-received first h u accepted.0
 driver_sent-received first (Reload k ∷ h) u accepted =
     driver_sent-reload first h u k ∙ ap (λ bytes. if is_cleared (fate_of k.upses (numbering first (past first h)) u) then [] else bytes) (driver_sent-received first h u accepted.0)
+driver_sent-received first (e ∷ h) u accepted = driver_sent-received first h u accepted.0
 
 waits_due : (is : Bool) (m : ℕ) (due : List ℕ) → is ≡ true → take m due ++ (if is then drop m due else []) ≡ due
 waits_due true m due is = take-append-drop m due

@@ -3,7 +3,7 @@ use Rattle.std.proofs.Common.{◌≡◌, ℕ, zero, suc, ◌<◌, ◌&&◌, Bool
 use Rattle.std.specs.List.{AllByRecursion}
 use Rattle.std.proofs.lemmas.Bool.{and_parts, cases_Bool, eq-eqb, eqb-true, ne_eqb, not-true, true≢false}
 use Rattle.nut_proto.specs.declared.tracking.TrackingStatus.{TrackingStatus}
-use Rattle.nut_proto.specs.declared.tracking.TrackingStatus.TheVariants.{Pending, Success, Failed, Unknown}
+use Rattle.nut_proto.specs.declared.tracking.TrackingStatus.TheVariants.{Pending}
 use Rattle.nut_server_spec.specs.Acceptance.{IsAccepted, close_refusal, down_refusal, is_connected, session_of, supply_of}
 use Rattle.nut_server_spec.specs.Configuration.{Configuration}
 use Rattle.nut_server_spec.specs.Content.{Session, Supply, content, past, session, supply, down, numbering_of}
@@ -21,15 +21,14 @@ use Rattle.nut_server_spec.proofs.Numbers.{IsBelow-push, IsRising-filter, open_n
 use Rattle.nut_server_spec.proofs.Others.{other-drivers-stay, others-stay}
 use Rattle.nut_server_spec.proofs.Places.{map-same, map-twice}
 use Rattle.nut_server_spec.proofs.Reloads.{map-filter, supply-reload}
+use Rattle.nut_server_spec.proofs.Sessions.{session_of-map}
 use Rattle.nut_server_spec.proofs.Renumbered.{are_among}
 
 -- ---- a driver is disconnected before a reload that doesn't keep its UPS
 
 abandoned_twice : (s : TrackingStatus) → abandoned (abandoned s) ≡ abandoned s
 abandoned_twice Pending = refl
-abandoned_twice Success = refl
-abandoned_twice Failed = refl
-abandoned_twice Unknown = refl
+abandoned_twice status = refl
 
 all_abandoned_twice : (ts : List Tracked) → all_abandoned (all_abandoned ts) ≡ all_abandoned ts
 all_abandoned_twice [] = refl
@@ -200,12 +199,7 @@ drivers_up first h k =
 
 -- Whoever is among the open connections is open.
 open_there : (f : ℕ → Session) (c : ℕ) (ns : List ℕ) → ((n : ℕ) → (f n).number ≡ n) → is_taken c ns ≡ true → close_refusal (session_of c (map f ns)) ≡ None
-open_there f c [] numbered there = absurd (true≢false (sym there))
-open_there f c (n ∷ ns) numbered there =
-    elim (cases_Bool (eqb n c)) [
-      | inl e ↦ let test : eqb (f n).number c ≡ true = ap (λ m. eqb m c) (numbered n) ∙ e in rw test refl
-      | inr e ↦ let test : eqb (f n).number c ≡ false = ap (λ m. eqb m c) (numbered n) ∙ e in rw test (open_there f c ns numbered (rw e at there))
-    ]
+open_there f c ns numbered there = ap close_refusal (session_of-map f c ns numbered) ∙ rw there refl
 
 connections_open : (first : Configuration) (h : List Event) (k : Configuration) → AreOpen first h (connections_ended k (content first h))
 connections_open first h k =

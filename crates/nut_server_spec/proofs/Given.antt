@@ -10,7 +10,7 @@ use Rattle.nut_proto.specs.declared.reply.Reply.TheVariants as replies
 use Rattle.nut_proto.specs.declared.driver_ask.DriverAsk.TheVariants as asks
 use Rattle.nut_state.specs.Table.{variable, has_command}
 use Rattle.nut_server_spec.specs.Configuration.{Ups, may_command}
-use Rattle.nut_server_spec.specs.Command.{Command, Blank, Malformed, Asks}
+use Rattle.nut_server_spec.specs.Command.{Command, Asks}
 use Rattle.nut_server_spec.specs.Device.{trouble}
 use Rattle.nut_server_spec.specs.Answer.{Answer, numbering_in, Silence, Line, Scene, Caller, refused, device_at, ups_number, on_data, may_set, misfit, parameter_misfit, set_answer, command_answer, tracking_answer, accepted, described, once, list_answer, answer}
 use Rattle.nut_server_spec.specs.Effect.{number_in, target}
@@ -76,12 +76,11 @@ command_given s known k ups name parameter =
     (λ number next holds. of_accepted s command number u next found (known ups u found))))))
 
 answer_given : (s : Scene) → AreKnown s → (k : Caller) (command : Command) → IsGiven s command (answer s k command)
-answer_given s known k Blank = λ number is. cc
-answer_given s known k (Malformed refusal) = λ number is. cc
 answer_given s known k (Asks (requests.SetVar ups name value)) = set_given s known k ups name value
 answer_given s known k (Asks (requests.InstCmd ups name parameter)) = command_given s known k ups name parameter
 answer_given s known k (Asks (requests.List query)) = of_list s (Asks (requests.List query)) query
 answer_given s known k (Asks request) = search (rules, of_described, of_once, of_tracking)
+answer_given s known k other = λ number is. cc
 
 -- the same of a client that may have logged out
 pub answered_given : (s : Scene) → AreKnown s → (k : Caller) (command : Command) (out : Bool) → IsGiven s command (if out then Silence else answer s k command)

@@ -1,59 +1,52 @@
 -- What holds after every history of accepted events, and the law of the machine.
 use Rattle.std.proofs.Common.{◌≡◌, ℕ, ◌+◌, ◌-◌, ◌<◌, ◌≤◌, Bool, true, false, eqb, ltb, List, [], ◌∷◌, ◌++◌, map, drop, length, refl, sym, ◌∙◌, ap, arith, inl, inr, Option, Some, None, length-drop, subst}
 use Rattle.std.specs.Prelude.{if◌then◌else◌}
-use Rattle.std.proofs.lemmas.Bool.{cases_Bool, eqb-true, ne_eqb, eq-eqb, ltb-false}
+use Rattle.nut_server_spec.proofs.Sessions.{session_of-map}
+use Rattle.std.proofs.lemmas.Bool.{ltb-true, cases_Bool, eqb-true, ne_eqb, eq-eqb, ltb-false}
 use Rattle.std.proofs.lemmas.List.{map-append}
 use Rattle.nut_words.specs.Lines.{LineText}
 use Rattle.nut_server_spec.specs.declared.Refused.TheVariants.{TooMuchTaken}
 use Rattle.nut_server_spec.specs.Configuration.{Configuration}
-use Rattle.nut_server_spec.specs.Event.{Event, Moment, Open, Bytes, Took, Close, WriteFailed, DriverUp, DriverBytes, DriverTook, DriverDown, Reload, Step, Clock, Opened, Said, Gone, Up, Reported, Drained, Down, Reloaded, input, taken, driver_input, steps, with_lines, with_reports, brought}
+use Rattle.nut_server_spec.specs.Event.{Event, Moment, Open, Bytes, Took, Close, WriteFailed, DriverUp, DriverBytes, DriverTook, DriverDown, Reload, Step, Clock, Said, Reported, input, taken, driver_input, steps, with_lines, with_reports, brought}
 use Rattle.nut_server_spec.specs.Trace.{Entry, places, numbering, opened, open_numbers, user, password, login, logged_out, tracking, due, connected, driver_due, driver_taken, driver_waits, ups_numbers, asks_at, trace}
 use Rattle.nut_server_spec.specs.Content.{Session, Supply, past, content, session, supply, fresh}
 use Rattle.nut_server_spec.specs.Acceptance.{refusal, IsAccepted, session_of, supply_of, bytes_refusal, took_refusal, report_refusal, drain_refusal}
 use Rattle.nut_server_spec.specs.machine.Machine.{advance, KeepsContent}
 use Rattle.nut_server_spec.specs.laws.Laws.{IsUpTo}
-use Rattle.nut_server_spec.specs.Numbering.{Fate, Kept, Disconnected, Cleared, fate_of, by_fate}
+use Rattle.nut_server_spec.specs.Numbering.{is_taken, Fate, Cleared, fate_of, by_fate}
 use Rattle.nut_server_spec.proofs.Numbers.{numbers_up_to}
 use Rattle.nut_server_spec.proofs.Reloads.{law-reload}
 use Rattle.nut_server_spec.proofs.Places.{found_at, below_counts}
 use Rattle.nut_server_spec.proofs.Law.{IsDriverCovered, law-moment, law-close, law-write_failed, law-took, law-driver_up, law-driver_took, law-driver_down}
 use Rattle.nut_server_spec.proofs.Pieces.{IsCovered, AreDriversCovered, IsThere, law-bytes, law-driver_bytes, covered_bytes, drivers_bytes, request_grows}
 
--- A session that is found has the number looked for, which has been given out.
-found_up : (c n : ℕ) (f : ℕ → Session) (ns : List ℕ) → ((d : ℕ) → (f d).number ≡ d) → IsUpTo n ns → (session_of c (map f ns) ≡ None → ⊥) → c ≤ n
-found_up c n f [] numbered up found = absurd (found refl)
-found_up c n f (m ∷ ns) numbered up found =
-    elim (cases_Bool (eqb m c)) [
-      | inl e ↦ let same : m ≡ c = eqb-true m c e in omega (arith, same, up.0)
-      | inr e ↦
-          let test : eqb (f m).number c ≡ false = ap (λ k. eqb k c) (numbered m) ∙ e in
-          found_up c n f ns numbered up.1 (λ none. found (rw test none))
-    ]
+-- No session has a number that hasn't been given out.
+pub none_above : (c n : ℕ) (f : ℕ → Session) (ns : List ℕ) → ((d : ℕ) → (f d).number ≡ d) → IsUpTo n ns → n < c → session_of c (map f ns) ≡ None
+none_above c n f [] numbered up less = refl
+none_above c n f (m ∷ ns) numbered up less =
+    let test : eqb (f m).number c ≡ false = ap (λ k. eqb k c) (numbered m) ∙ ne_eqb m c (λ e. omega (arith, up.0)) in
+    rw test (none_above c n f ns numbered up.1 less)
 
-found_is : (c : ℕ) (f : ℕ → Session) (ns : List ℕ) (k : Session) → ((d : ℕ) → (f d).number ≡ d) → session_of c (map f ns) ≡ Some k → k ≡ f c
-found_is c f [] k numbered found = cc
-found_is c f (m ∷ ns) k numbered found =
-    elim (cases_Bool (eqb m c)) [
-      | inl e ↦
-          let test : eqb (f m).number c ≡ true = ap (λ k. eqb k c) (numbered m) ∙ e in
-          let here : Some (f m) ≡ Some k = rw test at found in
-          let this : f m ≡ k = cc in
-          sym this ∙ ap f (eqb-true m c e)
-      | inr e ↦
-          let test : eqb (f m).number c ≡ false = ap (λ k. eqb k c) (numbered m) ∙ e in
-          found_is c f ns k numbered (rw test at found)
-    ]
+found_is : (b : Bool) (x k : Session) → (if b then Some x else None) ≡ Some k → k ≡ x
+found_is true x k found = cc
+found_is false x k found = cc
 
 -- The session that a content has under a number is the one that the history says.
 pub session_is : (first : Configuration) (h : List Event) (c : ℕ) (k : Session) → session_of c (content first h).sessions ≡ Some k → k ≡ session first h c
-session_is first h c k found = found_is c (session first h) (open_numbers (past first h)) k (λ d. refl) found
+session_is first h c k found =
+    let ns = open_numbers (past first h) in
+    found_is (is_taken c ns) (session first h c) k (sym (session_of-map (session first h) c ns (λ d. refl)) ∙ found)
 
 -- The UPS that a content has under a number is the one that the history says.
 pub supply_is : (first : Configuration) (h : List Event) (u : ℕ) (d : Supply) → supply_of u (content first h).supplies ≡ Some d → d ≡ supply first h u
 supply_is first h u d found = found_at u u 0 (supply first h) (ups_numbers first (past first h)) d (below_counts (places first (past first h))) (omega arith) found
 
 session_up : (first : Configuration) (h : List Event) (c : ℕ) → (session_of c (content first h).sessions ≡ None → ⊥) → c ≤ opened (past first h)
-session_up first h c found = found_up c (opened (past first h)) (session first h) (open_numbers (past first h)) (λ d. refl) (numbers_up_to (past first h)) found
+session_up first h c found =
+    elim (cases_Bool (ltb (opened (past first h)) c)) [
+      | inl e ↦ absurd (found (none_above c (opened (past first h)) (session first h) (open_numbers (past first h)) (λ d. refl) (numbers_up_to (past first h)) (ltb-true (opened (past first h)) c e)))
+      | inr e ↦ ltb-false (opened (past first h)) c e
+    ]
 
 bytes_up : (first : Configuration) (h : List Event) (c : ℕ) (piece : List ℕ) → refusal (content first h) (Bytes c piece) ≡ None → c ≤ opened (past first h)
 bytes_up first h c piece accepted = session_up first h c (λ none. let e = ap (bytes_refusal piece) none in cc (e, accepted))
@@ -81,8 +74,6 @@ due_reports first c u (l ∷ ls) s = due_reports first c u ls (Reported u l ∷ 
 
 pub all_covered : (first : Configuration) (h : List Event) (c : ℕ) → IsAccepted first h → IsCovered first h c
 all_covered first [] c accepted = omega arith
-all_covered first (Moment t ∷ h) c accepted = all_covered first h c accepted.0
-all_covered first (Open address ∷ h) c accepted = all_covered first h c accepted.0
 all_covered first (Bytes d piece ∷ h) c accepted = covered_bytes first h d c piece (all_covered first h c accepted.0)
 all_covered first (Took d n ∷ h) c accepted =
     let before = all_covered first h d accepted.0 in
@@ -92,14 +83,9 @@ all_covered first (Took d n ∷ h) c accepted =
           rw e (subst P (eqb-true d c e) (took_covered first h d n (session_of d (content first h).sessions) before refl accepted.1))
       | inr e ↦ rw e (all_covered first h c accepted.0)
     ]
-all_covered first (Close d ∷ h) c accepted = all_covered first h c accepted.0
-all_covered first (WriteFailed d ∷ h) c accepted = all_covered first h c accepted.0
-all_covered first (DriverUp u ∷ h) c accepted = all_covered first h c accepted.0
 all_covered first (DriverBytes u piece ∷ h) c accepted =
     omega (arith, all_covered first h c accepted.0, ap length (due_reports first c u (brought (driver_input u h) piece) (steps h)))
-all_covered first (DriverTook u n ∷ h) c accepted = all_covered first h c accepted.0
-all_covered first (DriverDown u ∷ h) c accepted = all_covered first h c accepted.0
-all_covered first (Reload k ∷ h) c accepted = all_covered first h c accepted.0
+all_covered first (e ∷ h) c accepted = all_covered first h c accepted.0
 
 -- no more was taken by drivers than was due to them
 waits-length : (is : Bool) (m : ℕ) (x : List ℕ) → length (if is then drop m x else []) ≤ length x - m
@@ -128,19 +114,14 @@ drivers_reports first u [] s covered v = covered v
 drivers_reports first u (l ∷ ls) s covered v = drivers_reports first u ls (Reported u l ∷ s) covered v
 
 fated_covered : (fate : Fate) (m : ℕ) (due : List ℕ) → m ≤ length due → by_fate fate 0 (λ before. before) m ≤ length (by_fate fate [] (λ before. before) due)
-fated_covered Kept m due covered = covered
-fated_covered Disconnected m due covered = covered
 fated_covered Cleared m due covered = omega arith
+fated_covered fate m due covered = covered
 
 pub drivers_covered : (first : Configuration) (h : List Event) → IsAccepted first h → AreDriversCovered first h
 drivers_covered first [] accepted v = omega arith
 drivers_covered first (Moment t ∷ h) accepted v =
     omega (arith, drivers_covered first h accepted.0 v, request_grows (asks_at first (past first h) (Clock t) v) (driver_due v (past first h)))
-drivers_covered first (Open a ∷ h) accepted v = drivers_covered first h accepted.0 v
 drivers_covered first (Bytes c piece ∷ h) accepted v = drivers_bytes first h c piece (drivers_covered first h accepted.0) v
-drivers_covered first (Took c n ∷ h) accepted v = drivers_covered first h accepted.0 v
-drivers_covered first (Close c ∷ h) accepted v = drivers_covered first h accepted.0 v
-drivers_covered first (WriteFailed c ∷ h) accepted v = drivers_covered first h accepted.0 v
 drivers_covered first (DriverUp u ∷ h) accepted v =
     elim (cases_Bool (eqb u v)) [ inl e ↦ rw e (omega arith) | inr e ↦ rw e (drivers_covered first h accepted.0 v) ]
 drivers_covered first (DriverBytes u piece ∷ h) accepted v = drivers_reports first u (brought (driver_input u h) piece) (steps h) (drivers_covered first h accepted.0) v
@@ -151,44 +132,23 @@ drivers_covered first (DriverTook u n ∷ h) accepted v =
           rw e (subst P (eqb-true u v e) (drain_covered first h u n (supply_of u (content first h).supplies) (drivers_covered first h accepted.0 u) refl accepted.1))
       | inr e ↦ rw e (drivers_covered first h accepted.0 v)
     ]
-drivers_covered first (DriverDown u ∷ h) accepted v = drivers_covered first h accepted.0 v
 drivers_covered first (Reload k ∷ h) accepted v =
     fated_covered (fate_of k.upses (numbering first (past first h)) v) (driver_taken v (past first h)) (driver_due v (past first h)) (drivers_covered first h accepted.0 v)
+drivers_covered first (e ∷ h) accepted v = drivers_covered first h accepted.0 v
 
 -- ---- a connection that hasn't been opened
 
 -- It has said nothing, and no answer is due to it.
-pub record IsSilent (first : Configuration) (t : List Entry) (c : ℕ) : Type 0 where
-  pub user : user c t ≡ None
-  pub password : password c t ≡ None
-  pub login : login first c t ≡ None
-  pub stays : logged_out c t ≡ false
-  pub tracks : tracking c t ≡ false
-  pub due : due c t ≡ []
-
--- A step that is no line of c keeps it so.
-silent_on : (first : Configuration) (step : Step) (c : ℕ) (s : List Step) → IsSilent first (trace first s) c
-    → user c (trace first (step ∷ s)) ≡ user c (trace first s) → password c (trace first (step ∷ s)) ≡ password c (trace first s)
-    → login first c (trace first (step ∷ s)) ≡ login first c (trace first s) → logged_out c (trace first (step ∷ s)) ≡ logged_out c (trace first s)
-    → tracking c (trace first (step ∷ s)) ≡ tracking c (trace first s) → due c (trace first (step ∷ s)) ≡ due c (trace first s) → IsSilent first (trace first (step ∷ s)) c
-silent_on first step c s silent u p l o k d =
-    record { user = u ∙ silent.user; password = p ∙ silent.password; login = l ∙ silent.login; stays = o ∙ silent.stays; tracks = k ∙ silent.tracks; due = d ∙ silent.due }
+abbrev pub IsSilent : Configuration → List Entry → ℕ → Type 0
+IsSilent first t c = (user c t ≡ None) × (password c t ≡ None) × (login first c t ≡ None) × (logged_out c t ≡ false) × (tracking c t ≡ false) × (due c t ≡ [])
 
 silent_lines : (first : Configuration) (c d : ℕ) (ls : List LineText) (s : List Step) → eqb d c ≡ false → IsSilent first (trace first s) c → IsSilent first (trace first (with_lines d ls s)) c
 silent_lines first c d [] s differ silent = silent
-silent_lines first c d (l ∷ ls) s differ silent =
-    silent_lines first c d ls (Said d l ∷ s) differ (record {
-      user = rw differ silent.user;
-      password = rw differ silent.password;
-      login = rw differ silent.login;
-      stays = rw differ silent.stays;
-      tracks = rw differ silent.tracks;
-      due = rw differ silent.due;
-    })
+silent_lines first c d (l ∷ ls) s differ silent = silent_lines first c d ls (Said d l ∷ s) differ (rw differ silent)
 
 silent_reports : (first : Configuration) (c u : ℕ) (ls : List LineText) (s : List Step) → IsSilent first (trace first s) c → IsSilent first (trace first (with_reports u ls s)) c
 silent_reports first c u [] s silent = silent
-silent_reports first c u (l ∷ ls) s silent = silent_reports first c u ls (Reported u l ∷ s) (silent_on first (Reported u l) c s silent refl refl refl refl refl refl)
+silent_reports first c u (l ∷ ls) s silent = silent_reports first c u ls (Reported u l ∷ s) silent
 
 pub opened_lines : (first : Configuration) (d : ℕ) (ls : List LineText) (s : List Step) → opened (trace first (with_lines d ls s)) ≡ opened (trace first s)
 opened_lines first d [] s = refl
@@ -198,50 +158,25 @@ pub opened_reports : (first : Configuration) (u : ℕ) (ls : List LineText) (s :
 opened_reports first u [] s = refl
 opened_reports first u (l ∷ ls) s = opened_reports first u ls (Reported u l ∷ s)
 
-pub record IsUnknown (first : Configuration) (h : List Event) (c : ℕ) : Type 0 where
-  pub silent : IsSilent first (past first h) c
-  pub input : input c h ≡ []
-  pub taken : taken c h ≡ 0
+-- Nor has it sent or taken a byte.
+abbrev pub IsUnknown : Configuration → List Event → ℕ → Type 0
+IsUnknown first h c = IsSilent first (past first h) c × (input c h ≡ []) × (taken c h ≡ 0)
 
 pub unknown : (first : Configuration) (h : List Event) (c : ℕ) → IsAccepted first h → opened (past first h) < c → IsUnknown first h c
-unknown first [] c accepted later = record { silent = record { user = refl; password = refl; login = refl; stays = refl; tracks = refl; due = refl }; input = refl; taken = refl }
+unknown first [] c accepted later = ((refl, refl, refl, refl, refl, refl), refl, refl)
 unknown first (Bytes d piece ∷ h) c accepted later =
     let earlier : opened (past first h) < c = omega (arith, opened_lines first d (brought (input d h) piece) (steps h)) in
     let before = unknown first h c accepted.0 earlier in
     let differ : eqb d c ≡ false = ne_eqb d c (λ e. omega (arith, earlier, bytes_up first h d piece accepted.1)) in
-    record { silent = silent_lines first c d (brought (input d h) piece) (steps h) differ before.silent; input = rw differ before.input; taken = before.taken }
+    (silent_lines first c d (brought (input d h) piece) (steps h) differ before.0, rw differ before.1, before.2)
 unknown first (Took d n ∷ h) c accepted later =
     let before = unknown first h c accepted.0 later in
     let differ : eqb d c ≡ false = ne_eqb d c (λ e. omega (arith, later, took_up first h d n accepted.1)) in
-    record { silent = before.silent; input = before.input; taken = rw differ before.taken }
+    (before.0, before.1, rw differ before.2)
 unknown first (DriverBytes u piece ∷ h) c accepted later =
-    let earlier : opened (past first h) < c = omega (arith, opened_reports first u (brought (driver_input u h) piece) (steps h)) in
-    let before = unknown first h c accepted.0 earlier in
-    record { silent = silent_reports first c u (brought (driver_input u h) piece) (steps h) before.silent; input = before.input; taken = before.taken }
-unknown first (Moment t ∷ h) c accepted later =
-    let before = unknown first h c accepted.0 later in
-    record { silent = silent_on first (Clock t) c (steps h) before.silent refl refl refl refl refl refl; input = before.input; taken = before.taken }
-unknown first (Open address ∷ h) c accepted later =
-    let before = unknown first h c accepted.0 (omega arith) in
-    record { silent = silent_on first (Opened address) c (steps h) before.silent refl refl refl refl refl refl; input = before.input; taken = before.taken }
-unknown first (Close d ∷ h) c accepted later =
-    let before = unknown first h c accepted.0 later in
-    record { silent = silent_on first (Gone d) c (steps h) before.silent refl refl refl refl refl refl; input = before.input; taken = before.taken }
-unknown first (WriteFailed d ∷ h) c accepted later =
-    let before = unknown first h c accepted.0 later in
-    record { silent = silent_on first (Gone d) c (steps h) before.silent refl refl refl refl refl refl; input = before.input; taken = before.taken }
-unknown first (DriverUp u ∷ h) c accepted later =
-    let before = unknown first h c accepted.0 later in
-    record { silent = silent_on first (Up u) c (steps h) before.silent refl refl refl refl refl refl; input = before.input; taken = before.taken }
-unknown first (DriverTook u n ∷ h) c accepted later =
-    let before = unknown first h c accepted.0 later in
-    record { silent = silent_on first (Drained u n) c (steps h) before.silent refl refl refl refl refl refl; input = before.input; taken = before.taken }
-unknown first (DriverDown u ∷ h) c accepted later =
-    let before = unknown first h c accepted.0 later in
-    record { silent = silent_on first (Down u) c (steps h) before.silent refl refl refl refl refl refl; input = before.input; taken = before.taken }
-unknown first (Reload k ∷ h) c accepted later =
-    let before = unknown first h c accepted.0 later in
-    record { silent = silent_on first (Reloaded k) c (steps h) before.silent refl refl refl refl refl refl; input = before.input; taken = before.taken }
+    let before = unknown first h c accepted.0 (omega (arith, opened_reports first u (brought (driver_input u h) piece) (steps h))) in
+    (silent_reports first c u (brought (driver_input u h) piece) (steps h) before.0, before.1, before.2)
+unknown first (e ∷ h) c accepted later = unknown first h c accepted.0 (omega arith)
 
 map-up_to : (n : ℕ) (f g : ℕ → Session) (ns : List ℕ) → IsUpTo n ns → ((d : ℕ) → d ≤ n → g d ≡ f d) → map g ns ≡ map f ns
 map-up_to n f g [] up same = refl
@@ -254,7 +189,7 @@ law-open first h a accepted =
     let f = session first h in
     let g = session first (Open a ∷ h) in
     let newest : g (n + 1) ≡ fresh (n + 1) a =
-    rw (eq-eqb (n + 1) (n + 1) refl, unheard.silent.user, unheard.silent.password, unheard.silent.login, unheard.silent.stays, unheard.silent.tracks, unheard.silent.due, unheard.input, unheard.taken) refl in
+    rw (eq-eqb (n + 1) (n + 1) refl, unheard.0.0, unheard.0.1, unheard.0.2, unheard.0.3, unheard.0.4, unheard.0.5, unheard.1, unheard.2) refl in
     let others : map g (open_numbers (past first h)) ≡ map f (open_numbers (past first h)) =
     map-up_to n f g (open_numbers (past first h)) (numbers_up_to (past first h))
     (λ d le. let differ : eqb (n + 1) d ≡ false = ne_eqb (n + 1) d (λ e. omega arith) in rw differ refl) in

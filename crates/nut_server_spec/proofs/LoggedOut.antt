@@ -37,7 +37,6 @@ forced-silent command before = refl
 
 request-silent : (command : Command) → request_of command Silence ≡ None
 request-silent (Asks (requests.SetVar ups variable value)) = refl
-request-silent (Asks (requests.InstCmd ups command parameter)) = refl
 request-silent command = refl
 
 tracking-silent : (command : Command) (before : Bool) → tracking_then command Silence before ≡ before

@@ -5,7 +5,7 @@ use Rattle.std.specs.List.{AllByRecursion, position_or_len}
 use Rattle.std.proofs.lemmas.Bool.{cases_Bool, ne_eqb, le-ltb, true≢false}
 use Rattle.std.proofs.lemmas.Option.{option_and_then_some}
 use Rattle.nut_server_spec.specs.Configuration.{Configuration, Ups, number_of_ups}
-use Rattle.nut_server_spec.specs.Event.{Step, Clock, Opened, Said, Gone, Up, Reported, Drained, Down, Reloaded}
+use Rattle.nut_server_spec.specs.Event.{Step, Reloaded}
 use Rattle.nut_server_spec.specs.Numbering.{Numbering, below, number_of, ups_with, is_taken, first_free, least_free, kept_numbers, given_numbers, renumbered}
 use Rattle.nut_server_spec.specs.Trace.{Entry, numbers, numbering, places, renumbered_by, places_after}
 
@@ -74,16 +74,9 @@ pub renumbered_below : (m : ℕ) (before : Numbering) (upses : List Ups) → Are
 renumbered_below m before upses all few = given_below m before (kept_numbers before upses) upses all (omega (arith, few, kept_and_new before upses))
 
 step_below : (step : Step) (m : ℕ) (now : Numbering) → AreBelow m now.numbers → AreBelow (places_after step m) (renumbered_by step now)
-step_below (Clock t) m now all = all
-step_below (Opened address) m now all = all
-step_below (Said c line) m now all = all
-step_below (Gone c) m now all = all
-step_below (Up u) m now all = all
-step_below (Reported u line) m now all = all
-step_below (Drained u n) m now all = all
-step_below (Down u) m now all = all
 step_below (Reloaded k) m now all =
     renumbered_below (max m (length k.upses)) now k.upses (are_below_more m (max m (length k.upses)) now.numbers (omega arith) all) (omega arith)
+step_below step m now all = all
 
 -- Every UPS has a number that is less than there are places.
 pub numbers_below : (first : Configuration) (t : List Entry) → AreBelow (places first t) (numbers first t)

@@ -1,14 +1,15 @@
 -- What waits for a client is the end of the answers to its newest piece.
-use Rattle.std.proofs.Common.{◌≡◌, ℕ, ◌≤◌, eqb, List, [], ◌∷◌, ◌++◌, length, take, refl, sym, subst, ◌∙◌, ap, arith, inl, inr, append_assoc, append-nil, Option, Some, None}
+use Rattle.std.proofs.Common.{◌≡◌, ℕ, ◌≤◌, eqb, List, [], ◌∷◌, ◌++◌, length, take, refl, sym, subst, ◌∙◌, ap, arith, inl, inr, append_assoc, append-nil, None}
 use Rattle.std.proofs.lemmas.Bool.{cases_Bool, eqb-true}
 use Rattle.nut_words.specs.Quoting.{Begins}
 use Rattle.nut_server_spec.specs.Configuration.{Configuration}
-use Rattle.nut_server_spec.specs.Event.{Event, Moment, Open, Bytes, Took, Close, WriteFailed, DriverUp, DriverBytes, DriverTook, DriverDown, Reload}
+use Rattle.nut_server_spec.specs.Event.{Event, Bytes}
 use Rattle.nut_server_spec.specs.Trace.{due}
-use Rattle.nut_server_spec.specs.Content.{Session, content, past, sent, waits}
-use Rattle.nut_server_spec.specs.Acceptance.{IsAccepted, bytes_refusal, refusal, session_of, waiting_of}
+use Rattle.nut_server_spec.specs.Content.{content, past, sent, waits}
+use Rattle.nut_server_spec.specs.Acceptance.{IsAccepted, refusal, session_of, waiting_of}
 use Rattle.nut_server_spec.specs.laws.Laws.{WaitsForOnePiece, before_piece}
 use Rattle.nut_server_spec.proofs.Kept.{all_covered}
+use Rattle.nut_server_spec.proofs.Tells.{bytes_open}
 use Rattle.nut_server_spec.proofs.Sent.{sent-bytes, sent-step, sent-waiting-due, sent-waits, taken_by, waiting_is}
 use Rattle.nut_server_spec.proofs.Waiting.{piece_accepted}
 
@@ -16,15 +17,10 @@ empty_of : (bytes : List ℕ) → length bytes ≤ 0 → bytes ≡ []
 empty_of [] le = refl
 empty_of (b ∷ bytes) le = absurd (omega (arith, le))
 
--- A piece is accepted only of an open connection.
-heard_open : (piece : List ℕ) (o : Option Session) → bytes_refusal piece o ≡ None → (k : Session) × (o ≡ Some k)
-heard_open piece None accepted = absurd (let bad = accepted in cc)
-heard_open piece (Some k) accepted = (k, refl)
-
 -- If a piece is accepted nothing waits, so all that was due has been sent.
 all_sent : (first : Configuration) (h : List Event) (c : ℕ) (piece : List ℕ) → refusal (content first h) (Bytes c piece) ≡ None → sent first c h ≡ due c (past first h)
 all_sent first h c piece accepted =
-    let found = heard_open piece (session_of c (content first h).sessions) accepted in
+    let found = bytes_open piece (session_of c (content first h).sessions) accepted in
     let none : waiting_of c (content first h).sessions ≡ [] =
     empty_of (waiting_of c (content first h).sessions) (piece_accepted piece (session_of c (content first h).sessions) accepted).1 in
     sym (append-nil (sent first c h))
@@ -49,16 +45,7 @@ earlier_sent first (Bytes d piece ∷ h) c accepted =
           let before = earlier_sent first h c accepted.0 in
           rw e (before.0, sent-bytes first h d c piece (all_covered first h c accepted.0) ∙ before.1)
     ]
-earlier_sent first (Moment t ∷ h) c accepted = sent_grows first h c (Moment t) (due c (past first (before_piece c h))) accepted.0 (earlier_sent first h c accepted.0)
-earlier_sent first (Open a ∷ h) c accepted = sent_grows first h c (Open a) (due c (past first (before_piece c h))) accepted.0 (earlier_sent first h c accepted.0)
-earlier_sent first (Took d n ∷ h) c accepted = sent_grows first h c (Took d n) (due c (past first (before_piece c h))) accepted.0 (earlier_sent first h c accepted.0)
-earlier_sent first (Close d ∷ h) c accepted = sent_grows first h c (Close d) (due c (past first (before_piece c h))) accepted.0 (earlier_sent first h c accepted.0)
-earlier_sent first (WriteFailed d ∷ h) c accepted = sent_grows first h c (WriteFailed d) (due c (past first (before_piece c h))) accepted.0 (earlier_sent first h c accepted.0)
-earlier_sent first (DriverUp u ∷ h) c accepted = sent_grows first h c (DriverUp u) (due c (past first (before_piece c h))) accepted.0 (earlier_sent first h c accepted.0)
-earlier_sent first (DriverBytes u piece ∷ h) c accepted = sent_grows first h c (DriverBytes u piece) (due c (past first (before_piece c h))) accepted.0 (earlier_sent first h c accepted.0)
-earlier_sent first (DriverTook u n ∷ h) c accepted = sent_grows first h c (DriverTook u n) (due c (past first (before_piece c h))) accepted.0 (earlier_sent first h c accepted.0)
-earlier_sent first (DriverDown u ∷ h) c accepted = sent_grows first h c (DriverDown u) (due c (past first (before_piece c h))) accepted.0 (earlier_sent first h c accepted.0)
-earlier_sent first (Reload k ∷ h) c accepted = sent_grows first h c (Reload k) (due c (past first (before_piece c h))) accepted.0 (earlier_sent first h c accepted.0)
+earlier_sent first (e ∷ h) c accepted = sent_grows first h c e (due c (past first (before_piece c h))) accepted.0 (earlier_sent first h c accepted.0)
 
 pub waits-for-one-piece : WaitsForOnePiece
 waits-for-one-piece first h c k accepted found =

@@ -1,40 +1,36 @@
 -- Which connections and which UPSes an event changes.
-use Rattle.std.proofs.Common.{◌≡◌, ℕ, ◌+◌, ◌≤◌, ◌<◌, true, false, eqb, List, [], ◌∷◌, drop, map, refl, sym, ◌∙◌, ap, arith, inl, inr, Option, Some, None, subst}
+use Rattle.std.proofs.Common.{◌≡◌, ℕ, ◌+◌, ◌≤◌, ◌<◌, true, false, eqb, List, [], ◌∷◌, drop, refl, sym, ◌∙◌, ap, arith, inl, inr, Option, Some, None, subst}
 use Rattle.std.specs.Prelude.{option_map, not}
 use Rattle.std.specs.Option.{option_map_or}
-use Rattle.std.proofs.lemmas.Bool.{cases_Bool, eqb-true, ne_eqb}
+use Rattle.std.proofs.lemmas.Bool.{cases_Bool, eqb-true}
 use Rattle.nut_words.specs.Lines.{LineText}
 use Rattle.nut_server_spec.specs.Configuration.{Configuration}
-use Rattle.nut_server_spec.specs.Event.{Event, Moment, Open, Bytes, Took, Close, WriteFailed, DriverUp, DriverBytes, DriverTook, DriverDown, Reload, Step, Said, Reported, with_lines, with_reports}
+use Rattle.nut_server_spec.specs.Event.{Event, Open, Bytes, Took, Close, WriteFailed, DriverUp, DriverBytes, DriverTook, DriverDown, Reload, Step, Said, Reported, with_lines, with_reports}
 use Rattle.nut_server_spec.specs.Trace.{configuration, connected, numbers, opened, open_numbers, trace}
 use Rattle.nut_server_spec.specs.Content.{Session, Content, past, content, session, numbering_of, down, fresh}
 use Rattle.nut_server_spec.specs.Acceptance.{refusal, session_of, supply_of, bytes_refusal, took_refusal, close_refusal, waiting_of, asks_of}
 use Rattle.nut_server_spec.specs.machine.Machine.{advance, bytes_reported, up, drained}
-use Rattle.nut_server_spec.specs.laws.Laws.{IsUpTo, IsOther, closes, connection_of, driver_of, OthersStay, OtherDriversStay, OpenedIsFresh, ClosedStaysClosed}
+use Rattle.nut_server_spec.specs.laws.Laws.{IsOther, closes, connection_of, driver_of, OthersStay, OtherDriversStay, OpenedIsFresh, ClosedStaysClosed}
 use Rattle.nut_server_spec.specs.Numbering.{fate_of, is_to_cleared}
 use Rattle.nut_server_spec.proofs.Law.{eqb_turn}
 use Rattle.nut_server_spec.proofs.Numbers.{numbers_up_to}
-use Rattle.nut_server_spec.proofs.Kept.{keeps-content}
+use Rattle.nut_server_spec.proofs.Kept.{keeps-content, none_above}
 use Rattle.nut_server_spec.proofs.Sessions.{session_of-filter, session_of-update_other, session_of-without, session_of-without_other, session_of-push, session_of-push_other, bytes_heard-other, waiting_of-took}
 use Rattle.nut_server_spec.proofs.Supplies.{supply_of-update, supply_of-update_other, asks_of-drained}
 
 -- An event leaves the sessions of other connections as they are.
 pub advance-other : (s : Content) (e : Event) (d : ℕ) → IsOther d (connection_of s e) → closes s e d ≡ false → session_of d (advance s e).sessions ≡ session_of d s.sessions
-advance-other s (Moment t) d differ stays = refl
 advance-other s (Open address) d differ stays = session_of-push_other d (fresh (s.opened + 1) address) s.sessions differ
 advance-other s (Bytes c piece) d differ stays = bytes_heard-other c d piece s (eqb_turn c d differ)
 advance-other s (Took c n) d differ stays = session_of-update_other c d (λ k. record k { waits = drop n k.waits }) s.sessions (λ k. refl) (eqb_turn c d differ)
 advance-other s (Close c) d differ stays = session_of-without_other c d s.sessions (eqb_turn c d differ)
 advance-other s (WriteFailed c) d differ stays = session_of-without_other c d s.sessions (eqb_turn c d differ)
-advance-other s (DriverUp u) d differ stays = refl
-advance-other s (DriverBytes u piece) d differ stays = refl
-advance-other s (DriverTook u n) d differ stays = refl
-advance-other s (DriverDown u) d differ stays = refl
 advance-other s (Reload k) d differ stays = session_of-filter d (λ j. not (is_to_cleared (fate_of k.upses (numbering_of s)) j.login)) s.sessions (kept (session_of d s.sessions) stays) where
   kept : (o : Option Session) → option_map_or (λ j. is_to_cleared (fate_of k.upses (numbering_of s)) j.login) o false ≡ false
       → option_map_or (λ j. not (is_to_cleared (fate_of k.upses (numbering_of s)) j.login)) o true ≡ true
   kept None e = refl
   kept (Some j) e = ap not e
+advance-other s e d differ stays = refl
 
 -- how each event changes its own connection
 pub advance-took : (s : Content) (c n : ℕ) → waiting_of c (advance s (Took c n)).sessions ≡ drop n (waiting_of c s.sessions)
@@ -57,17 +53,11 @@ turned w u v is differ = let same : w ≡ v = cc in eqb_turn w u (ap (λ x. eqb 
 
 -- An event of a driver leaves the other UPSes as they are.
 pub advance-other_driver : (s : Content) (e : Event) (u v : ℕ) → driver_of e ≡ Some v → eqb v u ≡ false → supply_of u (advance s e).supplies ≡ supply_of u s.supplies
-advance-other_driver s (Moment t) u v is differ = cc
-advance-other_driver s (Open address) u v is differ = cc
-advance-other_driver s (Bytes c piece) u v is differ = cc
-advance-other_driver s (Took c n) u v is differ = cc
-advance-other_driver s (Close c) u v is differ = cc
-advance-other_driver s (WriteFailed c) u v is differ = cc
 advance-other_driver s (DriverUp w) u v is differ = supply_of-update_other w u (up s.clock) s.supplies (turned w u v is differ)
 advance-other_driver s (DriverBytes w piece) u v is differ = supply_of-update_other w u (bytes_reported s.clock piece) s.supplies (turned w u v is differ)
 advance-other_driver s (DriverTook w n) u v is differ = supply_of-update_other w u (drained n) s.supplies (turned w u v is differ)
-advance-other_driver s (Reload k) u v is differ = cc
 advance-other_driver s (DriverDown w) u v is differ = supply_of-update_other w u down s.supplies (turned w u v is differ)
+advance-other_driver s e u v is differ = cc
 
 -- how each event changes its own UPS
 pub advance-driver_took : (s : Content) (u n : ℕ) → asks_of u (advance s (DriverTook u n)).supplies ≡ drop n (asks_of u s.supplies)
@@ -81,13 +71,6 @@ other-drivers-stay first h e u v accepted is differ =
     ap (λ s. supply_of u s.supplies) (keeps-content first h e accepted) ∙ advance-other_driver (content first h) e u v is differ
 
 -- ---- connections that are opened
-
--- No session has a number that hasn't been given out.
-none_above : (c n : ℕ) (f : ℕ → Session) (ns : List ℕ) → ((d : ℕ) → (f d).number ≡ d) → IsUpTo n ns → n < c → session_of c (map f ns) ≡ None
-none_above c n f [] numbered up less = refl
-none_above c n f (m ∷ ns) numbered up less =
-    let test : eqb (f m).number c ≡ false = ap (λ k. eqb k c) (numbered m) ∙ ne_eqb m c (λ e. omega (arith, up.0)) in
-    rw test (none_above c n f ns numbered up.1 less)
 
 pub none_unopened : (first : Configuration) (h : List Event) (c : ℕ) → (content first h).opened < c → session_of c (content first h).sessions ≡ None
 none_unopened first h c less = none_above c (opened (past first h)) (session first h) (open_numbers (past first h)) (λ d. refl) (numbers_up_to (past first h)) less
@@ -107,7 +90,6 @@ opened-fresh first h address accepted =
 
 -- An event that isn't refused concerns an open connection, or opens one.
 not_closed : (s : Content) (e : Event) (c d : ℕ) → d ≤ s.opened → session_of d s.sessions ≡ None → refusal s e ≡ None → connection_of s e ≡ Some c → c ≡ d → ⊥
-not_closed s (Moment t) c d le none accepted is same = cc
 not_closed s (Open address) c d le none accepted is same = let here : s.opened + 1 ≡ c = cc in omega (arith, here, same)
 not_closed s (Bytes a piece) c d le none accepted is same = let here : a ≡ d = cc in
     let e = ap (λ x. bytes_refusal piece (session_of x s.sessions)) here ∙ ap (bytes_refusal piece) none in cc (e, accepted)
@@ -117,25 +99,12 @@ not_closed s (Close a) c d le none accepted is same = let here : a ≡ d = cc in
     let e = ap (λ x. close_refusal (session_of x s.sessions)) here ∙ ap close_refusal none in cc (e, accepted)
 not_closed s (WriteFailed a) c d le none accepted is same = let here : a ≡ d = cc in
     let e = ap (λ x. close_refusal (session_of x s.sessions)) here ∙ ap close_refusal none in cc (e, accepted)
-not_closed s (DriverUp u) c d le none accepted is same = cc
-not_closed s (DriverBytes u piece) c d le none accepted is same = cc
-not_closed s (DriverTook u n) c d le none accepted is same = cc
-not_closed s (DriverDown u) c d le none accepted is same = cc
-not_closed s (Reload k) c d le none accepted is same = cc
+not_closed s e c d le none accepted is same = cc
 
 -- A connection that isn't open isn't closed.
 closes_none : (s : Content) (e : Event) (d : ℕ) → session_of d s.sessions ≡ None → closes s e d ≡ false
-closes_none s (Moment t) d none = refl
-closes_none s (Open address) d none = refl
-closes_none s (Bytes c piece) d none = refl
-closes_none s (Took c n) d none = refl
-closes_none s (Close c) d none = refl
-closes_none s (WriteFailed c) d none = refl
-closes_none s (DriverUp u) d none = refl
-closes_none s (DriverBytes u piece) d none = refl
-closes_none s (DriverTook u n) d none = refl
-closes_none s (DriverDown u) d none = refl
 closes_none s (Reload k) d none = ap (λ o. option_map_or (λ j. is_to_cleared (fate_of k.upses (numbering_of s)) j.login) o false) none
+closes_none s e d none = refl
 
 pub closed-stays : ClosedStaysClosed
 closed-stays first h e d accepted le none = stays (connection_of (content first h) e) refl where

@@ -1,5 +1,5 @@
 -- The machine keeps the content when a piece of bytes comes.
-use Rattle.std.proofs.Common.{◌≡◌, ℕ, ◌≤◌, true, false, eqb, List, [], ◌∷◌, ◌++◌, map, length, refl, sym, ◌∙◌, ap, arith, inl, inr, length-append, Option, Some, None, subst}
+use Rattle.std.proofs.Common.{◌≡◌, ℕ, ◌≤◌, Bool, true, false, eqb, List, [], ◌∷◌, ◌++◌, map, length, refl, sym, ◌∙◌, ap, arith, inl, inr, length-append, Option, Some, None, subst}
 use Rattle.std.specs.Prelude.{if◌then◌else◌}
 use Rattle.std.proofs.lemmas.Bool.{cases_Bool, eqb-true, eqb-false, eq-eqb}
 use Rattle.nut_words.specs.Lines.{LineText, Text, joined, rest}
@@ -15,6 +15,8 @@ use Rattle.nut_server_spec.specs.Acceptance.{session_of}
 use Rattle.nut_server_spec.specs.machine.Machine.{reported_by, advance, answer_in, line_heard, update_at, with_rest, with_supplies, after_answer, byte_heard, bytes_heard, byte_reported, bytes_reported}
 use Rattle.nut_server_spec.proofs.LineLaws.{brought_line_feed, brought_within}
 use Rattle.nut_server_spec.proofs.Places.{update-below, update_at-none, update_at-twice}
+use Rattle.nut_server_spec.proofs.Sessions.{session_of-map}
+use Rattle.nut_server_spec.specs.Numbering.{is_taken}
 use Rattle.nut_server_spec.proofs.Law.{content_from, supply_from, rests_of, takes_of, reports_of, scene_is, eqb_turn, rest-law, said_sessions, said_supplies, answered_past, reported_self, IsDriverCovered}
 use Rattle.nut_server_spec.proofs.Cuts.{cut-law, driver_cut-law, law-no_bytes, law-no_report}
 
@@ -111,15 +113,10 @@ open_numbers_lines first d (l ∷ ls) s = open_numbers_lines first d ls (Said d 
 
 there_same : (c : ℕ) (f g : ℕ → Session) (ns : List ℕ) → ((d : ℕ) → (f d).number ≡ d) → ((d : ℕ) → (g d).number ≡ d)
     → session_of c (map f ns) ≡ Some (f c) → session_of c (map g ns) ≡ Some (g c)
-there_same c f g [] nf ng there = cc
-there_same c f g (n ∷ ns) nf ng there =
-    elim (cases_Bool (eqb n c)) [
-      | inl e ↦ let test : eqb (g n).number c ≡ true = ap (λ m. eqb m c) (ng n) ∙ e in rw test (ap (λ m. Some (g m)) (eqb-true n c e))
-      | inr e ↦
-          let test : eqb (g n).number c ≡ false = ap (λ m. eqb m c) (ng n) ∙ e in
-          let test' : eqb (f n).number c ≡ false = ap (λ m. eqb m c) (nf n) ∙ e in
-          rw test (there_same c f g ns nf ng (rw test' at there))
-    ]
+there_same c f g ns nf ng there = session_of-map g c ns ng ∙ also (is_taken c ns) (sym (session_of-map f c ns nf) ∙ there) where
+  also : (b : Bool) → (if b then Some (f c) else None) ≡ Some (f c) → (if b then Some (g c) else None) ≡ Some (g c)
+  also true is = refl
+  also false is = cc
 
 there_bytes : (first : Configuration) (h : List Event) (c : ℕ) (piece : List ℕ) → IsThere first h c → IsThere first (Bytes c piece ∷ h) c
 there_bytes first h c piece there =

@@ -8,7 +8,7 @@ use Rattle.nut_state.specs.Step.{table_of}
 use Rattle.nut_server_spec.specs.Configuration.{Configuration}
 use Rattle.nut_server_spec.specs.Content.{Session, Supply, content, past, session, supply, unheard}
 use Rattle.nut_server_spec.specs.Event.{Event, Reload, driver_input}
-use Rattle.nut_server_spec.specs.Numbering.{Fate, Kept, Disconnected, Cleared, Numbering, below, by_fate, fate_between, fate_of, is_to_cleared, ups_with, with_numbers, renumbered}
+use Rattle.nut_server_spec.specs.Numbering.{Fate, Kept, Numbering, below, by_fate, fate_between, fate_of, is_to_cleared, ups_with, with_numbers, renumbered}
 use Rattle.nut_server_spec.specs.Trace.{connected, driver_due, driver_taken, forced, heard_at, login, numbering, open_numbers, pinged_at, places, reports, tracked}
 use Rattle.nut_server_spec.specs.Tracking.{all_abandoned}
 use Rattle.nut_server_spec.specs.machine.Machine.{advance, changed_from, fated}
@@ -43,8 +43,7 @@ fated_is : (first : Configuration) (h : List Event) (u : ℕ) (fate : Fate) → 
   rest = if by_fate fate false (λ before. false) (connected u (past first h)) then rest (driver_input u h) else Text [];
 } ≡ fated fate (supply first h u)
 fated_is first h u Kept = refl
-fated_is first h u Disconnected = refl
-fated_is first h u Cleared = refl
+fated_is first h u fate = refl
 
 pub supply-reload : (first : Configuration) (h : List Event) (k : Configuration) (u : ℕ)
     → supply first (Reload k ∷ h) u ≡ fated (fate_of k.upses (numbering first (past first h)) u) (supply first h u)

@@ -10,7 +10,7 @@ use Rattle.std.proofs.lemmas.Option.{option_and_then_some}
 use Rattle.std.proofs.lemmas.Slice.Eq.{bytes_eq-Decides}
 use Rattle.nut_server_spec.specs.Configuration.{Configuration, Ups, number_of_ups, ups_named}
 use Rattle.nut_server_spec.specs.Content.{past}
-use Rattle.nut_server_spec.specs.Event.{Event, Moment, Open, Bytes, Took, Close, WriteFailed, DriverUp, DriverBytes, DriverTook, DriverDown, Reload, brought, driver_input, input, steps, Step, Clock, Opened, Said, Gone, Up, Reported, Drained, Down, Reloaded}
+use Rattle.nut_server_spec.specs.Event.{Event, Bytes, DriverBytes, Reload, brought, driver_input, input, steps, Step, Reloaded}
 use Rattle.nut_server_spec.specs.Numbering.{Numbering, with_numbers, below, first_free, given_numbers, is_taken, kept_numbers, least_free, number_of, renumbered, ups_with}
 use Rattle.nut_server_spec.specs.Trace.{Entry, configuration, numbering, numbers, reconfigured, renumbered_by}
 use Rattle.nut_server_spec.specs.laws.Reloads.{AreNamedApart, KeepsItsNumber, NamesAreDistinct, NumbersAreDistinct}
@@ -176,25 +176,18 @@ same_number : (before after : Numbering) (name : List ℕ) (u : ℕ) → after.u
 same_number before after name u upses numbers is = ap (λ x. number_of name (with_numbers x after.numbers)) upses ∙ ap (λ ns. number_of name (with_numbers before.upses ns)) numbers ∙ is
 
 pub keeps-number : KeepsItsNumber
-keeps-number first h (Moment t) name u x had found = had
-keeps-number first h (Open address) name u x had found = had
 keeps-number first h (Bytes c piece) name u x had found =
     let ls = brought (input c h) piece in
     same_number (numbering first (past first h)) (numbering first (past first (Bytes c piece ∷ h))) name u
     (ap (λ k. k.upses) (configuration_lines first c ls (steps h))) (numbers_lines first c ls (steps h)) had
-keeps-number first h (Took c n) name u x had found = had
-keeps-number first h (Close c) name u x had found = had
-keeps-number first h (WriteFailed c) name u x had found = had
-keeps-number first h (DriverUp v) name u x had found = had
 keeps-number first h (DriverBytes v piece) name u x had found =
     let ls = brought (driver_input v h) piece in
     same_number (numbering first (past first h)) (numbering first (past first (DriverBytes v piece ∷ h))) name u
     (ap (λ k. k.upses) (configuration_reports first v ls (steps h))) (numbers_reports first v ls (steps h)) had
-keeps-number first h (DriverTook v n) name u x had found = had
-keeps-number first h (DriverDown v) name u x had found = had
 keeps-number first h (Reload k) name u x had found =
     let before = numbering first (past first h) in
     kept_number before name u x had (kept_numbers before k.upses) k.upses found
+keeps-number first h e name u x had found = had
 
 -- ---- the least free number is free
 
@@ -340,17 +333,10 @@ below_distinct (suc n) = distinct_push n (below n) (below_are n) (below_distinct
 
 pub distinct_numbers : (first : Configuration) (h : List Event) → NamesAreDistinct first h → IsDistinct eqb (numbers first (past first h))
 distinct_numbers first [] names = below_distinct (length first.upses)
-distinct_numbers first (Moment t ∷ h) names = distinct_numbers first h names
-distinct_numbers first (Open address ∷ h) names = distinct_numbers first h names
 distinct_numbers first (Bytes c piece ∷ h) names = subst (λ ns. IsDistinct eqb ns) (sym (numbers_lines first c (brought (input c h) piece) (steps h))) (distinct_numbers first h names)
-distinct_numbers first (Took c n ∷ h) names = distinct_numbers first h names
-distinct_numbers first (Close c ∷ h) names = distinct_numbers first h names
-distinct_numbers first (WriteFailed c ∷ h) names = distinct_numbers first h names
-distinct_numbers first (DriverUp u ∷ h) names = distinct_numbers first h names
 distinct_numbers first (DriverBytes u piece ∷ h) names = subst (λ ns. IsDistinct eqb ns) (sym (numbers_reports first u (brought (driver_input u h) piece) (steps h))) (distinct_numbers first h names)
-distinct_numbers first (DriverTook u n ∷ h) names = distinct_numbers first h names
-distinct_numbers first (DriverDown u ∷ h) names = distinct_numbers first h names
 distinct_numbers first (Reload k ∷ h) names = renumbered_distinct (numbering first (past first h)) k.upses (distinct_numbers first h names.1) names.0
+distinct_numbers first (e ∷ h) names = distinct_numbers first h names
 
 given_length : (before : Numbering) (taken : List ℕ) (upses : List Ups) → length (given_numbers before taken upses) ≡ length upses
 given_length before taken [] = refl
@@ -361,15 +347,8 @@ given_length before taken (ups ∷ upses) = by (number_of ups.name before) refl 
   by (Some n) e later = rw e (ap suc (later taken))
 
 step_length : (step : Step) (now : Numbering) → length now.numbers ≡ length now.upses → (k : Configuration) → k.upses ≡ now.upses → length (renumbered_by step now) ≡ length (reconfigured step k).upses
-step_length (Clock t) now same k is = same ∙ ap length (sym is)
-step_length (Opened address) now same k is = same ∙ ap length (sym is)
-step_length (Said c line) now same k is = same ∙ ap length (sym is)
-step_length (Gone c) now same k is = same ∙ ap length (sym is)
-step_length (Up u) now same k is = same ∙ ap length (sym is)
-step_length (Reported u line) now same k is = same ∙ ap length (sym is)
-step_length (Drained u n) now same k is = same ∙ ap length (sym is)
-step_length (Down u) now same k is = same ∙ ap length (sym is)
 step_length (Reloaded j) now same k is = given_length now (kept_numbers now j.upses) j.upses
+step_length step now same k is = same ∙ ap length (sym is)
 
 one_each : (first : Configuration) (t : List Entry) → length (numbers first t) ≡ length (configuration first t).upses
 one_each first [] = below-length (length first.upses)

@@ -100,12 +100,10 @@ length-commands = omega arith
 -- ---- lines of GET
 
 length-kind : (kind : VariableKind) → ((m : ℕ) → kind ≡ kinds.String m → m ≤ VALUE_MAX) → length (part_text (kind_part kind)) ≤ 24
-length-kind kinds.Enum few = omega arith
-length-kind kinds.Range few = omega arith
 length-kind (kinds.String m) few =
     let most : m ≤ VALUE_MAX = few m refl in
     omega (arith, length-word (codes "STRING:" ++ decimal m), length-append (codes "STRING:") (decimal m), length-decimal-le 3 m (omega arith) (omega arith) (omega arith))
-length-kind kinds.Number few = omega arith
+length-kind other few = omega arith
 
 pub length-type : (ups name : List ℕ) (writable : Bool) (kind : VariableKind) → length ups ≤ UPS_NAME_MAX → length name ≤ NAME_MAX → ((m : ℕ) → kind ≡ kinds.String m → m ≤ VALUE_MAX)
     → length (reply_line (replies.Type ups name writable kind)) ≤ 1000

@@ -6,11 +6,11 @@ use Rattle.std.proofs.lemmas.List.{take-append-le, take-append-drop}
 use Rattle.std.proofs.Math.Seq.{take-add}
 use Rattle.nut_words.specs.Lines.{LineText}
 use Rattle.nut_words.specs.Quoting.{Begins}
-use Rattle.nut_server_spec.specs.declared.Place.TheVariants.{Line, Report, NewUpses}
+use Rattle.nut_server_spec.specs.declared.Place.TheVariants.{Line, Report}
 use Rattle.nut_server_spec.specs.declared.Refused.{Refused}
-use Rattle.nut_server_spec.specs.declared.Refused.TheVariants.{NoSuchConnection, NotConnected, PieceTooLong, Busy, TooMuchTaken, BadAddress, Full, Memory}
+use Rattle.nut_server_spec.specs.declared.Refused.TheVariants.{Memory}
 use Rattle.nut_server_spec.specs.Configuration.{Configuration}
-use Rattle.nut_server_spec.specs.Event.{Event, Moment, Open, Bytes, Took, Close, WriteFailed, DriverUp, DriverBytes, DriverTook, DriverDown, Step, Said, input, taken, driver_input, steps, with_lines, brought, Reload}
+use Rattle.nut_server_spec.specs.Event.{Event, Bytes, Took, DriverBytes, Step, Said, input, taken, driver_input, steps, with_lines, brought}
 use Rattle.nut_server_spec.specs.Answer.{text_of}
 use Rattle.nut_server_spec.specs.Trace.{due, trace, answer_to}
 use Rattle.nut_server_spec.specs.Content.{Session, Content, past, content, sent, waits}
@@ -59,21 +59,14 @@ sent-took_other first h c d n differ = rw differ refl
 
 -- An accepted event adds what c takes to what it was sent.
 pub sent-step : (first : Configuration) (h : List Event) (c : ℕ) (e : Event) → IsAccepted first h → sent first c (e ∷ h) ≡ sent first c h ++ take (taken_by c e) (waits first c h)
-sent-step first h c (Moment t) accepted = sym (append-nil (sent first c h))
-sent-step first h c (Open a) accepted = sym (append-nil (sent first c h))
 sent-step first h c (Bytes d piece) accepted = sent-bytes first h d c piece (all_covered first h c accepted) ∙ sym (append-nil (sent first c h))
 sent-step first h c (Took d n) accepted =
     elim (cases_Bool (eqb d c)) [
       | inl e ↦ rw e (take-add (taken c h) n (due c (past first h)))
       | inr e ↦ rw e (sym (append-nil (sent first c h)))
     ]
-sent-step first h c (Close d) accepted = sym (append-nil (sent first c h))
-sent-step first h c (WriteFailed d) accepted = sym (append-nil (sent first c h))
-sent-step first h c (DriverUp u) accepted = sym (append-nil (sent first c h))
 sent-step first h c (DriverBytes u piece) accepted = sent-reports first h u c piece ∙ sym (append-nil (sent first c h))
-sent-step first h c (DriverTook u n) accepted = sym (append-nil (sent first c h))
-sent-step first h c (DriverDown u) accepted = sym (append-nil (sent first c h))
-sent-step first h c (Reload k) accepted = sym (append-nil (sent first c h))
+sent-step first h c e accepted = sym (append-nil (sent first c h))
 
 -- An event in which c takes nothing changes nothing of what it was sent.
 pub sent-other : (first : Configuration) (h : List Event) (c : ℕ) (e : Event) → IsAccepted first h → taken_by c e ≡ 0 → sent first c (e ∷ h) ≡ sent first c h
@@ -90,36 +83,9 @@ sent-lost_report first h u d piece (suc k) = sent-reports first h u d (front (su
 
 -- Nor does any other refusal.
 pub sent-refused : (first : Configuration) (h : List Event) (d : ℕ) (r : Refused) (e : Event) → IsAccepted first h → sent first d (after_refusal r e h) ≡ sent first d h
-sent-refused first h d (Memory (Line c k)) (Moment t) accepted = refl
-sent-refused first h d (Memory (Report v k)) (Moment t) accepted = refl
-sent-refused first h d (Memory (Line c k)) (Open a) accepted = refl
-sent-refused first h d (Memory (Report v k)) (Open a) accepted = refl
 sent-refused first h d (Memory (Line c k)) (Bytes b piece) accepted = sent-lost first h b d piece k accepted
-sent-refused first h d (Memory (Report v k)) (Bytes b piece) accepted = refl
-sent-refused first h d (Memory (Line c k)) (Took b n) accepted = refl
-sent-refused first h d (Memory (Report v k)) (Took b n) accepted = refl
-sent-refused first h d (Memory (Line c k)) (Close b) accepted = refl
-sent-refused first h d (Memory (Report v k)) (Close b) accepted = refl
-sent-refused first h d (Memory (Line c k)) (WriteFailed b) accepted = refl
-sent-refused first h d (Memory (Report v k)) (WriteFailed b) accepted = refl
-sent-refused first h d (Memory (Line c k)) (DriverUp u) accepted = refl
-sent-refused first h d (Memory (Report v k)) (DriverUp u) accepted = refl
-sent-refused first h d (Memory (Line c k)) (DriverBytes u piece) accepted = refl
 sent-refused first h d (Memory (Report v k)) (DriverBytes u piece) accepted = sent-lost_report first h u d piece k
-sent-refused first h d (Memory (Line c k)) (DriverTook u n) accepted = refl
-sent-refused first h d (Memory (Report v k)) (DriverTook u n) accepted = refl
-sent-refused first h d (Memory (Line c k)) (DriverDown u) accepted = refl
-sent-refused first h d (Memory (Report v k)) (DriverDown u) accepted = refl
-sent-refused first h d (Memory (Line c k)) (Reload j) accepted = refl
-sent-refused first h d (Memory (Report v k)) (Reload j) accepted = refl
-sent-refused first h d (Memory NewUpses) e accepted = refl
-sent-refused first h d NoSuchConnection e accepted = refl
-sent-refused first h d NotConnected e accepted = refl
-sent-refused first h d PieceTooLong e accepted = refl
-sent-refused first h d Busy e accepted = refl
-sent-refused first h d TooMuchTaken e accepted = refl
-sent-refused first h d BadAddress e accepted = refl
-sent-refused first h d Full e accepted = refl
+sent-refused first h d r e accepted = refl
 
 -- What the content says waits for an open connection is what the history says.
 pub waiting_is : (first : Configuration) (h : List Event) (c : ℕ) (k : Session) → session_of c (content first h).sessions ≡ Some k → waiting_of c (content first h).sessions ≡ waits first c h
@@ -143,8 +109,6 @@ sent-took_told first h s c n told accepted =
 
 pub sent-received : SentIsReceived
 sent-received first [] c accepted = refl
-sent-received first (Moment t ∷ h) c accepted = sent-received first h c accepted.0
-sent-received first (Open a ∷ h) c accepted = sent-received first h c accepted.0
 sent-received first (Bytes d piece ∷ h) c accepted = sent-bytes first h d c piece (all_covered first h c accepted.0) ∙ sent-received first h c accepted.0
 sent-received first (Took d n ∷ h) c accepted =
     elim (cases_Bool (eqb d c)) [
@@ -157,13 +121,8 @@ sent-received first (Took d n ∷ h) c accepted =
           ∙ ap (λ bytes. received first c h ++ take n bytes) (sym (waiting_is first h c found.0 here)))
       | inr e ↦ rw e (sent-received first h c accepted.0)
     ]
-sent-received first (Close d ∷ h) c accepted = sent-received first h c accepted.0
-sent-received first (WriteFailed d ∷ h) c accepted = sent-received first h c accepted.0
-sent-received first (DriverUp u ∷ h) c accepted = sent-received first h c accepted.0
 sent-received first (DriverBytes u piece ∷ h) c accepted = sent-reports first h u c piece ∙ sent-received first h c accepted.0
-sent-received first (DriverTook u n ∷ h) c accepted = sent-received first h c accepted.0
-sent-received first (DriverDown u ∷ h) c accepted = sent-received first h c accepted.0
-sent-received first (Reload k ∷ h) c accepted = sent-received first h c accepted.0
+sent-received first (e ∷ h) c accepted = sent-received first h c accepted.0
 
 pub sent-waits : (first : Configuration) (h : List Event) (c : ℕ) → sent first c h ++ waits first c h ≡ due c (past first h)
 sent-waits first h c = take-append-drop (taken c h) (due c (past first h))

@@ -1,15 +1,15 @@
 -- The session found under a number after one session is changed or removed, and after bytes of one.
 use Rattle.std.proofs.Common.{◌≡◌, ℕ, true, false, eqb, List, [], ◌∷◌, ◌++◌, drop, refl, ◌∙◌, ap, inl, inr, Option, Some, None, Bool, filter}
-use Rattle.std.specs.Prelude.{option_map}
+use Rattle.std.specs.Prelude.{if◌then◌else◌, map, option_map}
+use Rattle.nut_server_spec.specs.Numbering.{is_taken}
 use Rattle.std.proofs.Common.{sym}
 use Rattle.std.proofs.Math.Seq.{drop-nil}
 use Rattle.std.proofs.lemmas.Bool.{cases_Bool, eqb-true, eq-eqb}
 use Rattle.nut_words.specs.Lines.{Text, joined}
-use Rattle.nut_server_spec.specs.Command.{Command, command_of}
-use Rattle.nut_server_spec.specs.Answer.{Answer}
+use Rattle.nut_server_spec.specs.Command.{command_of}
 use Rattle.nut_server_spec.specs.Content.{Session, Content, numbering_of}
 use Rattle.nut_server_spec.specs.Acceptance.{session_of, waiting_in, waiting_of}
-use Rattle.nut_server_spec.specs.machine.Machine.{update, without, with_rest, with_sessions, answered, answer_in, after_answer, line_heard, byte_heard, bytes_heard}
+use Rattle.nut_server_spec.specs.machine.Machine.{update, without, with_rest, answered, answer_in, line_heard, byte_heard, bytes_heard}
 use Rattle.nut_server_spec.proofs.Law.{eqb_turn}
 use Rattle.std.specs.Option.{option_map_or}
 
@@ -100,49 +100,39 @@ waiting_of-took c n sessions =
 
 -- ---- bytes of a connection
 
--- A line of c leaves the sessions of other connections as they are.
-after_answer-other : (c d : ℕ) (command : Command) (reply : Answer) (s : Content) → eqb d c ≡ false → session_of d (after_answer c command reply s).sessions ≡ session_of d s.sessions
-after_answer-other c d command reply s differ =
-    session_of-update_other c d (λ k. with_rest (Text []) (answered (numbering_of s) command reply k)) s.sessions (λ k. refl) differ
+-- What holds of sessions, and of those after any change of c that leaves its number and its address, holds after bytes of c.
+module _ (P : List Session → Type 0) (c : ℕ)
+    (keeps : (change : Session → Session) (ks : List Session) → KeepsNumber change → ((k : Session) → (change k).address ≡ k.address) → P ks → P (update c change ks)) where
+  line_heard-keeps : (o : Option Session) (s : Content) → P s.sessions → P (line_heard c o s).sessions
+  line_heard-keeps None s is = is
+  line_heard-keeps (Some k) s is =
+      let command = command_of k.rest in
+      keeps (λ j. with_rest (Text []) (answered (numbering_of s) command (answer_in s command k) j)) s.sessions (λ j. refl) (λ j. refl) is
 
-line_heard-other : (c d : ℕ) (o : Option Session) (s : Content) → eqb d c ≡ false → session_of d (line_heard c o s).sessions ≡ session_of d s.sessions
-line_heard-other c d None s differ = refl
-line_heard-other c d (Some k) s differ = after_answer-other c d (command_of k.rest) (answer_in s (command_of k.rest) k) s differ
+  byte_heard-keeps : (b : ℕ) (s : Content) → P s.sessions → P (byte_heard c b s).sessions
+  byte_heard-keeps b s is =
+      elim (cases_Bool (eqb b 10)) [
+        | inl e ↦ rw e (line_heard-keeps (session_of c s.sessions) s is)
+        | inr e ↦ rw e (keeps (λ k. with_rest (joined k.rest (b ∷ [])) k) s.sessions (λ k. refl) (λ k. refl) is)
+      ]
 
-byte_heard-other : (c d b : ℕ) (s : Content) → eqb d c ≡ false → session_of d (byte_heard c b s).sessions ≡ session_of d s.sessions
-byte_heard-other c d b s differ =
-    elim (cases_Bool (eqb b 10)) [
-      | inl e ↦ rw e (line_heard-other c d (session_of c s.sessions) s differ)
-      | inr e ↦ rw e (session_of-update_other c d (λ k. with_rest (joined k.rest (b ∷ [])) k) s.sessions (λ k. refl) differ)
-    ]
+  pub bytes_heard-keeps : (piece : List ℕ) (s : Content) → P s.sessions → P (bytes_heard c piece s).sessions
+  bytes_heard-keeps [] s is = is
+  bytes_heard-keeps (b ∷ piece) s is = bytes_heard-keeps piece (byte_heard c b s) (byte_heard-keeps b s is)
 
+-- The sessions of other connections stay as they are.
 pub bytes_heard-other : (c d : ℕ) (piece : List ℕ) (s : Content) → eqb d c ≡ false → session_of d (bytes_heard c piece s).sessions ≡ session_of d s.sessions
-bytes_heard-other c d [] s differ = refl
-bytes_heard-other c d (b ∷ piece) s differ = bytes_heard-other c d piece (byte_heard c b s) differ ∙ byte_heard-other c d b s differ
+bytes_heard-other c d piece s differ =
+    bytes_heard-keeps (λ ks. session_of d ks ≡ session_of d s.sessions) c (λ change ks keeps same is. session_of-update_other c d change ks keeps differ ∙ is) piece s refl
 
 -- The connection c is open.
 abbrev pub IsOpen : ℕ → Content → Type 0
 IsOpen c s = (k : Session) × (session_of c s.sessions ≡ Some k)
 
-update-open : (c : ℕ) (change : Session → Session) (s : Content) → KeepsNumber change → IsOpen c s → IsOpen c (with_sessions (update c change s.sessions) s)
-update-open c change s keeps is = (change is.0, session_of-update c change s.sessions keeps ∙ ap (option_map change) is.1)
-
-line_heard-open : (c : ℕ) (o : Option Session) (s : Content) → IsOpen c s → IsOpen c (line_heard c o s)
-line_heard-open c None s is = is
-line_heard-open c (Some k) s is =
-    let command = command_of k.rest in
-    update-open c (λ j. with_rest (Text []) (answered (numbering_of s) command (answer_in s command k) j)) s (λ j. refl) is
-
-byte_heard-open : (c b : ℕ) (s : Content) → IsOpen c s → IsOpen c (byte_heard c b s)
-byte_heard-open c b s is =
-    elim (cases_Bool (eqb b 10)) [
-      | inl e ↦ rw e (line_heard-open c (session_of c s.sessions) s is)
-      | inr e ↦ rw e (update-open c (λ k. with_rest (joined k.rest (b ∷ [])) k) s (λ k. refl) is)
-    ]
-
 pub bytes_heard-open : (c : ℕ) (piece : List ℕ) (s : Content) → IsOpen c s → IsOpen c (bytes_heard c piece s)
-bytes_heard-open c [] s is = is
-bytes_heard-open c (b ∷ piece) s is = bytes_heard-open c piece (byte_heard c b s) (byte_heard-open c b s is)
+bytes_heard-open c piece s is =
+    bytes_heard-keeps (λ ks. (k : Session) × (session_of c ks ≡ Some k)) c
+    (λ change ks keeps same open'. (change open'.0, session_of-update c change ks keeps ∙ ap (option_map change) open'.1)) piece s is
 
 -- ---- some connections are closed
 
@@ -157,4 +147,14 @@ session_of-filter d q (k ∷ sessions) stays =
             | inl f ↦ rw (f, e) (session_of-filter d q sessions later)
             | inr f ↦ rw (f, e) (session_of-filter d q sessions later)
           ]
+    ]
+
+-- the session with a number, among those of these numbers
+pub session_of-map : (f : ℕ → Session) (c : ℕ) (ns : List ℕ) → ((d : ℕ) → (f d).number ≡ d) → session_of c (map f ns) ≡ (if is_taken c ns then Some (f c) else None)
+session_of-map f c [] numbered = refl
+session_of-map f c (n ∷ ns) numbered =
+    let test : eqb (f n).number c ≡ eqb n c = ap (λ m. eqb m c) (numbered n) in
+    elim (cases_Bool (eqb n c)) [
+      | inl e ↦ let here : eqb (f n).number c ≡ true = test ∙ e in rw (here, e) (ap (λ m. Some (f m)) (eqb-true n c e))
+      | inr e ↦ let here : eqb (f n).number c ≡ false = test ∙ e in rw (here, e) (session_of-map f c ns numbered)
     ]

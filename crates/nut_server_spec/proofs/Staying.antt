@@ -1,6 +1,6 @@
 -- What a reload makes of each UPS, and of the connections that are logged in to it.
 use Rattle.std.proofs.Common.{◌≡◌, ℕ, ◌<◌, Bool, true, false, not, eqb, List, [], ◌∷◌, filter, map, length, refl, sym, ◌∙◌, ap, arith, inl, inr, Option, Some, None}
-use Rattle.std.specs.Prelude.{max, option_map}
+use Rattle.std.specs.Prelude.{if◌then◌else◌, max, option_map}
 use Rattle.std.specs.Option.{option_map_or}
 use Rattle.std.specs.Str.{bytes_eq}
 use Rattle.std.proofs.lemmas.Bool.{cases_Bool, eqb-true, true≢false}
@@ -9,7 +9,7 @@ use Rattle.nut_server_spec.specs.Acceptance.{session_of, supply_of}
 use Rattle.nut_server_spec.specs.Configuration.{Configuration, Ups, ups_named}
 use Rattle.nut_server_spec.specs.Content.{Session, content, past, session, supply, down}
 use Rattle.nut_server_spec.specs.Event.{Event, Reload}
-use Rattle.nut_server_spec.specs.Numbering.{Fate, Cleared, Numbering, fate_between, fate_by_driver, fate_of, is_cleared, is_to_cleared, number_of, ups_with}
+use Rattle.nut_server_spec.specs.Numbering.{Fate, Cleared, Numbering, Kept, Disconnected, fate_between, fate_of, is_cleared, is_to_cleared, number_of, ups_with}
 use Rattle.nut_server_spec.specs.Trace.{login, numbering, open_numbers, places}
 use Rattle.nut_server_spec.specs.laws.Reloads.{NamesAreDistinct, UpsesStay}
 use Rattle.nut_server_spec.specs.machine.Machine.{fated}
@@ -51,7 +51,7 @@ fate_in first h k u = fate_of k.upses (numbering first (past first h)) u
 -- A UPS stays if its name is in both configurations.
 fate_staying : (first : Configuration) (h : List Event) (k : Configuration) (name : List ℕ) (u : ℕ) (old new : Ups) → NamesAreDistinct first (Reload k ∷ h)
     → number_of name (numbering first (past first h)) ≡ Some u → ups_named name (numbering first (past first h)).upses ≡ Some old → ups_named name k.upses ≡ Some new
-    → fate_in first h k u ≡ fate_by_driver (bytes_eq old.driver new.driver)
+    → fate_in first h k u ≡ (if bytes_eq old.driver new.driver then Kept else Disconnected)
 fate_staying first h k name u old new names is before after =
     let now = numbering first (past first h) in
     let later = then_of first h k in
@@ -137,17 +137,17 @@ is_closed first h k c j found cleared =
 
 -- ---- the law
 
-keeps_login : (b : Bool) → is_cleared (fate_by_driver b) ≡ false
+keeps_login : (b : Bool) → is_cleared (if b then Kept else Disconnected) ≡ false
 keeps_login true = refl
 keeps_login false = refl
 
 pub upses-stay : UpsesStay
 upses-stay = record {
   same_driver = λ first h k name u old new names is before after same.
-      let fate = fate_staying first h k name u old new names is before after ∙ ap fate_by_driver ((bytes_eq-Decides old.driver new.driver).1 same) in
+      let fate = fate_staying first h k name u old new names is before after ∙ ap (λ b. if b then Kept else Disconnected) ((bytes_eq-Decides old.driver new.driver).1 same) in
       supply_then first h k name u is ∙ ap (λ x. Some (fated x (supply first h u))) fate ∙ sym (supply_before first h name u is);
   other_driver = λ first h k name u old new names is before after differ.
-      let fate = fate_staying first h k name u old new names is before after ∙ ap fate_by_driver (not_equal old.driver new.driver differ) in
+      let fate = fate_staying first h k name u old new names is before after ∙ ap (λ b. if b then Kept else Disconnected) (not_equal old.driver new.driver differ) in
       supply_then first h k name u is ∙ ap (λ x. Some (fated x (supply first h u))) fate ∙ sym (ap (option_map down) (supply_before first h name u is));
   added = λ first h k name u names before is.
       let t = past first (Reload k ∷ h) in

@@ -8,9 +8,9 @@ use Rattle.nut_words.specs.declared.limits.TheConstants.{PIECE_MAX}
 use Rattle.nut_server_spec.specs.declared.Place.{Place}
 use Rattle.nut_server_spec.specs.declared.Place.TheVariants.{Line, Report, NewUpses}
 use Rattle.nut_server_spec.specs.declared.Refused.{Refused}
-use Rattle.nut_server_spec.specs.declared.Refused.TheVariants.{NoSuchConnection, NotConnected, PieceTooLong, Busy, TooMuchTaken, BadAddress, Full, Memory}
+use Rattle.nut_server_spec.specs.declared.Refused.TheVariants.{Memory}
 use Rattle.nut_server_spec.specs.Configuration.{Configuration}
-use Rattle.nut_server_spec.specs.Event.{Event, Moment, Open, Bytes, Took, Close, WriteFailed, DriverUp, DriverBytes, DriverTook, DriverDown, Reload}
+use Rattle.nut_server_spec.specs.Event.{Event, Bytes, Close, DriverBytes, DriverDown, Reload}
 use Rattle.nut_server_spec.specs.Content.{Session, Supply, Content, content, supply, past}
 use Rattle.nut_server_spec.specs.Acceptance.{refusal, IsAccepted, Tells, front, lost, lost_report, session_of, supply_of, bytes_refusal, close_refusal, report_refusal, down_refusal}
 use Rattle.nut_server_spec.specs.machine.Machine.{advance, bytes_reported, with_supplies}
@@ -124,38 +124,13 @@ lack : (first : Configuration) (h : List Event) (s : Content) (e : Event) (place
     → Tells first (after_lack place e h) (content_after_lack place e s)
 lack first h s (Bytes d piece) (Line c k) told accepted may = tells-lost first h s d piece k told accepted
 lack first h s (DriverBytes v piece) (Report u k) told accepted may = tells-lost_report first h s v piece k told accepted
-lack first h s (Moment t) (Line c k) told accepted may = absurd may
-lack first h s (Moment t) (Report u k) told accepted may = absurd may
-lack first h s (Open address) (Line c k) told accepted may = absurd may
-lack first h s (Open address) (Report u k) told accepted may = absurd may
-lack first h s (Bytes d piece) (Report u k) told accepted may = absurd may
-lack first h s (Took d n) (Line c k) told accepted may = absurd may
-lack first h s (Took d n) (Report u k) told accepted may = absurd may
-lack first h s (Close d) (Line c k) told accepted may = absurd may
-lack first h s (Close d) (Report u k) told accepted may = absurd may
-lack first h s (WriteFailed d) (Line c k) told accepted may = absurd may
-lack first h s (WriteFailed d) (Report u k) told accepted may = absurd may
-lack first h s (DriverUp v) (Line c k) told accepted may = absurd may
-lack first h s (DriverUp v) (Report u k) told accepted may = absurd may
-lack first h s (DriverBytes v piece) (Line c k) told accepted may = absurd may
-lack first h s (DriverTook v n) (Line c k) told accepted may = absurd may
-lack first h s (DriverTook v n) (Report u k) told accepted may = absurd may
-lack first h s (DriverDown v) (Line c k) told accepted may = absurd may
-lack first h s (DriverDown v) (Report u k) told accepted may = absurd may
-lack first h s (Reload j) (Line c k) told accepted may = absurd may
-lack first h s (Reload j) (Report u k) told accepted may = absurd may
 lack first h s e NewUpses told accepted may = told
+lack first h s e place told accepted may = absurd may
 
 refused : (first : Configuration) (h : List Event) (s : Content) (e : Event) (r : Refused) → Tells first h s → Refuses s e r
     → Tells first (after_refusal r e h) (content_after_refusal r e s)
 refused first h s e (Memory place) told is = lack first h s e place told is.0 is.1
-refused first h s e NoSuchConnection told is = told
-refused first h s e NotConnected told is = told
-refused first h s e PieceTooLong told is = told
-refused first h s e Busy told is = told
-refused first h s e TooMuchTaken told is = told
-refused first h s e BadAddress told is = told
-refused first h s e Full told is = told
+refused first h s e r told is = told
 
 -- What a server holds after any answer that it may give is the content of the history after it.
 pub tells-after : {U : Type 0} (first : Configuration) (h : List Event) (s : Content) (e : Event) (r : Result U Refused) → Tells first h s → Answers s e r
@@ -216,49 +191,16 @@ supplies_are : (first : Configuration) (h : List Event) → length (content firs
 supplies_are first h = length-map (ups_numbers first (past first h)) (supply first h) ∙ below-length (places first (past first h))
 
 lacks : (first : Configuration) (h : List Event) (s : Content) (e : Event) (place : Place) → Tells first h s → refusal s e ≡ None → Lacks s place e → MayLack first h place e
-lacks first h s (Moment t) (Line c k) told accepted may = absurd may
-lacks first h s (Moment t) (Report u k) told accepted may = absurd may
-lacks first h s (Open address) (Line c k) told accepted may = absurd may
-lacks first h s (Open address) (Report u k) told accepted may = absurd may
 lacks first h s (Bytes d piece) (Line c k) told accepted may = (may.0, runs_out first h s d piece k told accepted may.1)
-lacks first h s (Bytes d piece) (Report u k) told accepted may = absurd may
-lacks first h s (Took d n) (Line c k) told accepted may = absurd may
-lacks first h s (Took d n) (Report u k) told accepted may = absurd may
-lacks first h s (Close d) (Line c k) told accepted may = absurd may
-lacks first h s (Close d) (Report u k) told accepted may = absurd may
-lacks first h s (WriteFailed d) (Line c k) told accepted may = absurd may
-lacks first h s (WriteFailed d) (Report u k) told accepted may = absurd may
-lacks first h s (DriverUp v) (Line c k) told accepted may = absurd may
-lacks first h s (DriverUp v) (Report u k) told accepted may = absurd may
-lacks first h s (DriverBytes v piece) (Line c k) told accepted may = absurd may
 lacks first h s (DriverBytes v piece) (Report u k) told accepted may = (may.0, runs_out_of first h s v piece k told accepted may.1)
-lacks first h s (DriverTook v n) (Line c k) told accepted may = absurd may
-lacks first h s (DriverTook v n) (Report u k) told accepted may = absurd may
-lacks first h s (DriverDown v) (Line c k) told accepted may = absurd may
-lacks first h s (DriverDown v) (Report u k) told accepted may = absurd may
-lacks first h s (Reload j) (Line c k) told accepted may = absurd may
-lacks first h s (Reload j) (Report u k) told accepted may = absurd may
 lacks first h s (Reload j) NewUpses told accepted may = omega (arith, may, ap (λ (x : Content). length x.supplies) told.1, supplies_are first h)
-lacks first h s (Moment t) NewUpses told accepted may = absurd may
-lacks first h s (Open address) NewUpses told accepted may = absurd may
-lacks first h s (Bytes d piece) NewUpses told accepted may = absurd may
-lacks first h s (Took d n) NewUpses told accepted may = absurd may
-lacks first h s (Close d) NewUpses told accepted may = absurd may
-lacks first h s (WriteFailed d) NewUpses told accepted may = absurd may
-lacks first h s (DriverUp v) NewUpses told accepted may = absurd may
-lacks first h s (DriverBytes v piece) NewUpses told accepted may = absurd may
-lacks first h s (DriverTook v n) NewUpses told accepted may = absurd may
-lacks first h s (DriverDown v) NewUpses told accepted may = absurd may
+lacks first h s e (Line c k) told accepted may = absurd may
+lacks first h s e (Report u k) told accepted may = absurd may
+lacks first h s e NewUpses told accepted may = absurd may
 
 refuses : (first : Configuration) (h : List Event) (s : Content) (e : Event) (r : Refused) → Tells first h s → Refuses s e r → IsRefusal first h e r
 refuses first h s e (Memory place) told is = (subst (λ x. refusal x e ≡ None) told.1 is.0, lacks first h s e place told is.0 is.1)
-refuses first h s e NoSuchConnection told is = subst (λ x. refusal x e ≡ Some NoSuchConnection) told.1 is
-refuses first h s e NotConnected told is = subst (λ x. refusal x e ≡ Some NotConnected) told.1 is
-refuses first h s e PieceTooLong told is = subst (λ x. refusal x e ≡ Some PieceTooLong) told.1 is
-refuses first h s e Busy told is = subst (λ x. refusal x e ≡ Some Busy) told.1 is
-refuses first h s e TooMuchTaken told is = subst (λ x. refusal x e ≡ Some TooMuchTaken) told.1 is
-refuses first h s e BadAddress told is = subst (λ x. refusal x e ≡ Some BadAddress) told.1 is
-refuses first h s e Full told is = subst (λ x. refusal x e ≡ Some Full) told.1 is
+refuses first h s e r told is = subst (λ x. refusal x e ≡ Some r) told.1 is
 
 -- What the machine answers is what a server may answer that was told the history.
 pub answers-told : {U : Type 0} (first : Configuration) (h : List Event) (s : Content) (e : Event) (r : Result U Refused) → Tells first h s → Answers s e r → IsAnswer first h e r

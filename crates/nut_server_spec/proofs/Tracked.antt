@@ -10,14 +10,14 @@ use Rattle.std.proofs.lemmas.Grind.{flat_map-append}
 use Rattle.std.proofs.lemmas.Iterator.Adapters.{option_map_id}
 use Rattle.nut_words.specs.Lines.{LineText}
 use Rattle.nut_proto.specs.declared.tracking.TrackingStatus.{TrackingStatus}
-use Rattle.nut_proto.specs.declared.tracking.TrackingStatus.TheVariants.{Pending, Success, Failed, Unknown}
+use Rattle.nut_proto.specs.declared.tracking.TrackingStatus.TheVariants.{Pending, Unknown}
 use Rattle.nut_server_spec.specs.declared.limits.TheConstants.{TRACKED_MAX}
 use Rattle.nut_server_spec.specs.Answer.{Answer}
 use Rattle.nut_server_spec.specs.Command.{command_of}
 use Rattle.nut_server_spec.specs.Configuration.{Configuration}
 use Rattle.nut_server_spec.specs.Content.{content, past, supply}
 use Rattle.nut_server_spec.specs.Effect.{at_target, number_in, target}
-use Rattle.nut_server_spec.specs.Event.{Step, Clock, Opened, Said, Gone, Up, Reported, Drained, Down, Reloaded, steps}
+use Rattle.nut_server_spec.specs.Event.{Step, Clock, Said, Up, Reported, Down, steps}
 use Rattle.nut_server_spec.specs.Numbering.{Fate, Kept, Disconnected, Cleared, Numbering, below, by_fate}
 use Rattle.nut_server_spec.specs.Trace.{Entry, numbering, places, places_after, given, given_then, tracked, tracked_after, trace, answer_at, asks_at, fate_at, closes_at, device, scene, caller, logged_out, ups_numbers}
 use Rattle.nut_server_spec.specs.Tracking.{Tracked, abandoned, all_abandoned, ended_by, judged, told_in, with_tracked}
@@ -63,8 +63,6 @@ entry first before step = record {
 }
 
 given_at : (first : Configuration) (before : List Entry) (step : Step) → IsGivenAt first before (entry first before step)
-given_at first before (Clock t) = λ number is. cc
-given_at first before (Opened a) = λ number is. cc
 given_at first before (Said c line) = λ number is.
     let given = answered_given (scene first before) (are_known first before) (caller first before c) (command_of line) (logged_out c before) number is in
     record {
@@ -77,12 +75,7 @@ given_at first before (Said c line) = λ number is.
       within = omega (arith, given.1.2, device_count first before);
       kept = λ u. refl;
     }
-given_at first before (Gone c) = λ number is. cc
-given_at first before (Up v) = λ number is. cc
-given_at first before (Reported v line) = λ number is. cc
-given_at first before (Drained v n) = λ number is. cc
-given_at first before (Down v) = λ number is. cc
-given_at first before (Reloaded k) = λ number is. cc
+given_at first before step = λ number is. cc
 
 are_given : (first : Configuration) (ss : List Step) → AreGiven first (trace first ss)
 are_given first [] = tt
@@ -107,14 +100,7 @@ not_yet first n (e ∷ before) are less = by (number_in e.answer) refl (not_yet 
 
 places_grow : (step : Step) (n : ℕ) → n ≤ places_after step n
 places_grow (Clock t) n = omega arith
-places_grow (Opened a) n = omega arith
-places_grow (Said c line) n = omega arith
-places_grow (Gone c) n = omega arith
-places_grow (Up v) n = omega arith
-places_grow (Reported v line) n = omega arith
-places_grow (Drained v m) n = omega arith
-places_grow (Down v) n = omega arith
-places_grow (Reloaded k) n = omega arith
+places_grow step n = omega arith
 
 asked_within : (first : Configuration) (n w : ℕ) (t : List Entry) → AreGiven first t → asked_ups first n t ≡ Some w → w < places first t
 asked_within first n w [] are is = cc
@@ -172,9 +158,7 @@ known status = Some status
 
 known_status : (status : TrackingStatus) → answered (known status) ≡ status
 known_status Pending = refl
-known_status Success = refl
-known_status Failed = refl
-known_status Unknown = refl
+known_status status = refl
 
 -- This change of statuses makes no unknown status known, and no known one unknown.
 abbrev KeepsKnown : (TrackingStatus → TrackingStatus) → Type 0
@@ -182,15 +166,11 @@ KeepsKnown f = (status : TrackingStatus) → option_map f (known status) ≡ kno
 
 abandoned_keeps : KeepsKnown abandoned
 abandoned_keeps Pending = refl
-abandoned_keeps Success = refl
-abandoned_keeps Failed = refl
-abandoned_keeps Unknown = refl
+abandoned_keeps status = refl
 
 judged_keeps : (told : ℕ) → KeepsKnown (judged told)
 judged_keeps told Pending = elim (cases_Bool (eqb told 0)) [ inl e ↦ rw e refl | inr e ↦ rw e refl ]
-judged_keeps told Success = refl
-judged_keeps told Failed = refl
-judged_keeps told Unknown = refl
+judged_keeps told status = refl
 
 ended_keeps : (told : Option (ℕ × ℕ)) (n : ℕ) → KeepsKnown (ended_by told n)
 ended_keeps None n = λ status. option_map_id (known status)
@@ -258,18 +238,14 @@ module _ (n u : ℕ) where
   of_quiet : (now : Numbering) (step : Step) (reply : Answer) (o : Option ℕ) (since : ℕ) (status : TrackingStatus) (xs : List Tracked) → number_in reply ≡ None
       → IsAsExpected o since status xs
       → IsAsExpected o (at_target u (target_at now step) (given_then reply) since) (ended_after u n step status) (tracked_after now u step reply xs)
-  of_quiet now (Clock t) reply o since status xs quiet before = before
-  of_quiet now (Opened a) reply o since status xs quiet before = before
   of_quiet now (Said c line) reply o since status xs quiet before =
       let asked = target now (command_of line) in
       rw (at_same u asked (given_then reply) since (rw quiet refl), at_same u asked (with_tracked (number_in reply)) xs (rw quiet refl)) before
-  of_quiet now (Gone c) reply o since status xs quiet before = before
   of_quiet now (Up v) reply o since status xs quiet before = of_restated (v == u) (λ m. abandoned) abandoned_keeps o since status xs before
   of_quiet now (Reported v line) reply o since status xs quiet before =
       of_restated (v == u) (ended_by (told_in line)) (ended_keeps (told_in line) n) o since status xs before
-  of_quiet now (Drained v m) reply o since status xs quiet before = before
   of_quiet now (Down v) reply o since status xs quiet before = of_restated (v == u) (λ m. abandoned) abandoned_keeps o since status xs before
-  of_quiet now (Reloaded k) reply o since status xs quiet before = before
+  of_quiet now step reply o since status xs quiet before = before
 
   -- what becomes of u
   of_fate : (fate : Fate) (o : Option ℕ) (since : ℕ) (status : TrackingStatus) (xs : List Tracked) → IsAsExpected o since status xs

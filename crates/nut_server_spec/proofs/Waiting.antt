@@ -2,7 +2,7 @@
 use Rattle.std.proofs.Common.{◌≡◌, ℕ, zero, suc, ◌+◌, ◌*◌, ◌<◌, ◌≤◌, Bool, true, false, eqb, List, [], ◌∷◌, length, map, drop, refl, sym, subst, ◌∙◌, ap, arith, inl, inr, Option, Some, None, length-append, length-drop}
 use Rattle.std.specs.Prelude.{◌&&◌, if◌then◌else◌, not, nat_lt, nat_le, option_map, filter}
 use Rattle.std.specs.List.{AllByRecursion, list_all}
-use Rattle.std.proofs.lemmas.Bool.{cases_Bool, eqb-true, ltb-true, ltb-false, leb-true}
+use Rattle.std.proofs.lemmas.Bool.{and_parts, cases_Bool, eqb-true, ltb-true, ltb-false, leb-true}
 use Rattle.std.proofs.lemmas.List.{length-map}
 use Rattle.nut_conf.specs.declared.limits.TheConstants.{CONNECTIONS_MAX}
 use Rattle.nut_words.specs.Lines.{LineText, Text, TooLong, joined}
@@ -14,21 +14,21 @@ use Rattle.nut_state.specs.Table.{empty}
 use Rattle.nut_server_spec.specs.declared.Refused.TheVariants.{PieceTooLong, Busy, BadAddress, Full}
 use Rattle.nut_server_spec.specs.Configuration.{Configuration}
 use Rattle.nut_server_spec.specs.Command.{Command, Blank, command_of}
-use Rattle.nut_server_spec.specs.Event.{Event, Moment, Open, Bytes, Took, Close, WriteFailed, DriverUp, DriverBytes, DriverTook, DriverDown, Reload, input, driver_input, steps, brought}
+use Rattle.nut_server_spec.specs.Event.{Event, Open, Bytes, Took, Close, WriteFailed, DriverBytes, Reload, input, driver_input, steps, brought}
 use Rattle.nut_server_spec.specs.Answer.{Answer, Silence, Guest, text_of, answer}
 use Rattle.nut_server_spec.specs.Device.{Device}
 use Rattle.nut_server_spec.specs.Effect.{target}
 use Rattle.nut_server_spec.specs.Trace.{configuration, reports, ups_numbers}
 use Rattle.nut_server_spec.specs.Content.{Session, Supply, Content, content, past, supply, numbering_of, fresh}
 use Rattle.nut_server_spec.specs.Acceptance.{IsAccepted, refusal, session_of, waiting_in, waiting_of, is_address, open_refusal, bytes_refusal}
-use Rattle.nut_server_spec.specs.machine.Machine.{advance, update, update_at, act_on, acted, answered, after_answer, answer_in, caller_of, scene_of, guest_of, with_rest, line_heard, byte_heard, bytes_heard, without}
+use Rattle.nut_server_spec.specs.machine.Machine.{advance, update, update_at, act_on, acted, answered, answer_in, caller_of, scene_of, guest_of, with_rest, line_heard, byte_heard, bytes_heard, without}
 use Rattle.nut_server_spec.specs.laws.Laws.{IsOther, connection_of, closes, most_allowed}
 use Rattle.nut_server_spec.specs.laws.Limits.{IsWithin, WaitsAreBounded, most_waits, AreWithin}
 use Rattle.nut_server_spec.proofs.Alls.{all_append, all_filter, all_map}
 use Rattle.nut_server_spec.proofs.AnswerLengths.{IsFit, IsShortScene, answer_fit, fewer, fit_silence, IsReadableCommand, readable-command}
 use Rattle.nut_server_spec.proofs.Kept.{keeps-content, session_is}
 use Rattle.nut_server_spec.proofs.Others.{advance-other, advance-took, advance-close, advance-write_failed, opened-fresh, configuration_lines, configuration_reports}
-use Rattle.nut_server_spec.proofs.Sessions.{session_of-update, session_of-filter}
+use Rattle.nut_server_spec.proofs.Sessions.{bytes_heard-keeps, session_of-update, session_of-filter}
 use Rattle.nut_server_spec.proofs.Tables.{IsShortTable, table_short}
 use Rattle.nut_server_spec.specs.declared.limits.TheConstants.{ADDRESS_MAX, OPENED_MAX}
 use Rattle.nut_server_spec.specs.Numbering.{fate_of, is_to_cleared}
@@ -61,28 +61,6 @@ few_filter m p ks are = record { few = omega (arith, fewer p ks, are.few); addre
 few_without : (m c : ℕ) (ks : List Session) → AreFew m ks → AreFew m (without c ks)
 few_without m c ks are = few_filter m (λ k. not (eqb k.number c)) ks are
 
-few_answer : (m c : ℕ) (command : Command) (reply : Answer) (s : Content) → AreFew m s.sessions → AreFew m (after_answer c command reply s).sessions
-few_answer m c command reply s are = few_update m c (λ k. with_rest (Text []) (answered (numbering_of s) command reply k)) s.sessions (λ k. refl) are
-
-few_line : (m c : ℕ) (o : Option Session) (s : Content) → AreFew m s.sessions → AreFew m (line_heard c o s).sessions
-few_line m c None s are = are
-few_line m c (Some k) s are = few_answer m c (command_of k.rest) (answer_in s (command_of k.rest) k) s are
-
-few_byte : (m c b : ℕ) (s : Content) → AreFew m s.sessions → AreFew m (byte_heard c b s).sessions
-few_byte m c b s are =
-    elim (cases_Bool (eqb b 10)) [
-      | inl e ↦ rw e (few_line m c (session_of c s.sessions) s are)
-      | inr e ↦ rw e (few_update m c (λ k. with_rest (joined k.rest (b ∷ [])) k) s.sessions (λ k. refl) are)
-    ]
-
-few_bytes : (m c : ℕ) (piece : List ℕ) (s : Content) → AreFew m s.sessions → AreFew m (bytes_heard c piece s).sessions
-few_bytes m c [] s are = are
-few_bytes m c (b ∷ bytes) s are = few_bytes m c bytes (byte_heard c b s) (few_byte m c b s are)
-
-both : (a b : Bool) → (a && b) ≡ true → (a ≡ true) × (b ≡ true)
-both true b e = (refl, e)
-both false b e = absurd (cc)
-
 -- an address that is accepted has at most ADDRESS_MAX bytes, and there is room and a number
 pub opened_few : (s : Content) (address : List ℕ) → open_refusal s address ≡ None
     → (length address ≤ ADDRESS_MAX) × (length s.sessions < s.configuration.most_connections) × (s.opened < OPENED_MAX)
@@ -91,9 +69,9 @@ opened_few s address accepted =
       | inl e ↦
           elim (cases_Bool (nat_lt (length s.sessions) s.configuration.most_connections && nat_lt s.opened OPENED_MAX)) [
             | inl f ↦
-                let sizes = both (nat_le 1 (length address) && nat_le (length address) ADDRESS_MAX) (list_all is_bare address) e in
-                let most = both (nat_le 1 (length address)) (nat_le (length address) ADDRESS_MAX) sizes.0 in
-                let room = both (nat_lt (length s.sessions) s.configuration.most_connections) (nat_lt s.opened OPENED_MAX) f in
+                let sizes = and_parts (nat_le 1 (length address) && nat_le (length address) ADDRESS_MAX) (list_all is_bare address) e in
+                let most = and_parts (nat_le 1 (length address)) (nat_le (length address) ADDRESS_MAX) sizes.0 in
+                let room = and_parts (nat_lt (length s.sessions) s.configuration.most_connections) (nat_lt s.opened OPENED_MAX) f in
                 (leb-true (length address) ADDRESS_MAX most.1, ltb-true (length s.sessions) s.configuration.most_connections room.0, ltb-true s.opened OPENED_MAX room.1)
             | inr f ↦ absurd (let bad : Some Full ≡ None = rw (e, f) at accepted in cc)
           ]
@@ -101,92 +79,48 @@ opened_few s address accepted =
     ]
 
 few_advance : (most : ℕ) (s : Content) (e : Event) → refusal s e ≡ None → s.configuration.most_connections ≤ most → AreFew most s.sessions → AreFew most (advance s e).sessions
-few_advance most s (Moment t) accepted allowed are = are
 few_advance most s (Open address) accepted allowed are =
     let k = fresh (s.opened + 1) address in
     let room = opened_few s address accepted in
     record { few = omega (arith, length-append s.sessions (k ∷ []), room.1, allowed); addresses = all_append (λ k. length k.address ≤ ADDRESS_MAX) s.sessions (k ∷ []) are.addresses (room.0, tt) }
-few_advance most s (Bytes c piece) accepted allowed are = few_bytes most c piece s are
+few_advance most s (Bytes c piece) accepted allowed are = bytes_heard-keeps (AreFew most) c (λ change ks keeps same are'. few_update most c change ks same are') piece s are
 few_advance most s (Took c n) accepted allowed are = few_update most c (λ k. record k { waits = drop n k.waits }) s.sessions (λ k. refl) are
 few_advance most s (Close c) accepted allowed are = few_without most c s.sessions are
 few_advance most s (WriteFailed c) accepted allowed are = few_without most c s.sessions are
-few_advance most s (DriverUp u) accepted allowed are = are
-few_advance most s (DriverBytes u piece) accepted allowed are = are
-few_advance most s (DriverTook u n) accepted allowed are = are
-few_advance most s (DriverDown u) accepted allowed are = are
 few_advance most s (Reload k) accepted allowed are = few_filter most (λ j. not (is_to_cleared (fate_of k.upses (numbering_of s)) j.login)) s.sessions are
+few_advance most s e accepted allowed are = are
 
 -- ---- the configurations of a history
 
 -- The configuration in force allows no more connections than one of those so far. If all are within the limits, so is it,
 -- and so are the connections.
-pub record IsAllowed (first : Configuration) (h : List Event) : Type 0 where
-  pub now : (configuration first (past first h)).most_connections ≤ most_allowed first h
-  pub within : AreWithin first h → IsWithin (configuration first (past first h))
-  pub few : AreWithin first h → most_allowed first h ≤ CONNECTIONS_MAX
+abbrev pub IsAllowed : Configuration → List Event → Configuration → Type 0
+IsAllowed first h now = (now.most_connections ≤ most_allowed first h) × (AreWithin first h → IsWithin now) × (AreWithin first h → most_allowed first h ≤ CONNECTIONS_MAX)
 
--- events after which the configuration is the one before
-same_allowed : (first : Configuration) (h : List Event) (later : Configuration) → later ≡ configuration first (past first h) → IsAllowed first h
-    → (later.most_connections ≤ most_allowed first h) × (AreWithin first h → IsWithin later)
-same_allowed first h later is before =
-    (omega (arith, before.now, ap (λ (c : Configuration). c.most_connections) is), λ within. subst IsWithin (sym is) (before.within within))
-
-pub allowed : (first : Configuration) (h : List Event) → IsAllowed first h
-allowed first [] = record { now = omega arith; within = λ within. within; few = λ within. within.connections }
-allowed first (Moment t ∷ h) = let before = allowed first h in record { now = before.now; within = before.within; few = before.few }
-allowed first (Open address ∷ h) = let before = allowed first h in record { now = before.now; within = before.within; few = before.few }
-allowed first (Took c n ∷ h) = let before = allowed first h in record { now = before.now; within = before.within; few = before.few }
-allowed first (Close c ∷ h) = let before = allowed first h in record { now = before.now; within = before.within; few = before.few }
-allowed first (WriteFailed c ∷ h) = let before = allowed first h in record { now = before.now; within = before.within; few = before.few }
-allowed first (DriverUp u ∷ h) = let before = allowed first h in record { now = before.now; within = before.within; few = before.few }
-allowed first (DriverTook u n ∷ h) = let before = allowed first h in record { now = before.now; within = before.within; few = before.few }
-allowed first (DriverDown u ∷ h) = let before = allowed first h in record { now = before.now; within = before.within; few = before.few }
-allowed first (Bytes c piece ∷ h) =
-    let before = allowed first h in
-    let now = same_allowed first h (configuration first (past first (Bytes c piece ∷ h))) (configuration_lines first c (brought (input c h) piece) (steps h)) before in
-    record { now = now.0; within = now.1; few = before.few }
-allowed first (DriverBytes u piece ∷ h) =
-    let before = allowed first h in
-    let now = same_allowed first h (configuration first (past first (DriverBytes u piece ∷ h))) (configuration_reports first u (brought (driver_input u h) piece) (steps h)) before in
-    record { now = now.0; within = now.1; few = before.few }
+pub allowed : (first : Configuration) (h : List Event) → IsAllowed first h (configuration first (past first h))
+allowed first [] = (omega arith, λ within. within, λ within. within.connections)
+allowed first (Bytes c piece ∷ h) = subst (IsAllowed first h) (sym (configuration_lines first c (brought (input c h) piece) (steps h))) (allowed first h)
+allowed first (DriverBytes u piece ∷ h) = subst (IsAllowed first h) (sym (configuration_reports first u (brought (driver_input u h) piece) (steps h))) (allowed first h)
 allowed first (Reload k ∷ h) =
-    let before = allowed first h in
-    record { now = omega arith; within = λ within. within.0; few = λ within. let own = within.0.connections in let earlier = before.few within.1 in omega (arith, own, earlier) }
+    (omega arith, λ within. within.0, λ within. let own = within.0.connections in let earlier = (allowed first h).2 within.1 in omega (arith, own, earlier))
+allowed first (e ∷ h) = allowed first h
 
 pub were_within : (first : Configuration) (e : Event) (h : List Event) → AreWithin first (e ∷ h) → AreWithin first h
-were_within first (Moment t) h within = within
-were_within first (Open address) h within = within
-were_within first (Bytes c piece) h within = within
-were_within first (Took c n) h within = within
-were_within first (Close c) h within = within
-were_within first (WriteFailed c) h within = within
-were_within first (DriverUp u) h within = within
-were_within first (DriverBytes u piece) h within = within
-were_within first (DriverTook u n) h within = within
-were_within first (DriverDown u) h within = within
 were_within first (Reload k) h within = within.1
+were_within first e h within = within
 
 few_next : (first : Configuration) (h : List Event) (e : Event) → IsAccepted first (e ∷ h) → AreFew (most_allowed first h) (content first h).sessions
     → AreFew (most_allowed first h) (content first (e ∷ h)).sessions
 few_next first h e accepted before =
     let now' : (content first (e ∷ h)).sessions ≡ (advance (content first h) e).sessions = ap (λ (s : Content). s.sessions) (keeps-content first h e accepted) in
-    subst (λ ks. AreFew (most_allowed first h) ks) (sym now') (few_advance (most_allowed first h) (content first h) e accepted.1 (allowed first h).now before)
+    subst (λ ks. AreFew (most_allowed first h) ks) (sym now') (few_advance (most_allowed first h) (content first h) e accepted.1 (allowed first h).0 before)
 
 pub few_history : (first : Configuration) (h : List Event) → IsAccepted first h → AreFew (most_allowed first h) (content first h).sessions
 few_history first [] accepted = record { few = omega arith; addresses = tt }
-few_history first (Moment t ∷ h) accepted = few_next first h (Moment t) accepted (few_history first h accepted.0)
-few_history first (Open address ∷ h) accepted = few_next first h (Open address) accepted (few_history first h accepted.0)
-few_history first (Bytes c piece ∷ h) accepted = few_next first h (Bytes c piece) accepted (few_history first h accepted.0)
-few_history first (Took c n ∷ h) accepted = few_next first h (Took c n) accepted (few_history first h accepted.0)
-few_history first (Close c ∷ h) accepted = few_next first h (Close c) accepted (few_history first h accepted.0)
-few_history first (WriteFailed c ∷ h) accepted = few_next first h (WriteFailed c) accepted (few_history first h accepted.0)
-few_history first (DriverUp u ∷ h) accepted = few_next first h (DriverUp u) accepted (few_history first h accepted.0)
-few_history first (DriverBytes u piece ∷ h) accepted = few_next first h (DriverBytes u piece) accepted (few_history first h accepted.0)
-few_history first (DriverTook u n ∷ h) accepted = few_next first h (DriverTook u n) accepted (few_history first h accepted.0)
-few_history first (DriverDown u ∷ h) accepted = few_next first h (DriverDown u) accepted (few_history first h accepted.0)
 few_history first (Reload k ∷ h) accepted =
     let are = few_next first h (Reload k) accepted (few_history first h accepted.0) in
     record { few = omega (arith, are.few); addresses = are.addresses }
+few_history first (e ∷ h) accepted = few_next first h e accepted (few_history first h accepted.0)
 
 -- ---- a content within its limits
 
@@ -232,7 +166,7 @@ short_line c (Some k) s short =
       configured = short.configured;
       tables = tables_acted (target (numbering_of s) command) command reply s.supplies short.tables;
       nothing = short.nothing;
-      sessions = few_answer CONNECTIONS_MAX c command reply s short.sessions;
+      sessions = few_update CONNECTIONS_MAX c (λ k. with_rest (Text []) (answered (numbering_of s) command reply k)) s.sessions (λ k. refl) short.sessions;
     }
 
 short_byte : (c b : ℕ) (s : Content) → IsShort s → IsShort (byte_heard c b s)
@@ -251,10 +185,10 @@ short_history : EveryTableHolds → (first : Configuration) (h : List Event) →
 short_history every first h within accepted =
     let are = few_history first h accepted in
     record {
-      configured = (allowed first h).within within;
+      configured = (allowed first h).1 within;
       tables = all_map (λ (d : Supply). IsShortTable d.device.table) (supply first h) (ups_numbers first (past first h)) (λ u. table_short every (reports u (past first h)));
       nothing = table_short every [];
-      sessions = record { few = omega (arith, are.few, (allowed first h).few within); addresses = are.addresses };
+      sessions = record { few = omega (arith, are.few, (allowed first h).2 within); addresses = are.addresses };
     }
 
 -- ---- the answers to a piece
@@ -266,9 +200,8 @@ unfinished (Text (b ∷ bytes)) = 1
 unfinished TooLong = 1
 
 unfinished-le : (l : LineText) → unfinished l ≤ 1
-unfinished-le (Text []) = omega arith
 unfinished-le (Text (b ∷ bytes)) = omega arith
-unfinished-le TooLong = omega arith
+unfinished-le other = omega arith
 
 -- After n bytes, with one counted for an unfinished line before them: what waits is at most this many of the longest
 -- answers, and each line answered took at least two of these bytes.
@@ -411,7 +344,6 @@ module _ (first : Configuration) (h : List Event) (d : ℕ) (short : IsShort (co
       ]
 
   bounded_advance : (e : Event) → IsAccepted first (e ∷ h) → AreBounded d (advance (content first h) e)
-  bounded_advance (Moment t) accepted = bounded_other (content first h) (Moment t) d tt refl bounded
   bounded_advance (Open address) accepted = bounded_of (Open address) ((content first h).opened + 1) refl refl (λ is k there.
       let s = content first h in
       let opened : session_of (s.opened + 1) (advance s (Open address)).sessions ≡ Some (fresh (s.opened + 1) address) =
@@ -430,10 +362,6 @@ module _ (first : Configuration) (h : List Event) (d : ℕ) (short : IsShort (co
       absurd (let bad : None ≡ Some k = sym (advance-close (content first h) c) ∙ ap (λ m. session_of m (advance (content first h) (Close c)).sessions) is ∙ there in cc))
   bounded_advance (WriteFailed c) accepted = bounded_of (WriteFailed c) c refl refl (λ is k there.
       absurd (let bad : None ≡ Some k = sym (advance-write_failed (content first h) c) ∙ ap (λ m. session_of m (advance (content first h) (WriteFailed c)).sessions) is ∙ there in cc))
-  bounded_advance (DriverUp u) accepted = bounded_other (content first h) (DriverUp u) d tt refl bounded
-  bounded_advance (DriverBytes u piece) accepted = bounded_other (content first h) (DriverBytes u piece) d tt refl bounded
-  bounded_advance (DriverTook u n) accepted = bounded_other (content first h) (DriverTook u n) d tt refl bounded
-  bounded_advance (DriverDown u) accepted = bounded_other (content first h) (DriverDown u) d tt refl bounded
   bounded_advance (Reload c) accepted = λ k there. was_open k there (session_of d (content first h).sessions) refl where
     q : Session → Bool
     q j = not (is_to_cleared (fate_of c.upses (numbering_of (content first h))) j.login)
@@ -447,6 +375,7 @@ module _ (first : Configuration) (h : List Event) (d : ℕ) (short : IsShort (co
         let later : session_of d (content first (Reload c ∷ h)).sessions ≡ Some k = ap (λ (s : Content). session_of d s.sessions) (keeps-content first h (Reload c) accepted) ∙ there in
         let same : k ≡ j = session_is first (Reload c ∷ h) d k later ∙ sym (session_is first h d j found) in
         omega (arith, bounded j found, ap (λ (j : Session). length j.waits) same)
+  bounded_advance e accepted = bounded_other (content first h) e d tt refl bounded
 
 waits_history : EveryTableHolds → (first : Configuration) (h : List Event) (d : ℕ) → AreWithin first h → IsAccepted first h → AreBounded d (content first h)
 waits_history every first [] d within accepted k there = absurd (cc)

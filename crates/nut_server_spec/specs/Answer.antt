@@ -163,8 +163,7 @@ with_right s k right name next = with_credentials k (λ user password.
 -- whether this is the role `primary`
 abbrev pub is_primary : Option Role → Bool
 is_primary (Some roles.Primary) = true
-is_primary (Some roles.Secondary) = false
-is_primary None = false
+is_primary role = false
 
 -- whether the user may log in: `upsmon primary` or `upsmon secondary`
 abbrev pub may_log_in : User → Bool

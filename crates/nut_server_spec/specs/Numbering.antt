@@ -75,17 +75,12 @@ pub data Fate : Type 0 where
   -- the number is free, or another UPS has it: nothing is known of the UPS any more
   Cleared : Fate
 
--- what becomes of a UPS that stays, by whether its driver stays
-abbrev pub fate_by_driver : Bool → Fate
-fate_by_driver true = Kept
-fate_by_driver false = Disconnected
-
 -- what becomes of a number's UPS, if these have the number before and after
 abbrev pub fate_between : Option Ups → Option Ups → Fate
 fate_between None after = Cleared
 fate_between (Some old) None = Cleared
 fate_between (Some old) (Some new) =
-    if bytes_eq old.name new.name then fate_by_driver (bytes_eq old.driver new.driver) else Cleared
+    if bytes_eq old.name new.name then (if bytes_eq old.driver new.driver then Kept else Disconnected) else Cleared
 
 -- what a reload of these UPSes makes of the UPS with the number u
 abbrev pub fate_of : List Ups → Numbering → ℕ → Fate
@@ -100,9 +95,8 @@ by_fate Cleared start left before = start
 
 -- whether a UPS was cleared
 abbrev pub is_cleared : Fate → Bool
-is_cleared Kept = false
-is_cleared Disconnected = false
 is_cleared Cleared = true
+is_cleared fate = false
 
 -- whether a login is to a UPS that is cleared
 abbrev pub is_to_cleared : (ℕ → Fate) → Option ℕ → Bool

@@ -8,8 +8,8 @@ use Rattle.nut_state.specs.Step.{line_adds}
 use Rattle.nut_server_spec.specs.declared.Place.{Place}
 use Rattle.nut_server_spec.specs.declared.Place.TheVariants.{Line, Report, NewUpses}
 use Rattle.nut_server_spec.specs.declared.Refused.{Refused}
-use Rattle.nut_server_spec.specs.declared.Refused.TheVariants.{NoSuchConnection, NotConnected, PieceTooLong, Busy, TooMuchTaken, BadAddress, Full, Memory}
-use Rattle.nut_server_spec.specs.Command.{Command, Blank, Malformed, Asks, command_of}
+use Rattle.nut_server_spec.specs.declared.Refused.TheVariants.{Memory}
+use Rattle.nut_server_spec.specs.Command.{Command, Blank, command_of}
 use Rattle.nut_server_spec.specs.Event.{Event, Bytes, DriverBytes, Reload}
 use Rattle.nut_server_spec.specs.Configuration.{Configuration}
 use Rattle.nut_server_spec.specs.Content.{Session, Supply, content, past}
@@ -21,8 +21,7 @@ use Rattle.nut_server_spec.specs.Acceptance.{refusal, behind, behind_report, los
 -- whether a line says nothing
 abbrev pub is_blank : Command → Bool
 is_blank Blank = true
-is_blank (Malformed refusal) = false
-is_blank (Asks request) = false
+is_blank command = false
 
 -- Whether a client's line may allocate memory: the connection is open and hasn't logged out, and the line says something
 -- or has a backslash.
@@ -82,13 +81,7 @@ MayLack first h place e = ⊥
 -- is lacking only where no test does.
 abbrev pub IsRefusal : Configuration → List Event → Event → Refused → Type 0
 IsRefusal first h e (Memory place) = (refusal (content first h) e ≡ None) × MayLack first h place e
-IsRefusal first h e NoSuchConnection = refusal (content first h) e ≡ Some NoSuchConnection
-IsRefusal first h e NotConnected = refusal (content first h) e ≡ Some NotConnected
-IsRefusal first h e PieceTooLong = refusal (content first h) e ≡ Some PieceTooLong
-IsRefusal first h e Busy = refusal (content first h) e ≡ Some Busy
-IsRefusal first h e TooMuchTaken = refusal (content first h) e ≡ Some TooMuchTaken
-IsRefusal first h e BadAddress = refusal (content first h) e ≡ Some BadAddress
-IsRefusal first h e Full = refusal (content first h) e ≡ Some Full
+IsRefusal first h e r = refusal (content first h) e ≡ Some r
 
 -- A server that was told the history h may answer the event by this result.
 abbrev pub IsAnswer : {U : Type 0} → Configuration → List Event → Event → Result U Refused → Type 0

@@ -3,13 +3,12 @@ use Rattle.std.specs.Prelude.{ℕ, Bool, true, false, not, ◌&&◌, List, filte
 use Rattle.nut_server_spec.specs.Acceptance.{is_connected, supply_of}
 use Rattle.nut_server_spec.specs.Configuration.{Configuration}
 use Rattle.nut_server_spec.specs.Content.{Content, numbering_of}
-use Rattle.nut_server_spec.specs.Numbering.{Fate, Kept, Disconnected, Cleared, below, fate_of, is_to_cleared}
+use Rattle.nut_server_spec.specs.Numbering.{Fate, Kept, below, fate_of, is_to_cleared}
 
 -- whether a UPS stays as it is
 abbrev pub is_kept : Fate → Bool
 is_kept Kept = true
-is_kept Disconnected = false
-is_kept Cleared = false
+is_kept fate = false
 
 -- the UPSes whose drivers a reload disconnects, by rising number: those that are connected, and whose UPS doesn't stay as it is
 abbrev pub drivers_ended : Configuration → Content → List ℕ

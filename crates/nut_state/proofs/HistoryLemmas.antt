@@ -336,8 +336,7 @@ pub line_adds_words : (t : Table) (line : List ℕ) (words : List (List ℕ)) �
 unfolding line_adds
 line_adds_words t line words reads = ap (λ o. option_map_or (adds t) o false) (sym (heard_words line words reads))
 
--- A table that did what a line asks for holds what the lines and this one say.
-pub followed_holds : (t new : Table) (line : List ℕ) (words : List (List ℕ)) → spelled line ≡ Ok words
-    → new ≡ option_map_or (after t) (asked words) t → (lines : List (List ℕ)) → Holds t lines → Holds new (line ∷ lines)
-followed_holds t new line words reads follows lines h =
-    subst (λ u. Holds u (line ∷ lines)) (sym (follows ∙ applied_words t line words reads)) (applied_holds t line lines h)
+-- The table after a line that asks for this change.
+pub applied_change : (t : Table) (line : List ℕ) (change : Change) → heard line ≡ Some change → after t change ≡ applied t line
+unfolding applied
+applied_change t line change is = ap (λ o. option_map_or (after t) o t) (sym is)

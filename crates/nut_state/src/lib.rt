@@ -14,6 +14,7 @@ mod heard;
 mod laws;
 mod limits;
 mod number;
+mod plain;
 mod row_end;
 mod sorted;
 mod state;

@@ -16,6 +16,7 @@ ghost use Rattle.nut_words.specs.Reader.{has_backslash};
 use crate::heard::{Heard, StateFault};
 use crate::limits::{COMMANDS_MAX, VARIABLES_MAX};
 use crate::number::Range;
+use crate::plain::plain_setting;
 use crate::sorted::{place_of_command, place_of_likely, place_of_variable};
 use crate::text::{Name, Text, is_name};
 use crate::variable::{Flags, Variable};
@@ -354,6 +355,23 @@ impl UpsState {
         ensures looks_back { (lines : List (List ℕ)) → Holds self.old lines → OnOk result (Holds self.new (line.now ∷ lines)) }
 
         // A line that allocates no memory succeeds. `Holds` says that `adds` agrees with looking back over the lines.
+        ensures succeeds { has_backslash line.now ≡ false → line_adds self.old line.now ≡ false → IsOk result }
+    {
+        if let Some((name, value)) = plain_setting(line) {
+            self.set_info(name, value)?;
+            return Ok(Heard::Heard);
+        }
+        self.apply_any(line)
+    }
+
+    /// Does what [`apply`](Self::apply) does, whatever the line is. It stands apart, so that a plain SETINFO doesn't pay for the
+    /// place of all words.
+    #[inline(never)]
+    #[tactic(auto, unfolding(crate::specs::Step::applied, crate::specs::Change::heard, crate::specs::Step::line_adds))]
+    fn apply_any(&mut self, line: &[u8]) -> Result<Heard, StateFault>
+        ensures table { OnOk result (self.new ≡ applied self.old line.now) }
+        ensures answer { IfOk result (λ told. told ≡ answer (heard line.now)) }
+        ensures refused { OnErr result (self.new ≡ self.old) }
         ensures succeeds { has_backslash line.now ≡ false → line_adds self.old line.now ≡ false → IsOk result }
     {
         match split(self.alloc, line) {

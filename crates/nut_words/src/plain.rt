@@ -1,10 +1,11 @@
-//! Reads bare words with one byte behind each: nearly all requests consist of such words.
+//! Reads bare words with one byte behind each, and a text in quotes: nearly all requests and drivers' lines consist of such.
 ghost use Rattle.std.specs.Prelude.{◌≡◌, ◌≤◌, ◌∷◌, ◌++◌, true, length, take, IfSome};
 ghost use Rattle.std.specs.List.{list_all};
-ghost use Rattle.nut_words.specs.Quoting.{stands_bare};
+ghost use Rattle.nut_words.specs.Quoting.{IsPrintable, quoted, stands_bare};
 ghost use Rattle.nut_words.specs.Spelling.{is_bare};
 
-use crate::quoting::is_bare_byte;
+use crate::printing::are_printing;
+use crate::quoting::{is_bare_byte, is_unescaped};
 
 /// Returns how many bytes of a bare word these bytes begin with. Four at a time are looked at, as long as there are as many. In
 /// its callers its loops would carry their values along.
@@ -39,4 +40,17 @@ pub fn bare_word(bytes: &[u8], end: u8) -> Option<(&[u8], &[u8])>
         return None;
     }
     Some((&bytes[..len], &bytes[len + 1..]))
+}
+
+/// Returns the text between the quotes of a quoted word, if these bytes are that word, and each byte of the text is printing and
+/// stands there as [`put_quoted`](crate::put_quoted) writes it without a backslash. Allocates no memory.
+pub fn quoted_text(bytes: &[u8]) -> Option<&[u8]>
+    ensures { IfSome result (λ text. (bytes.now ≡ quoted text.now) × IsPrintable text.now) }
+{
+    let (first, behind) = bytes.split_first()?;
+    let (last, text) = behind.split_last()?;
+    if *first != b'"' || *last != b'"' || !are_printing(text) || !is_unescaped(text) {
+        return None;
+    }
+    Some(text)
 }

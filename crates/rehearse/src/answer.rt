@@ -47,6 +47,14 @@ impl Answer {
         self.is_whole = false;
     }
 
+    /// Writes another answer behind this one.
+    pub fn append(&mut self, other: &Answer) {
+        self.put(other.as_str());
+        if !other.is_whole {
+            self.lack();
+        }
+    }
+
     /// Notes that memory is lacking if a part could not be written.
     fn check<E: Drop>(&mut self, written: Result<(), E>) {
         if written.is_err() {

@@ -13,9 +13,9 @@
 //! carry N              server and driver of the first UPS take what waits for them, N bytes at a time, until none waits
 //! ```
 //!
-//! `server.rt` lists the other steps of a server. Steps that begin with `dummy`, `monitor`, `watch`, `link`, `room` or
-//! `words` are for a dummy driver, a monitor, the loop of a monitor, a link, a room, or lines and words: see the file
-//! of that name.
+//! `server.rt` lists the other steps of a server. Steps that begin with `serve`, `dummy`, `monitor`, `watch`, `link`, `room`
+//! or `words` are for the loop of a server (`serving.rt`), a dummy driver, a monitor, the loop of a monitor (`watching.rt`), a
+//! link, a room, or lines and words: see the file of that name.
 //!
 //! In texts `%XX` is the byte with these two hexadecimal digits; control characters, `%` and bytes past ASCII are
 //! printed so. A line that is empty or begins with `#` is printed as it is. A line that begins with `? ` is played only
@@ -29,13 +29,17 @@ use std::sync::Wait;
 
 mod answer;
 mod carrying;
+mod device;
 mod dummy;
+mod failing_mon_world;
+mod failing_world;
 mod failure;
 mod link;
 mod monitor;
 mod playing;
 mod room;
 mod server;
+mod serving;
 mod stage;
 mod text;
 mod watching;

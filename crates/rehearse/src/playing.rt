@@ -94,7 +94,7 @@ fn show_opened(opened: u64, out: &mut Answer) {
 }
 
 /// Writes how many bytes wait for the driver of each UPS.
-fn show_waits(server: &Server, out: &mut Answer) {
+pub fn show_waits(server: &Server, out: &mut Answer) {
     for u in 0..server.number_of_places() {
         out.put_count(server.waits_for_driver(u));
     }

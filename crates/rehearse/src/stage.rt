@@ -3,8 +3,9 @@
 use crate::answer::Answer;
 use crate::room::Rooms;
 use crate::server::Texts;
+use crate::serving::Arrivals;
 use crate::text::{Text, decode};
-use crate::{carrying, dummy, link, monitor, room, server, watching, words};
+use crate::{carrying, dummy, link, monitor, room, server, serving, watching, words};
 use nut_dummy::Dummy;
 use nut_link::Link;
 use nut_monitor::Monitor;
@@ -29,6 +30,8 @@ pub struct Stage {
     pub link: Link,
     pub rooms: Rooms,
     pub cutter: LineCutter,
+    /// The arrivals for the next server that serves.
+    pub arrivals: Arrivals,
     /// The events for the next monitor that watches.
     pub events: Vec<Given>,
 }
@@ -47,6 +50,7 @@ impl Stage {
             link: Link::new(alloc),
             rooms: Rooms::new(alloc),
             cutter: LineCutter::new(),
+            arrivals: Arrivals::new(alloc),
             events: Vec::new(alloc),
         }
     }
@@ -94,6 +98,7 @@ impl Stage {
             "link" => link::play(self, rest.step()),
             "room" => room::play(self, rest.step()),
             "words" => words::play(self, rest.step()),
+            "serve" => serving::play(rt, self, rest.step()),
             "watch" => watching::play(rt, self, rest.step()),
             "carry" => carrying::play(self, rest.number()?),
             _ => server::play(self, text.step()),

@@ -24,9 +24,11 @@ pub struct Step<'a> {
     pub verb: &'a str,
     /// The bytes behind the verb.
     pub bytes: &'a [u8],
-    /// The number behind the verb, if there is one.
+    /// The word behind the verb.
+    pub word: &'a str,
+    /// The number that this word is, if it is one.
     pub number: Option<usize>,
-    /// What is behind that number.
+    /// What is behind that word.
     pub more: Text<'a>,
 }
 
@@ -48,11 +50,12 @@ impl<'a> Text<'a> {
     /// Returns the step that is written.
     pub fn step(self) -> Step<'a> {
         let (verb, rest) = self.parted();
-        let (number, more) = rest.parted();
+        let (word, more) = rest.parted();
         Step {
             verb,
             bytes: rest.bytes,
-            number: number.parse().ok(),
+            word,
+            number: word.parse().ok(),
             more,
         }
     }

@@ -1,4 +1,4 @@
-//! The loop of a monitor over a world in memory.
+//! The loop of a monitor over worlds in memory.
 //!
 //! ```text
 //! watch moment T       queues this event: T seconds have passed since the start
@@ -6,33 +6,55 @@
 //! watch bytes I TEXT   queues: its server sends this piece, of at most 512 bytes
 //! watch lost I         queues: the link is lost
 //! watch run TEXT       a monitor with this text of upsmon.conf watches the queued events
+//! watch failing D N TEXT  the same, but the server of the first link is in trouble D, and the call N of the world, counted
+//!                      from 1, is a fault
 //! ```
 //!
-//! A run writes a line for each thing that happened, and then the phase, or `fault` and what waits then: how many bytes
-//! for each link, and the oldest notice.
+//! `serving.rt` lists the troubles. A run writes a line for each thing that happened, and then the phase, or `fault` and what
+//! waits then: how many bytes for each link, and the oldest notice.
 
-ghost use Rattle.std.specs.Prelude.{◌≡◌, []};
+ghost use Rattle.std.specs.Prelude.{◌≡◌, [], IfSome};
 ghost use Rattle.nut_monitor_spec.specs.Content.{content};
 
 use crate::answer::Answer;
+use crate::device::{Calls, Device, Trouble};
+use crate::failing_mon_world::FailingMonWorld;
+use crate::serving::piece_of;
 use crate::stage::Stage;
 use crate::text::{Step, shown};
 use nut_conf::{UpsmonConf, read_upsmon};
-use nut_io::{Piece, ServeFault};
+use nut_io::ServeFault;
 use nut_monitor::{Monitor, Notice, Phase};
-use nut_monitor_loop::{Given, MemoryMonWorld, Note, watch_memory};
+use nut_monitor_loop::{Given, MemoryMonWorld, Note, watch, watch_memory};
 use std::mem;
 use std::sync::Wait;
 
+/// The trouble of a failing world, and the number of the call that is a fault.
+#[derive(Clone, Copy)]
+struct Troubles {
+    server: Trouble,
+    fault_at: u64,
+}
+
 /// Plays a step of the loop, and writes the answer; `None` if it is no step.
 pub fn play(rt: &impl Wait, stage: &mut Stage, step: Step<'_>) -> Option<()> {
-    if step.verb == "run" {
-        run(rt, stage, step.bytes);
-        return Some(());
+    match step.verb {
+        "run" => run(rt, stage, step.bytes),
+        "failing" => {
+            let (call, file) = step.more.parted();
+            let troubles = Troubles {
+                server: Trouble::named(step.word)?,
+                fault_at: call.parse().ok()?,
+            };
+            run_failing(rt, stage, troubles, file.bytes);
+        }
+        _ => queue(stage, given_by(step)?),
     }
-    let event = given_by(step)?;
-    stage.answer.put_growth(stage.events.push(event).is_ok());
     Some(())
+}
+
+fn queue(stage: &mut Stage, event: Given) {
+    stage.answer.put_growth(stage.events.push(event).is_ok());
 }
 
 /// Returns the event that a step tells, if it tells one.
@@ -41,59 +63,99 @@ fn given_by(step: Step<'_>) -> Option<Given> {
     match step.verb {
         "moment" => Some(Given::Moment(i as u64)),
         "linked" => Some(Given::Linked(i)),
-        "bytes" => given_bytes(i, step.more.bytes),
+        "bytes" => Some(Given::LinkBytes(i, piece_of(step.more.bytes)?)),
         "lost" => Some(Given::LinkLost(i)),
         _ => None,
     }
 }
 
-/// Returns the event of these bytes; `None` if there are too many.
-fn given_bytes(i: usize, bytes: &[u8]) -> Option<Given> {
-    let mut piece = Piece::new();
-    match piece.try_extend_from_slice(bytes) {
-        Ok(()) => Some(Given::LinkBytes(i, piece)),
-        Err(_) => None,
-    }
-}
-
-/// Lets a monitor with this file watch a world that gives the queued events, and writes what happened.
-fn run(rt: &impl Wait, stage: &mut Stage, file: &[u8]) {
+/// Makes a monitor with a text of upsmon.conf; `None`, and the answer is written, if there is none.
+fn monitor_of(stage: &mut Stage, file: &[u8]) -> Option<Monitor>
+    ensures { IfSome result (λ m. m.content ≡ content m.content.configuration []) }
+{
     match read_upsmon(stage.alloc, file) {
-        Ok(config) => run_with(rt, stage, config),
-        Err(fault) => stage.answer.put_file_fault(fault),
+        Ok(config) => make(stage, config),
+        Err(fault) => {
+            stage.answer.put_file_fault(fault);
+            None
+        }
     }
 }
 
-fn run_with(rt: &impl Wait, stage: &mut Stage, config: UpsmonConf) {
+fn make(stage: &mut Stage, config: UpsmonConf) -> Option<Monitor>
+    ensures { IfSome result (λ m. m.content ≡ content m.content.configuration []) }
+{
     match Monitor::new(stage.alloc, config) {
-        Ok(monitor) => watch(rt, stage, monitor),
+        Ok(monitor) => Some(monitor),
         // only memory can be lacking when a monitor is made
-        Err(_) => stage.answer.lack(),
+        Err(_) => {
+            stage.answer.lack();
+            None
+        }
     }
 }
 
-/// Lets a monitor watch a world, and writes what happened.
-fn watch(rt: &impl Wait, stage: &mut Stage, monitor: Monitor)
+/// Takes the queued events.
+fn take_events(stage: &mut Stage) -> Vec<Given> {
+    mem::replace(&mut stage.events, Vec::new(stage.alloc))
+}
+
+/// Lets a monitor with this file watch the queued events, and writes what happened.
+fn run(rt: &impl Wait, stage: &mut Stage, file: &[u8]) {
+    if let Some(monitor) = monitor_of(stage, file) {
+        watch_queued(rt, stage, monitor);
+    }
+}
+
+fn watch_queued(rt: &impl Wait, stage: &mut Stage, monitor: Monitor)
     requires { monitor.content ≡ content monitor.content.configuration [] }
 {
-    let events = mem::replace(&mut stage.events, Vec::new(stage.alloc));
-    let mut world = MemoryMonWorld::new(stage.alloc, events);
     let mut monitor = monitor;
+    let mut world = MemoryMonWorld::new(stage.alloc, take_events(stage));
     let led = watch_memory(rt, &mut monitor, &mut world);
-    show_run(&monitor, world.notes(), led, &mut stage.answer);
+    show_notes(&monitor, world.notes(), &mut stage.answer);
+    show_end(&monitor, led, &mut stage.answer);
     drop(monitor);
     drop(world);
 }
 
-/// Writes what happened, and then the phase or the fault.
-fn show_run(monitor: &Monitor, notes: &[Note], led: Result<Phase, ServeFault>, out: &mut Answer) {
-    for note in notes {
-        show_note(monitor, note, out);
-        out.put("\n");
+/// Lets a monitor with this file watch the queued events over a world in trouble, and writes what happened.
+fn run_failing(rt: &impl Wait, stage: &mut Stage, troubles: Troubles, file: &[u8]) {
+    if let Some(monitor) = monitor_of(stage, file) {
+        watch_failing(rt, stage, monitor, troubles);
     }
+}
+
+fn watch_failing(rt: &impl Wait, stage: &mut Stage, monitor: Monitor, troubles: Troubles)
+    requires { monitor.content ≡ content monitor.content.configuration [] }
+{
+    let mut monitor = monitor;
+    let mut world = FailingMonWorld {
+        events: take_events(stage),
+        calls: Calls::new(troubles.fault_at),
+        server: Device::new(troubles.server),
+        is_late: false,
+        deeds: Answer::new(stage.alloc),
+    };
+    let led = watch(rt, &mut monitor, &mut world);
+    stage.answer.append(&world.deeds);
+    show_end(&monitor, led, &mut stage.answer);
+    drop(monitor);
+    drop(world);
+}
+
+/// Writes the phase, or the fault and what waits.
+fn show_end(monitor: &Monitor, led: Result<Phase, ServeFault>, out: &mut Answer) {
     match led {
         Ok(phase) => write!(out, "= {phase:?}"),
         Err(_) => show_waiting(monitor, out),
+    }
+}
+
+/// Writes what happened.
+fn show_notes(monitor: &Monitor, notes: &[Note], out: &mut Answer) {
+    for note in notes {
+        show_note(monitor, note, out);
     }
 }
 
@@ -101,10 +163,26 @@ fn show_run(monitor: &Monitor, notes: &[Note], led: Result<Phase, ServeFault>, o
 fn show_note(monitor: &Monitor, note: &Note, out: &mut Answer) {
     match note {
         Note::Gave(given) => show_given(given, out),
-        Note::Took(i, part) => write!(out, "link {i} is asked {}", shown(part.as_slice())),
-        Note::Closed(i) => write!(out, "link {i} is closed"),
-        Note::Told(notice) => show_told("told ", monitor, *notice, out),
+        Note::Took(i, part) => show_took(*i, part.as_slice(), out),
+        Note::Closed(i) => show_closed(*i, out),
+        Note::Told(notice) => show_notice(monitor, *notice, out),
     }
+}
+
+/// Writes that the server of a link took these bytes.
+pub fn show_took(i: usize, bytes: &[u8], out: &mut Answer) {
+    writeln!(out, "link {i} is asked {}", shown(bytes));
+}
+
+/// Writes that a link was closed.
+pub fn show_closed(i: usize, out: &mut Answer) {
+    writeln!(out, "link {i} is closed");
+}
+
+/// Writes that a notice was handed over.
+pub fn show_notice(monitor: &Monitor, notice: Notice, out: &mut Answer) {
+    show_told("told ", monitor, notice, out);
+    out.put("\n");
 }
 
 /// Writes a notice behind these words.
@@ -114,12 +192,12 @@ fn show_told(words: &str, monitor: &Monitor, notice: Notice, out: &mut Answer) {
 }
 
 /// Writes an event.
-fn show_given(given: &Given, out: &mut Answer) {
+pub fn show_given(given: &Given, out: &mut Answer) {
     match given {
-        Given::Moment(t) => write!(out, "> moment {t}"),
-        Given::Linked(i) => write!(out, "> linked {i}"),
-        Given::LinkBytes(i, piece) => write!(out, "> bytes {i} {}", shown(piece.as_slice())),
-        Given::LinkLost(i) => write!(out, "> lost {i}"),
+        Given::Moment(t) => writeln!(out, "> moment {t}"),
+        Given::Linked(i) => writeln!(out, "> linked {i}"),
+        Given::LinkBytes(i, piece) => writeln!(out, "> bytes {i} {}", shown(piece.as_slice())),
+        Given::LinkLost(i) => writeln!(out, "> lost {i}"),
     }
 }
 

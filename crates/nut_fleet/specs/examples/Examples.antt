@@ -4,7 +4,7 @@ use Rattle.nut_words.specs.Quoting.{quoted}
 use Rattle.nut_conf.specs.declared.users.Role.TheVariants as roles
 use Rattle.nut_conf.specs.declared.notice.Notice.TheVariants as kinds
 use Rattle.nut_monitor_spec.specs.declared.Phase.TheVariants.{Forcing, Final, Halted}
-use Rattle.nut_monitor_spec.specs.Configuration.{Configuration}
+use Rattle.nut_monitor_spec.specs.Configuration.{Configuration, with_defaults}
 use Rattle.nut_monitor_spec.specs.Decision.{told, shutdown_told}
 use Rattle.nut_monitor_spec.specs.Trace.{status}
 use Rattle.nut_server_spec.specs.Configuration.{Ups}
@@ -16,16 +16,7 @@ use Rattle.nut_fleet.specs.Log.{Logged, News, Skipped, Noticed, Moved, log}
 use Rattle.nut_fleet.specs.Shown.{shown_status, logins}
 
 abbrev pub primary : Configuration
-primary = record {
-  lines = record { ups = codes "su700"; power = 1; user = codes "mon"; password = codes "m1"; primary = true } ∷ [];
-  min_supplies = 1;
-  poll_freq = 5;
-  dead_time = 15;
-  host_sync = 15;
-  final_delay = 5;
-  rb_warn_time = 43200;
-  no_comm_warn_time = 300;
-}
+primary = with_defaults (record { ups = codes "su700"; power = 1; user = codes "mon"; password = codes "m1"; primary = true } ∷ [])
 
 -- one UPS, one user, and one monitor
 abbrev pub alone : Setup

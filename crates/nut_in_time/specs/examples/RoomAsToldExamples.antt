@@ -1,11 +1,11 @@
 -- A machine with a UPS at each of two servers, which is the primary of one, and a machine that needs that one, computed from the
 -- definitions: FSD is accepted as late as it may, and with a HOSTSYNC a second shorter the primary leaves Forcing first.
 use Rattle.std.specs.Prelude.{◌≡◌, ℕ, ◌+◌, ◌-◌, List, [], ◌∷◌, ◌++◌, codes, true, false}
-use Rattle.nut_monitor_spec.specs.Configuration.{Configuration}
+use Rattle.nut_monitor_spec.specs.Configuration.{Configuration, with_defaults}
 use Rattle.nut_monitor_spec.specs.Decision.{is_halted}
 use Rattle.nut_monitor_spec.specs.Event.{Event}
 use Rattle.nut_monitor_spec.specs.Trace.{Entry, alone, begun, clock, ended, forced, has_ended, phase, trace}
-use Rattle.nut_monitor_spec.specs.examples.Examples.{Move, Says, at_moment, opens, played, room, run, secondary_room, shows, shows_other, su700, su900}
+use Rattle.nut_monitor_spec.specs.examples.Examples.{Move, Says, at_moment, opens, played, run, secondary_room, shows, shows_other, su700, su900}
 use Rattle.nut_in_time.specs.AnyServers.{IsTold}
 use Rattle.nut_in_time.specs.InTime.{has_fsd, reads_in, to_halted}
 use Rattle.nut_in_time.specs.RoomAsTold.{IsHeeded}
@@ -16,7 +16,7 @@ use Rattle.nut_in_time.specs.examples.RoomPaceExamples.{quick, within}
 -- ---- the primary of the second server's UPS, with MINSUPPLIES 2 and this HOSTSYNC; POLLFREQ and FINALDELAY are 1
 
 abbrev pub leading : ℕ → Configuration
-leading host_sync = record (quick (room (su700 false ∷ su900 true ∷ []))) { min_supplies = 2; host_sync = host_sync }
+leading host_sync = record (quick (with_defaults (su700 false ∷ su900 true ∷ []))) { min_supplies = 2; host_sync = host_sync }
 
 -- it has asked the first server, and read that the other UPS is on line
 abbrev pub both_asked : ℕ → List Event

@@ -21,17 +21,14 @@ KeepsLate old new = (j : ℕ) → new j ≡ old j
 -- fewer bytes wait on link i if some were taken
 abbrev pub Less : Written → ℕ → List Watch → List Watch → Type 0
 Less (Took n) i old new = length (waiting_of i new) < length (waiting_of i old)
-Less Later i old new = Unit {0}
-Less Failed i old new = Unit {0}
+Less written i old new = Unit {0}
 
 -- a link on which a write was late is settled: it is late
 abbrev pub Settles : Written → (ℕ → Bool) → List Watch → ℕ → Type 0
-Settles (Took n) late watches i = Unit {0}
 Settles Later late watches i = IsSettled late watches i
-Settles Failed late watches i = Unit {0}
+Settles written late watches i = Unit {0}
 
 -- no other link changes if the write didn't fail
 abbrev pub Unbroken : Written → ℕ → List Watch → List Watch → Type 0
-Unbroken (Took n) i old new = OnlyAt i old new
-Unbroken Later i old new = OnlyAt i old new
 Unbroken Failed i old new = Unit {0}
+Unbroken written i old new = OnlyAt i old new

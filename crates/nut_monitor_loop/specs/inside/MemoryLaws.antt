@@ -7,11 +7,7 @@ use Rattle.nut_monitor_loop.specs.Memory.{MemoryState, event_of, given_in, GoesO
 given_in-append : (xs ys : List entry.Entry) → given_in (xs ++ ys) ≡ given_in ys ++ given_in xs
 given_in-append [] ys = sym (append-nil (given_in ys))
 given_in-append (entry.Gave e ∷ r) ys = ap (λ l. l ++ e ∷ []) (given_in-append r ys) ∙ append_assoc (given_in ys) (given_in r) (e ∷ [])
-given_in-append (entry.TookBytes i bytes ∷ r) ys = given_in-append r ys
-given_in-append (entry.WasLate i ∷ r) ys = given_in-append r ys
-given_in-append (entry.WriteBroke i ∷ r) ys = given_in-append r ys
-given_in-append (entry.WasClosed i ∷ r) ys = given_in-append r ys
-given_in-append (entry.WasTold notice ∷ r) ys = given_in-append r ys
+given_in-append (e ∷ r) ys = given_in-append r ys
 
 -- without a call nothing is done
 pub goes_on_self : (a : MemoryState) → GoesOn a a []

@@ -6,7 +6,7 @@ use Rattle.nut_monitor_spec.specs.declared.MonitorFault.TheVariants.{NoSuchLink,
 use Rattle.nut_monitor_spec.specs.declared.Notice.{Notice}
 use Rattle.nut_monitor_spec.specs.declared.Phase.{Phase}
 use Rattle.nut_monitor_spec.specs.declared.Phase.TheVariants.{Watching, Forcing, Final, Halted}
-use Rattle.nut_monitor_spec.specs.Configuration.{Line, Configuration}
+use Rattle.nut_monitor_spec.specs.Configuration.{Line, Configuration, with_defaults}
 use Rattle.nut_monitor_spec.specs.Event.{Event, Moment, Linked, LinkBytes, LinkLost, LinkTook, OutOfMemory, NoticeTaken}
 use Rattle.nut_monitor_spec.specs.Decision.{told, shutdown_told}
 use Rattle.nut_monitor_spec.specs.Trace.{waits, phase, notices, notices_waiting, trace}
@@ -63,19 +63,6 @@ were_accepted configuration (event ∷ events) =
 
 -- ---- configurations
 
--- the defaults, with these MONITOR lines
-abbrev pub room : List Line → Configuration
-room lines = record {
-  lines = lines;
-  min_supplies = 1;
-  poll_freq = 5;
-  dead_time = 15;
-  host_sync = 15;
-  final_delay = 5;
-  rb_warn_time = 43_200;
-  no_comm_warn_time = 300;
-}
-
 -- MONITOR su700@localhost 1 mon m1
 abbrev pub su700 : Bool → Line
 su700 primary = record { ups = codes "su700"; power = 1; user = codes "mon"; password = codes "m1"; primary = primary }
@@ -84,13 +71,13 @@ abbrev pub su900 : Bool → Line
 su900 primary = record { ups = codes "su900"; power = 1; user = codes "mon"; password = codes "m1"; primary = primary }
 
 abbrev pub primary_room : Configuration
-primary_room = room (su700 true ∷ [])
+primary_room = with_defaults (su700 true ∷ [])
 
 abbrev pub secondary_room : Configuration
-secondary_room = room (su700 false ∷ [])
+secondary_room = with_defaults (su700 false ∷ [])
 
 abbrev pub two_primaries : Configuration
-two_primaries = room (su700 true ∷ su900 true ∷ [])
+two_primaries = with_defaults (su700 true ∷ su900 true ∷ [])
 
 -- a configuration by which a UPS may be silent for 1,000,000 seconds before NOCOMM
 abbrev pub patient_room : Configuration
@@ -98,7 +85,7 @@ patient_room = record secondary_room { no_comm_warn_time = 1_000_000 }
 
 -- a configuration with two supplies, of which one is enough
 abbrev pub two_supplies : Configuration
-two_supplies = room (su700 false ∷ su900 false ∷ [])
+two_supplies = with_defaults (su700 false ∷ su900 false ∷ [])
 
 -- link i is made, and its opening queries are answered OK
 abbrev pub opens : Bool → ℕ → List Move

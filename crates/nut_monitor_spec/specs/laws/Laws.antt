@@ -9,7 +9,7 @@ use Rattle.nut_link.specs.Link.{LinkValue}
 use Rattle.nut_monitor_spec.specs.declared.Query.{Query}
 use Rattle.nut_monitor_spec.specs.declared.Query.TheVariants.{NumLogins}
 use Rattle.nut_monitor_spec.specs.Configuration.{Line, Configuration, line_in}
-use Rattle.nut_monitor_spec.specs.Event.{Event, Moment, Linked, LinkBytes, LinkLost, LinkTook, OutOfMemory, NoticeTaken}
+use Rattle.nut_monitor_spec.specs.Event.{Event, Linked, LinkBytes, LinkLost, LinkTook, OutOfMemory}
 use Rattle.nut_monitor_spec.specs.Query.{request}
 use Rattle.nut_monitor_spec.specs.Trace.{Asked, Entry, linked, input, queries, answers, last_answer, outstanding, due, sent, waits, forced, known, query_put, trace, notices}
 use Rattle.nut_monitor_spec.specs.Content.{Watch, content}
@@ -108,13 +108,12 @@ AnswersComeInTurn =
 
 -- the number of the link that an event concerns
 abbrev pub link_of : Event → Option ℕ
-link_of (Moment t) = None
 link_of (Linked i) = Some i
 link_of (LinkBytes i piece) = Some i
 link_of (LinkLost i) = Some i
 link_of (LinkTook i n) = Some i
 link_of (OutOfMemory i piece k) = Some i
-link_of NoticeTaken = None
+link_of event = None
 
 -- An accepted event of a link changes nothing that is known of another line's UPS.
 abbrev pub OthersStay : Type 0

@@ -1,14 +1,14 @@
 -- What a call of play leads to.
-use Rattle.std.specs.Prelude.{ℕ, zero, suc, ◌≡◌, ◌<◌, ◌+◌, ◌++◌, Bool, true, false, not, ◌&&◌, List, [], ◌∷◌, length, slice_get, Option, Some, None}
+use Rattle.std.specs.Prelude.{ℕ, zero, suc, ◌≡◌, ◌<◌, ◌+◌, ◌++◌, ◌⊎◌, Bool, true, false, not, List, [], ◌∷◌, length, slice_get, Option, Some, None}
 use Rattle.nut_fleet.specs.Schedule.{Step}
 use Rattle.nut_fleet.specs.Log as L
 use Rattle.nut_fleet.specs.Log.{News, Skipped, logged}
 use Rattle.nut_fleet.specs.Seen.{deed_by}
 use Rattle.nut_play.specs.declared.types.FleetFault.{FleetFault}
 use Rattle.nut_play.specs.declared.types.FleetFault.TheVariants.{BadStep, Memory, Failed}
-use Rattle.nut_play.specs.Lack.{may_lack}
 use Rattle.nut_play.specs.Kept.{Kept, fleet_of}
 use Rattle.nut_play.specs.machine.Next.{is_played, next, said, fits}
+use Rattle.nut_play.specs.machine.Lacking.{StepLacks}
 
 -- what a step tells: this news if it was played, else that it was skipped
 abbrev pub told_if : Bool → List News → List News
@@ -44,10 +44,14 @@ abbrev pub is_bad : Kept → Option Step → Bool
 is_bad k None = false
 is_bad k (Some step) = not (fits k step)
 
--- whether this is a step that fits and at which memory may be lacking
-abbrev pub may_run_out : Kept → Option Step → Bool
-may_run_out k None = false
-may_run_out k (Some step) = fits k step && may_lack step (told_at k step)
+-- Memory may be lacking at a step, or where the log takes what it tells.
+abbrev pub LacksAt : Kept → Step → Type 0
+LacksAt k step = StepLacks k step ⊎ (0 < length (told_at k step))
+
+-- This is a step that fits and at which memory may be lacking.
+abbrev pub MayRunOut : Kept → Option Step → Type 0
+MayRunOut k None = ⊥
+MayRunOut k (Some step) = (fits k step ≡ true) × LacksAt k step
 
 -- The first n steps were played.
 pub record IsPlayed (k : Kept) (steps : List Step) (n : ℕ) (new : Kept) : Type 0 where
@@ -66,7 +70,7 @@ pub record IsLacking (k : Kept) (steps : List Step) (n : ℕ) (at : ℕ) (before
   pub number : at ≡ n + 1
   pub within : n < length steps
   pub played : IsPlayed k steps n before
-  pub lacks : may_run_out before (slice_get steps n) ≡ true
+  pub lacks : MayRunOut before (slice_get steps n)
 
 -- Why a call stopped. If memory was lacking, nothing is claimed of what is kept but that the fleet has failed.
 abbrev pub IsFault : Kept → List Step → FleetFault → Kept → Type 0
@@ -77,7 +81,7 @@ IsFault k steps Failed new = ⊥
 -- Why a call stopped at the step with this number: it doesn't fit, or memory was lacking there.
 abbrev pub IsFaultAt : Kept → Step → ℕ → FleetFault → Kept → Type 0
 IsFaultAt k step at (BadStep n) new = (n ≡ at) × (fits k step ≡ false) × (new ≡ k)
-IsFaultAt k step at (Memory n) new = (n ≡ at) × (fits k step ≡ true) × (may_lack step (told_at k step) ≡ true) × (new.failed ≡ true)
+IsFaultAt k step at (Memory n) new = (n ≡ at) × (fits k step ≡ true) × LacksAt k step × (new.failed ≡ true)
 IsFaultAt k step at Failed new = ⊥
 
 pub record IsLog (k : Kept) (steps : List Step) (told : List L.Logged) (new : Kept) : Type 0 where

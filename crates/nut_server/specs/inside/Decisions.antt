@@ -1,10 +1,13 @@
 -- For private functions, nothing here has to be believed: what the decision on a request has to be: its answer, and
 -- its effect.
-use Rattle.std.specs.Prelude.{ℕ, ◌≡◌, ◌<◌, List, length, Option, Some, Result, Ok, Err}
+use Rattle.std.specs.Prelude.{ℕ, ◌≡◌, ◌<◌, Bool, true, false, List, length, Option, None, Some, Result, Ok, Err}
 use Rattle.nut_proto.specs.declared.refusal.Refusal.{Refusal}
 use Rattle.nut_proto.specs.declared.reply.Reply.{Reply}
+use Rattle.nut_proto.specs.declared.reply.Reply.TheVariants as replies
+use Rattle.nut_proto.specs.declared.request.Request.{Request}
+use Rattle.nut_proto.specs.declared.request.Request.TheVariants as requests
 use Rattle.nut_server_spec.specs.Command.{Command}
-use Rattle.nut_server_spec.specs.Answer.{Answer, Scene, Caller, Line, accepted, answer, refused, ups_number}
+use Rattle.nut_server_spec.specs.Answer.{Answer, Scene, Caller, Line, accepted, answer, answer_request, refused, ups_number}
 use Rattle.nut_server_spec.specs.Trace.{given_then}
 use Rattle.nut_server.specs.inside.Answers.{given}
 use Rattle.nut_server.specs.inside.Effects.{Does, IsPossible, given_with}
@@ -16,6 +19,30 @@ use Rattle.nut_server.specs.declared.decision.Decision.{Decision}
 -- Each UPS that has a name and a number is there.
 abbrev pub AreThere : Scene → Type 0
 AreThere s = (name : List ℕ) (u : ℕ) → ups_number s name ≡ Some u → u < length s.devices
+
+-- whether a request only asks, and is answered alike for every client
+abbrev pub is_question : Request → Bool
+is_question requests.GetTracking = false
+is_question (requests.SetVar ups variable value) = false
+is_question (requests.SetTracking on) = false
+is_question (requests.InstCmd ups command parameter) = false
+is_question (requests.Username name) = false
+is_question (requests.Password password) = false
+is_question (requests.Login ups) = false
+is_question (requests.Primary ups) = false
+is_question (requests.Fsd ups) = false
+is_question requests.Logout = false
+is_question request = true
+
+-- the answer to such a request
+abbrev pub told : Scene → Request → Answer
+told s request = answer_request s (record { user = None; password = None; login = None; tracking = false }) request
+
+-- whether an answer changes nothing by itself, whatever was asked
+abbrev pub grants_nothing : Answer → Bool
+grants_nothing (Line replies.Goodbye) = false
+grants_nothing (Line (replies.AcceptedAs number)) = false
+grants_nothing answer = true
 
 -- The decision gives this answer. Its effect changes what the command with this answer changes, and is possible. `line`
 -- is the request to the driver, if there is one.

@@ -10,14 +10,7 @@ use Rattle.nut_server_loop.specs.Memory.{MemoryState, event_of_given, gave_of, G
 gave_of-append : (xs ys : List entry.Entry) → gave_of (xs ++ ys) ≡ gave_of xs ++ gave_of ys
 gave_of-append [] ys = refl
 gave_of-append (entry.Gave e ∷ r) ys = ap (λ l. e ∷ l) (gave_of-append r ys)
-gave_of-append (entry.TookBytes c bytes ∷ r) ys = gave_of-append r ys
-gave_of-append (entry.WasLate c ∷ r) ys = gave_of-append r ys
-gave_of-append (entry.WriteBroke c ∷ r) ys = gave_of-append r ys
-gave_of-append (entry.WasClosed c ∷ r) ys = gave_of-append r ys
-gave_of-append (entry.TookRequests u bytes ∷ r) ys = gave_of-append r ys
-gave_of-append (entry.DriverWasLate u ∷ r) ys = gave_of-append r ys
-gave_of-append (entry.DriverBroke u ∷ r) ys = gave_of-append r ys
-gave_of-append (entry.DriverWasClosed u ∷ r) ys = gave_of-append r ys
+gave_of-append (e ∷ r) ys = gave_of-append r ys
 
 count-append : (p : Event → Bool) (xs ys : List Event) → count_by p (xs ++ ys) ≡ count_by p xs + count_by p ys
 count-append p xs ys = sum_by-append (λ x. cond (p x) 1 0) xs ys

@@ -7,7 +7,7 @@ use Rattle.nut_words.specs.Lines.{rest}
 use Rattle.nut_words.specs.declared.limits.TheConstants.{LINE_MAX}
 use Rattle.nut_server_spec.specs.Configuration.{Configuration}
 use Rattle.nut_server_spec.specs.Device.{Device}
-use Rattle.nut_server_spec.specs.Event.{Event, Moment, Open, Bytes, Took, Close, WriteFailed, DriverUp, DriverBytes, DriverTook, DriverDown, Reload, input, driver_input, steps}
+use Rattle.nut_server_spec.specs.Event.{Event, Open, Bytes, Took, Close, WriteFailed, DriverUp, DriverBytes, DriverTook, DriverDown, Reload, input, driver_input, steps}
 use Rattle.nut_server_spec.specs.Trace.{numbering, device, due, driver_due, driver_sent, logged_out}
 use Rattle.nut_server_spec.specs.Content.{Session, Supply, Content, content, past, sent, session, fresh, numbering_of}
 use Rattle.nut_server_spec.specs.Acceptance.{IsAccepted, session_of, waiting_of, supply_of, asks_of}
@@ -178,17 +178,12 @@ NumbersRise =
 -- the number of the connection that an event concerns, if it concerns one; an Open concerns the connection that it
 -- opens
 abbrev pub connection_of : Content → Event → Option ℕ
-connection_of s (Moment t) = None
 connection_of s (Open address) = Some (s.opened + 1)
 connection_of s (Bytes c piece) = Some c
 connection_of s (Took c n) = Some c
 connection_of s (Close c) = Some c
 connection_of s (WriteFailed c) = Some c
-connection_of s (DriverUp u) = None
-connection_of s (DriverBytes u piece) = None
-connection_of s (DriverTook u n) = None
-connection_of s (DriverDown u) = None
-connection_of s (Reload configuration) = None
+connection_of s e = None
 
 -- the number of the UPS whose driver an event concerns, if it concerns one
 abbrev pub driver_of : Event → Option ℕ

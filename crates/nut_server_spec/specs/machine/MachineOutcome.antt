@@ -6,7 +6,7 @@ use Rattle.nut_words.specs.Lines.{LineText, lines_after}
 use Rattle.nut_server_spec.specs.declared.Place.{Place}
 use Rattle.nut_server_spec.specs.declared.Place.TheVariants.{Line, Report, NewUpses}
 use Rattle.nut_server_spec.specs.declared.Refused.{Refused}
-use Rattle.nut_server_spec.specs.declared.Refused.TheVariants.{NoSuchConnection, NotConnected, PieceTooLong, Busy, TooMuchTaken, BadAddress, Full, Memory}
+use Rattle.nut_server_spec.specs.declared.Refused.TheVariants.{Memory}
 use Rattle.nut_server_spec.specs.Configuration.{Configuration}
 use Rattle.nut_server_spec.specs.Event.{Event, Bytes, Close, DriverBytes, DriverDown, Reload}
 use Rattle.nut_server_spec.specs.Content.{Session, Supply, Content}
@@ -45,13 +45,7 @@ Lacks s place e = ⊥
 -- is lacking only where no test does.
 abbrev pub Refuses : Content → Event → Refused → Type 0
 Refuses s e (Memory place) = (refusal s e ≡ None) × Lacks s place e
-Refuses s e NoSuchConnection = refusal s e ≡ Some NoSuchConnection
-Refuses s e NotConnected = refusal s e ≡ Some NotConnected
-Refuses s e PieceTooLong = refusal s e ≡ Some PieceTooLong
-Refuses s e Busy = refusal s e ≡ Some Busy
-Refuses s e TooMuchTaken = refusal s e ≡ Some TooMuchTaken
-Refuses s e BadAddress = refusal s e ≡ Some BadAddress
-Refuses s e Full = refusal s e ≡ Some Full
+Refuses s e r = refusal s e ≡ Some r
 
 -- A server with this content may answer the event by this result.
 abbrev pub Answers : {U : Type 0} → Content → Event → Result U Refused → Type 0

@@ -1,61 +1,24 @@
-use Rattle.std.proofs.Common.{◌∙◌, ap, subst, refl, length}
+use Rattle.std.proofs.Common.{refl, subst}
 use Rattle.nut_proto.specs.declared.reply.Reply.TheVariants as replies
 use Rattle.nut_proto.specs.declared.request.Request.TheVariants as requests
-use Rattle.nut_proto.specs.Descriptions.{variable_description, command_description}
-use Rattle.nut_server_spec.specs.Answer.{Line, described, guests_of, type_reply, var_row}
 use Rattle.nut_server_spec.specs.Command.{Asks}
-use Rattle.nut_server_spec.specs.Configuration.{ups_named}
 use Rattle.nut_server_spec.specs.machine.Machine.{caller_of}
+use Rattle.nut_server.specs.inside.Answers.{outcome}
 use Rattle.nut_server.specs.inside.Decisions.{Grants}
-use Rattle.nut_server.proofs.Deciding.{tells, grants, hands_on, refusable_set, refusable_command, refusable_fsd}
-use Rattle.nut_server.proofs.Quiet.{of_ups, of_described, of_variable, of_command, of_list}
+use Rattle.nut_server.proofs.Deciding.{only_asks, question, grants, hands_on, refusable_set, refusable_command, refusable_fsd}
 use Rattle.nut_server.proofs.decision.decide_request.Goals as goal
 
-pub returns-in-GetNumLogins : goal.returns-in-GetNumLogins
-returns-in-GetNumLogins c =
-    rw (c.in-GetNumLogins.is, ← c.as_bytes.ensures)
-    (tells c.args.scene.now c.tell.result _ c.args.line.now.items (c.tell.ensures.answer ∙ c.count_logins.ensures) c.tell.ensures.effect
-    (of_ups c.args.scene.now c.as_bytes.result.now (λ u d. Line (replies.NumLogins c.as_bytes.result.now (length (guests_of u c.args.scene.now.guests)))) (λ u d. (λ b. refl, λ now b. refl, refl))))
-
-pub returns-in-GetUpsDesc : goal.returns-in-GetUpsDesc
-returns-in-GetUpsDesc c =
-    let s = c.args.scene.now in
-    let ups = c.in-GetUpsDesc.ups in
-    let is = c.tell-in-GetUpsDesc.ensures.answer ∙ c.describe_ups.ensures ∙ ap (λ name. described name (ups_named name s.configuration.upses)) c.as_bytes-in-GetUpsDesc.ensures in
-    rw c.in-GetUpsDesc.is (tells s c.tell-in-GetUpsDesc.result _ c.args.line.now.items is c.tell-in-GetUpsDesc.ensures.effect (of_described ups (ups_named ups s.configuration.upses)))
-
-pub returns-in-GetVar : goal.returns-in-GetVar
-returns-in-GetVar c =
-    rw (c.in-GetVar.is, ← c.as_bytes-in-GetVar.ensures, ← c.as_bytes-in-GetVar-2.ensures)
-    (tells c.args.scene.now c.tell-in-GetVar.result _ c.args.line.now.items (c.tell-in-GetVar.ensures.answer ∙ c.show_variable.ensures) c.tell-in-GetVar.ensures.effect
-    (of_variable c.args.scene.now c.as_bytes-in-GetVar.result.now c.as_bytes-in-GetVar-2.result.now (λ d v. Line (var_row c.as_bytes-in-GetVar.result.now d v)) (λ d v. (λ b. refl, λ now b. refl, refl))))
-
-pub returns-in-GetType : goal.returns-in-GetType
-returns-in-GetType c =
-    rw (c.in-GetType.is, ← c.as_bytes-in-GetType.ensures, ← c.as_bytes-in-GetType-2.ensures)
-    (tells c.args.scene.now c.tell-in-GetType.result _ c.args.line.now.items (c.tell-in-GetType.ensures.answer ∙ c.show_type.ensures) c.tell-in-GetType.ensures.effect
-    (of_variable c.args.scene.now c.as_bytes-in-GetType.result.now c.as_bytes-in-GetType-2.result.now (λ d v. Line (type_reply c.as_bytes-in-GetType.result.now v)) (λ d v. (λ b. refl, λ now b. refl, refl))))
-
-pub returns-in-GetDesc : goal.returns-in-GetDesc
-returns-in-GetDesc c =
-    rw (c.in-GetDesc.is, ← c.as_bytes-in-GetDesc.ensures, ← c.as_bytes-in-GetDesc-2.ensures)
-    (tells c.args.scene.now c.tell-in-GetDesc.result _ c.args.line.now.items (c.tell-in-GetDesc.ensures.answer ∙ c.describe_variable.ensures) c.tell-in-GetDesc.ensures.effect
-    (of_variable c.args.scene.now c.as_bytes-in-GetDesc.result.now c.as_bytes-in-GetDesc-2.result.now (λ d v. Line (replies.Desc c.as_bytes-in-GetDesc.result.now c.as_bytes-in-GetDesc-2.result.now (variable_description c.args.scene.now.configuration.variable_texts c.as_bytes-in-GetDesc-2.result.now))) (λ d v. (λ b. refl, λ now b. refl, refl))))
-
-pub returns-in-GetCmdDesc : goal.returns-in-GetCmdDesc
-returns-in-GetCmdDesc c =
-    rw (c.in-GetCmdDesc.is, ← c.as_bytes-in-GetCmdDesc.ensures, ← c.as_bytes-in-GetCmdDesc-2.ensures)
-    (tells c.args.scene.now c.tell-in-GetCmdDesc.result _ c.args.line.now.items (c.tell-in-GetCmdDesc.ensures.answer ∙ c.describe_command.ensures) c.tell-in-GetCmdDesc.ensures.effect
-    (of_command c.args.scene.now c.as_bytes-in-GetCmdDesc.result.now c.as_bytes-in-GetCmdDesc-2.result.now (Line (replies.CmdDesc c.as_bytes-in-GetCmdDesc.result.now c.as_bytes-in-GetCmdDesc-2.result.now (command_description c.args.scene.now.configuration.command_texts c.as_bytes-in-GetCmdDesc-2.result.now))) (λ b. refl, λ now b. refl, refl)))
-
-pub returns-in-List : goal.returns-in-List
-returns-in-List c =
-    rw c.in-List.is (tells c.args.scene.now c.tell-in-List.result _ c.args.line.now.items (c.tell-in-List.ensures.answer ∙ c.list_answer.ensures) c.tell-in-List.ensures.effect (of_list c.args.scene.now c.in-List.query))
+pub returns-in_default : goal.returns-in_default
+returns-in_default c =
+    let is = c.in_default in
+    let asks-only = only_asks c.args.request.now is.not-GetTracking is.not-SetVar is.not-SetTracking is.not-InstCmd is.not-Username is.not-Password is.not-Login is.not-Primary is.not-Fsd is.not-Logout in
+    question c.args.scene.now (caller_of c.args.caller.now) c.args.request.now c.tell.result (outcome c.answer_question.result) c.args.line.now.items
+    asks-only c.answer_question.ensures.quiet c.answer_question.ensures.answer c.tell.ensures.answer c.tell.ensures.effect
 
 pub returns-in-SetVar : goal.returns-in-SetVar
 returns-in-SetVar c =
-    rw (c.in-SetVar.is, ← c.as_bytes-in-SetVar.ensures, ← c.as_bytes-in-SetVar-2.ensures, ← c.as_bytes-in-SetVar-3.ensures)
-    (hands_on c.args.scene.now (caller_of c.args.caller.now) (Asks (requests.SetVar c.as_bytes-in-SetVar.result.now c.as_bytes-in-SetVar-2.result.now c.as_bytes-in-SetVar-3.result.now)) c.set_variable.result c.hand_on.result c.set_variable.new.line.items c.hand_on.ensures (refusable_set c.args.scene.now c.as_bytes-in-SetVar.result.now c.as_bytes-in-SetVar-2.result.now c.as_bytes-in-SetVar-3.result.now) c.set_variable.ensures)
+    rw (c.in-SetVar.is, ← c.as_bytes.ensures, ← c.as_bytes-in-SetVar.ensures, ← c.as_bytes-in-SetVar-2.ensures)
+    (hands_on c.args.scene.now (caller_of c.args.caller.now) (Asks (requests.SetVar c.as_bytes.result.now c.as_bytes-in-SetVar.result.now c.as_bytes-in-SetVar-2.result.now)) c.set_variable.result c.hand_on.result c.set_variable.new.line.items c.hand_on.ensures (refusable_set c.args.scene.now c.as_bytes.result.now c.as_bytes-in-SetVar.result.now c.as_bytes-in-SetVar-2.result.now) c.set_variable.ensures)
 
 pub returns-in-SetTracking : goal.returns-in-SetTracking
 returns-in-SetTracking c =

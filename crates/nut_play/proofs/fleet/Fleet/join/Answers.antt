@@ -1,9 +1,8 @@
-use Rattle.std.proofs.Common.{◌<◌, false, length, slice_get, map, subst, sym, ap, ◌∙◌}
+use Rattle.std.proofs.Common.{◌<◌, length, slice_get, map, OnErr, subst, sym, ap, ◌∙◌}
 use Rattle.nut_play.specs.Steps.{logged_of}
 use Rattle.nut_play.specs.Kept.{Kept, links_in, ends_at}
 use Rattle.nut_play.specs.machine.Next.{known_of, link_of, is_played, told_by, told_news, link_by, join_seat}
 use Rattle.nut_play.specs.contracts.fleet.Fleet.{the_view}
-use Rattle.nut_play.proofs.Lacks.{lack-same}
 use Rattle.nut_play.proofs.Written.{on-ok-two}
 use Rattle.nut_play.proofs.Fleets.{if-ok, known-there, link-there, within-there, watch-there, fleet-written, log-same}
 use Rattle.nut_play.proofs.fleet.Fleet.join.Goals as goal
@@ -34,9 +33,7 @@ returns-clause-log c =
 
 pub returns-clause-lack : goal.returns-clause-lack
 returns-clause-lack c =
-    lack-same c.join.result false
-    (told_news (link_by c.args.place.monitor (the_view c.self.inside).server c.index_mut.result.now.monitor.content c.args.place.link (ends_at c.index_mut.result.now.links c.args.place.link)) c.index_mut.result.now.monitor.content)
-    (told_news (link_by c.args.place.monitor c.args.self.now.server (known_of c.args.self.now c.args.place.monitor) c.args.place.link (link_of c.args.self.now c.args.place.monitor c.args.place.link)) (known_of c.args.self.now c.args.place.monitor))
+    subst (λ told. OnErr c.join.result (0 < length told))
     (ap (λ s. told_news (link_by c.args.place.monitor (the_view c.self.inside).server s c.args.place.link (ends_at c.index_mut.result.now.links c.args.place.link)) s) (known-there (the_view c.self.inside) c.args.place.monitor c.index_mut.result.now (subst (λ (v : Kept). c.args.place.monitor < length v.seats) (sym c.self.view_is) c.requires.within) c.index_mut.ensures.value)
     ∙ ap (λ x. told_news (link_by c.args.place.monitor (the_view c.self.inside).server (known_of (the_view c.self.inside) c.args.place.monitor) c.args.place.link x) (known_of (the_view c.self.inside) c.args.place.monitor)) (link-there (the_view c.self.inside) c.args.place.monitor c.index_mut.result.now (subst (λ (v : Kept). c.args.place.monitor < length v.seats) (sym c.self.view_is) c.requires.within) c.index_mut.ensures.value c.args.place.link)
     ∙ ap (λ (v : Kept). told_news (link_by c.args.place.monitor v.server (known_of v c.args.place.monitor) c.args.place.link (link_of v c.args.place.monitor c.args.place.link)) (known_of v c.args.place.monitor)) c.self.view_is)

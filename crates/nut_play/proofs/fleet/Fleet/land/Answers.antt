@@ -1,7 +1,8 @@
-use Rattle.std.proofs.Common.{◌<◌, length, slice_get, map, subst, sym, refl, ap, ◌∙◌}
+use Rattle.std.proofs.Common.{◌<◌, length, slice_get, map, OnErr, subst, sym, refl, ap, ◌∙◌}
 use Rattle.nut_play.specs.Steps.{logged_of}
 use Rattle.nut_play.specs.Kept.{Kept, links_in, ends_at}
 use Rattle.nut_play.specs.machine.Next.{known_of, link_of, is_played, told_news, land_by, land_seat}
+use Rattle.nut_play.specs.machine.Lacking.{MonitorLacks}
 use Rattle.nut_play.specs.contracts.fleet.Fleet.{the_view}
 use Rattle.nut_play.proofs.Written.{on-ok}
 use Rattle.nut_play.proofs.Fleets.{if-ok, known-there, link-there, within-there, fleet-written, log-same}
@@ -27,3 +28,9 @@ returns-clause-log c =
     ∙ ap (λ x. told_news (land_by c.args.place.monitor (known_of (the_view c.self.inside) c.args.place.monitor) c.args.place.link x c.args.n) (known_of (the_view c.self.inside) c.args.place.monitor)) (link-there (the_view c.self.inside) c.args.place.monitor c.index_mut.result.now (subst (λ (v : Kept). c.args.place.monitor < length v.seats) (sym c.self.view_is) c.requires.within) c.index_mut.ensures.value c.args.place.link)
     ∙ ap (λ (v : Kept). told_news (land_by c.args.place.monitor (known_of v c.args.place.monitor) c.args.place.link (link_of v c.args.place.monitor c.args.place.link) c.args.n) (known_of v c.args.place.monitor)) c.self.view_is)
     c.land.ensures.log
+
+pub returns-clause-lack : goal.returns-clause-lack
+returns-clause-lack c =
+    rw (← c.self.view_is)
+    (subst (λ e. OnErr c.land.result (MonitorLacks c.args.place.monitor (known_of (the_view c.self.inside) c.args.place.monitor) (land_by c.args.place.monitor (known_of (the_view c.self.inside) c.args.place.monitor) c.args.place.link e c.args.n))) (link-there (the_view c.self.inside) c.args.place.monitor c.index_mut.result.now (subst (λ (v : Kept). c.args.place.monitor < length v.seats) (sym c.self.view_is) c.requires.within) c.index_mut.ensures.value c.args.place.link)
+    (subst (λ s. OnErr c.land.result (MonitorLacks c.args.place.monitor s (land_by c.args.place.monitor s c.args.place.link (ends_at c.index_mut.result.now.links c.args.place.link) c.args.n))) (known-there (the_view c.self.inside) c.args.place.monitor c.index_mut.result.now (subst (λ (v : Kept). c.args.place.monitor < length v.seats) (sym c.self.view_is) c.requires.within) c.index_mut.ensures.value) c.land.ensures.lack))

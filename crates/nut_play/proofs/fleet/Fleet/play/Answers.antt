@@ -19,7 +19,7 @@ returns-clause-fault c = λ setup before is.
     if-err _ _ c.run.result
     (λ fault. fault-of setup before c.args.self.now
     (λ schedule. c.fleets_go_on.ensures setup schedule (monitors-fine c.configurations_are_spoken.ensures c.args.self.now.seats setup.monitors is.monitors))
-    is c.args.schedule.now fault c.run.new.self)
+    is (λ schedule new stands. (c.rooms_hold.ensures setup schedule new stands).accepted) c.args.schedule.now fault c.run.new.self)
     (c.run.ensures.fault is.works)
 
 pub returns-clause-holds : goal.returns-clause-holds

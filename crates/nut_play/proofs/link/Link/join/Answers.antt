@@ -1,5 +1,5 @@
-use Rattle.std.proofs.Common.{◌≡◌, ◌+◌, suc, ◌++◌, true, false, [], map, is_some, is_none, IfOk, OnOk, OnErr, sym, ◌∙◌, ap, subst, arith}
-use Rattle.std.specs.Prelude.{IsTrue, if◌then◌else◌}
+use Rattle.std.proofs.Common.{◌≡◌, ◌<◌, ◌+◌, suc, ◌++◌, true, false, [], length, map, is_some, is_none, IfOk, OnOk, sym, ◌∙◌, ap, subst, arith}
+use Rattle.std.specs.Prelude.{if◌then◌else◌}
 use Rattle.nut_server_spec.specs.Content.{Content}
 use Rattle.nut_server_spec.specs.Acceptance.{refusal, session_of}
 use Rattle.nut_server_spec.specs.Event.{Open}
@@ -9,9 +9,9 @@ use Rattle.nut_monitor.specs.Monitors.{MonitorValue}
 use Rattle.nut_fleet.specs.World.{Tell, Inform, Join, Skip, address_of}
 use Rattle.nut_fleet.specs.Seen.{Ends}
 use Rattle.nut_fleet.specs.Log.{logged}
-use Rattle.nut_play.specs.Lack.{is_told}
 use Rattle.nut_play.specs.Steps.{logged_of}
 use Rattle.nut_play.specs.machine.Next.{is_played, open_by, linked_by, inform_by, link_by, told_by, heard_by, told_news, made_by}
+use Rattle.nut_play.proofs.Lacks.{on-err, linked-lacks}
 use Rattle.nut_play.proofs.Deeds.{on-any-ok, told-is_played, log-same, link-open, link-linked, link-refused, link-made, linked-accepted}
 use Rattle.nut_play.proofs.link.Link.join.Goals.{then-is_open-via-then-is_open, then-is_open-via-else-is_open+then-linked}
 use Rattle.nut_play.proofs.link.Link.join.Goals as goal
@@ -86,5 +86,5 @@ returns c =
           (c.make.ensures ∙ ap (λ k. let e : Ends = record { connection = k; to_server = []; to_monitor = [] } in e) (c.opened.ensures.value ∙ ap (λ (s : Content). s.opened) told ∙ more)
           ∙ sym (ap (λ d. made_by d server ends) joins));
       log = subst (λ ns. OnOk c.inform.result (map logged_of c.inform.new.log.items ≡ map logged_of c.args.log.now.items ++ logged c.args.place.step ns)) news c.inform.ensures.log;
-      lack = subst (λ ns. OnErr c.inform.result (IsTrue (is_told ns))) news c.inform.ensures.lack;
+      lack = on-err _ _ c.inform.result (λ may. subst (λ ns. 0 < length ns) news (linked-lacks m known i may)) c.inform.ensures.lack;
     }

@@ -18,6 +18,7 @@ returns-then-not-linked c =
       monitor = sym (ap (λ d. let v : MonitorValue = record { config = c.args.monitor.now.config; content = heard_by d known } in v) skips);
       link = sym (ap (λ d. landed_by d i ends) skips);
       log = log-same _ c.args.place.step (land_by m known i ends c.args.n) known (ap (λ d. told_news d known) skips);
+      lack = tt;
     }
 
 pub returns-then-count-eq0 : goal.returns-then-count-eq0
@@ -34,4 +35,5 @@ returns-then-count-eq0 c =
       monitor = sym (ap (λ d. let v : MonitorValue = record { config = c.args.monitor.now.config; content = heard_by d known } in v) rests);
       link = sym (ap (λ d. landed_by d i ends) rests);
       log = log-same _ c.args.place.step (land_by m known i ends c.args.n) known (ap (λ d. told_news d known) rests);
+      lack = tt;
     }

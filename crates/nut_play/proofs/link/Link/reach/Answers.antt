@@ -20,6 +20,7 @@ returns-then-not-is_open c =
       played = sym (ap is_played skips);
       server = sym (ap (λ d. told_by d 0 server) skips);
       link = sym (ap (λ d. reached_by d ends) skips);
+      lack = tt;
     }
 
 pub returns-then-count-eq0 : goal.returns-then-count-eq0
@@ -34,4 +35,5 @@ returns-then-count-eq0 c =
       played = sym (ap is_played rests);
       server = sym (ap (λ d. told_by d 0 server) rests);
       link = sym (ap (λ d. reached_by d ends) rests);
+      lack = tt;
     }

@@ -1,27 +1,17 @@
--- A line that reads as words does what its words ask for; any other line asks for nothing.
-use Rattle.std.proofs.Common.{◌≡◌, sym, subst, ◌∙◌}
-use Rattle.std.specs.Result.{IfOk}
-use Rattle.nut_state.specs.Answer.{answer}
+-- A plain SETINFO does what it asks for; any other line takes the other way.
+use Rattle.std.proofs.Common.{◌∷◌, sym, subst, ◌∙◌}
 use Rattle.std.proofs.lemmas.Result.{on_ok_weaker}
-use Rattle.nut_state.proofs.HistoryLemmas.{followed_holds, heard_words, applied_words, line_adds_words}
+use Rattle.nut_state.specs.Change.{set_info}
+use Rattle.nut_state.specs.laws.Holds.{Holds}
+use Rattle.nut_state.proofs.HistoryLemmas.{applied_change, applied_holds}
 use Rattle.nut_state.proofs.state.UpsState.apply.Goals as goal
 
-pub returns-in-Ok-clause-table : goal.returns-in-Ok-clause-table
-returns-in-Ok-clause-table c =
-    on_ok_weaker c.hear.result (λ e. e ∙ applied_words c.args.self.now c.args.line.now c.in-Ok.words c.in-Ok.ensures.words) c.hear.ensures.table
+pub returns-in-Some-clause-looks_back : goal.returns-in-Some-clause-looks_back
+returns-in-Some-clause-looks_back c lines h =
+    let does = applied_change c.args.self.now c.args.line.now (set_info c.in-Some.name.now c.in-Some.value.now) c.in-Some.ensures in
+    subst (λ u. Holds u (c.args.line.now ∷ lines)) (sym (c.in_ok-set_info.ensures.ok ∙ does)) (applied_holds c.args.self.now c.args.line.now lines h)
 
-pub returns-in-Ok-clause-answer : goal.returns-in-Ok-clause-answer
-returns-in-Ok-clause-answer c =
-    subst (λ o. IfOk c.hear.result (λ told. told ≡ answer o)) (sym (heard_words c.args.line.now c.in-Ok.words c.in-Ok.ensures.words)) c.hear.ensures.answer
-
-pub returns-in-Ok-clause-refused : goal.returns-in-Ok-clause-refused
-returns-in-Ok-clause-refused c = c.hear.ensures.refused
-
-pub returns-in-Ok-clause-looks_back : goal.returns-in-Ok-clause-looks_back
-returns-in-Ok-clause-looks_back c lines h =
-    on_ok_weaker c.hear.result
-    (λ e. followed_holds c.args.self.now c.hear.new.self c.args.line.now c.in-Ok.words c.in-Ok.ensures.words e lines h) c.hear.ensures.table
-
-pub returns-in-Ok-clause-succeeds : goal.returns-in-Ok-clause-succeeds
-returns-in-Ok-clause-succeeds c plain none =
-    c.hear.ensures.succeeds (line_adds_words c.args.self.now c.args.line.now c.in-Ok.words c.in-Ok.ensures.words ∙ none)
+pub returns-clause-looks_back : goal.returns-clause-looks_back
+returns-clause-looks_back c lines h =
+    on_ok_weaker c.apply_any.result
+    (λ e. subst (λ u. Holds u (c.args.line.now ∷ lines)) (sym e) (applied_holds c.args.self.now c.args.line.now lines h)) c.apply_any.ensures.table
