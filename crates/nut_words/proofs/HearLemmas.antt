@@ -61,9 +61,8 @@ all_but_few t [] = refl
 all_but_few t (u ∷ ts) = omega (arith, all_but_few u ts)
 
 few_completed : (r : LineText) (ts : List (List ℕ)) (n : ℕ) → length ts ≤ n + 1 → length (completed r ts) ≤ n
-few_completed r [] n h = omega arith
-few_completed r (t ∷ []) n h = omega arith
 few_completed r (t ∷ u ∷ ts) n h = omega (arith, length-map (all_but_last (u ∷ ts)) as_line, all_but_few u ts)
+few_completed r _ n h = omega arith
 
 pub few_lines : (r : LineText) (x : List ℕ) → length (lines_after r x) ≤ length x
 few_lines r x = few_completed r (parts x) (length x) (omega (arith, length-slice_split (λ c. eqb c 10) x, count_by-le-length (λ c. eqb c 10) x))

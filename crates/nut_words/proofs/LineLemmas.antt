@@ -42,14 +42,12 @@ parts-append (c ∷ cs) b =
     step_parts (eqb c 10) c (parts (cs ++ b)) (parts cs) (parts b) before.0 before.1 after.0 after.1 before.2 after.2 (parts-append cs b)
 
 pub last_of-append : (xs : List (List ℕ)) (y : List ℕ) (ys : List (List ℕ)) → last_of (xs ++ y ∷ ys) ≡ last_of (y ∷ ys)
-last_of-append [] y ys = refl
-last_of-append (x ∷ []) y ys = refl
 last_of-append (x ∷ u ∷ us) y ys = last_of-append (u ∷ us) y ys
+last_of-append _ y ys = refl
 
 pub all_but_last-append : (xs : List (List ℕ)) (y : List ℕ) (ys : List (List ℕ)) → all_but_last (xs ++ y ∷ ys) ≡ xs ++ all_but_last (y ∷ ys)
-all_but_last-append [] y ys = refl
-all_but_last-append (x ∷ []) y ys = refl
 all_but_last-append (x ∷ u ∷ us) y ys = ap (λ zs. x ∷ zs) (all_but_last-append (u ∷ us) y ys)
+all_but_last-append _ y ys = refl
 
 -- A byte that is no line feed belongs to the part that follows it.
 pub goes_on : (b : Bool) (x : ℕ) (xs : List ℕ) (all : List (List ℕ)) → (b ≡ true → ⊥) → all ≡ xs ∷ [] → cond b ([] ∷ all) (onto_first x all) ≡ (x ∷ xs) ∷ []

@@ -9,6 +9,7 @@ use crate::limits::{LINE_MAX, WORDS_MAX};
 
 /// States worked examples and does nothing when called: what some lines spell, how some words are written, and where
 /// the lines of some streams end.
+#[tactic(auto, unfolding(crate::specs::Reader::read))]
 pub fn worked_examples()
     ensures words { spelled (codes "a=b \"\" # c")
         ≡ Ok (codes "a" ∷ codes "=" ∷ codes "b" ∷ codes "" ∷ []) }

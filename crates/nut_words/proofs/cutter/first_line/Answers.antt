@@ -1,10 +1,7 @@
-use Rattle.std.proofs.Common.{◌≡◌, ℕ, ◌+◌, ◌-◌, ◌<◌, true, eqb, List, [], ◌∷◌, ◌++◌, length, take, drop, get_or, refl, sym, ap, ◌∙◌, arith}
-use Rattle.std.proofs.lemmas.List.{append_assoc, length-append, length-drop, length-take-le, take-append-drop, take_all}
+use Rattle.std.proofs.Common.{◌≡◌, ℕ, ◌+◌, ◌<◌, true, eqb, List, [], ◌∷◌, ◌++◌, length, take, drop, get_or, refl, sym, ap, ◌∙◌, arith}
+use Rattle.std.proofs.lemmas.List.{append_assoc, length-append, length-take-le, take-append-drop, take_rest}
 use Rattle.nut_words.proofs.LineLemmas.{FeedAt, FeedAt-found, joined_text, lines_of_line}
 use Rattle.nut_words.proofs.cutter.first_line.Goals as goal
-
-rest_of : (piece : List ℕ) (n : ℕ) → take (length piece - n) (drop n piece) ≡ drop n piece
-rest_of piece n = take_all (length piece - n) (drop n piece) (omega (arith, length-drop n piece))
 
 -- the line feed behind a text
 at_seam : (text after : List ℕ) → get_or (text ++ 10 ∷ after) (length text) 0 ≡ 10
@@ -19,7 +16,7 @@ returns-clause-line c =
     let p = c.args.piece.now in
     let k = c.in_ok-at.at in
     let at : FeedAt p k = FeedAt-found p k c.in_ok-at.ensures.0 c.in_ok-at.ensures.1 in
-    rw (rest_of p (k + 1))
+    rw (take_rest p (k + 1))
     (record {
       parted = sym (take-append-drop (k + 1) p) ∙ ap (λ front. front ++ drop (k + 1) p) at.front ∙ append_assoc (take k p) (10 ∷ []) (drop (k + 1) p);
       whole = lines_of_line [] (take k p) at.unbroken ∙ ap (λ line. line ∷ []) (joined_text (take k p) (omega (arith, c.if-at-gt-LINE_MAX.false, length-take-le k p (omega (arith, at.within)))));
