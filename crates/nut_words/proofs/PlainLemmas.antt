@@ -1,5 +1,5 @@
 -- Bare words, and the first line of a piece.
-use Rattle.std.proofs.Common.{◌≡◌, ℕ, ◌+◌, ◌<◌, ◌≤◌, true, List, [], ◌∷◌, ◌++◌, Ok, length, map, take, get_or, refl, sym, ap, subst, ◌∙◌, arith}
+use Rattle.std.proofs.Common.{◌≡◌, ℕ, ◌+◌, ◌<◌, ◌≤◌, Bool, true, List, [], ◌∷◌, ◌++◌, Ok, length, map, take, get_or, refl, sym, ap, subst, ◌∙◌, arith}
 use Rattle.std.specs.Prelude.{◌==◌}
 use Rattle.std.specs.List.{IsFirstAndRest, IsLastAndRest, list_all}
 use Rattle.std.proofs.lemmas.Bool.{and_from, and_parts}
@@ -37,15 +37,15 @@ four_more_bare bytes len within first second third fourth before =
 pub bare_text : (word : List ℕ) → stands_bare word ≡ true → word_text word ≡ word
 bare_text word bare = rw bare refl
 
-byte_printing : (c : ℕ) → is_bare c ≡ true → is_printing c ≡ true
-byte_printing c bare = grind (arith, nat_tests)
-
-bytes_printable : (word : List ℕ) → list_all is_bare word ≡ true → IsPrintable word
-bytes_printable [] bare = tt
-bytes_printable (c ∷ word) bare = let both = and_parts (is_bare c) _ bare in (byte_printing c both.0, bytes_printable word both.1)
+-- Bytes that pass a test which only printing bytes pass.
+pub all_printable : (test : ℕ → Bool) → ((c : ℕ) → test c ≡ true → is_printing c ≡ true) → (text : List ℕ) → list_all test text ≡ true → IsPrintable text
+all_printable test each [] all = tt
+all_printable test each (c ∷ text) all =
+    let both = and_parts (test c) (list_all test text) all in
+    (each c both.0, all_printable test each text both.1)
 
 pub bare_printable : (word : List ℕ) → stands_bare word ≡ true → IsPrintable word
-bare_printable word bare = bytes_printable word (and_parts _ (list_all is_bare word) bare).1
+bare_printable word bare = all_printable is_bare (λ c is. grind (arith, nat_tests)) word (and_parts _ (list_all is_bare word) bare).1
 
 -- The printable bytes before the first line feed of a piece are its first line.
 pub first_printable : (text after : List ℕ) → IsPrintable text → length text ≤ LINE_MAX → IsFirstLine text (text ++ 10 ∷ after) after
@@ -56,17 +56,13 @@ first_printable text after h fits = record {
 
 -- ---- what a line says that ends in a quoted text
 
-printing_text : (text : List ℕ) → list_all is_printing text ≡ true → IsPrintable text
-printing_text [] all = tt
-printing_text (c ∷ text) all = let both = and_parts (is_printing c) (list_all is_printing text) all in (both.0, printing_text text both.1)
-
 -- The bytes of a quoted word, whose text is printable and stands there as it is.
 pub quoted_as_it_is : (first last : ℕ) (bytes behind text : List ℕ) → IsFirstAndRest bytes first behind → IsLastAndRest behind last text → first ≡ 34 → last ≡ 34
     → list_all is_printing text ≡ true → list_all (λ c. length (escaped c) == 1) text ≡ true → (bytes ≡ quoted text) × IsPrintable text
 quoted_as_it_is first last bytes behind text front end opens closes printing alone = (
   front.0 ∙ ap (λ c. c ∷ behind) opens
       ∙ ap (λ rest. 34 ∷ rest) (end.0 ∙ ap (λ c. text ++ c ∷ []) closes ∙ ap (λ t. t ++ 34 ∷ []) (sym (unescaped_text text alone))),
-  printing_text text printing,
+  all_printable is_printing (λ c is. is) text printing,
 )
 
 -- A line of two bare words and a quoted text, with a blank between two of them.
