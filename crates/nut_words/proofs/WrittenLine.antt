@@ -3,6 +3,7 @@ use Rattle.std.proofs.Common.{◌≡◌, ℕ, Bool, true, false, cond, eqb, List
 use Rattle.std.specs.Prelude.{◌==◌, ◌||◌}
 use Rattle.std.specs.List.{flat_map, AllByRecursion}
 use Rattle.std.proofs.lemmas.Bool.Decides.{nat_tests}
+use Rattle.std.proofs.lemmas.Bool.{cond_both}
 use Rattle.nut_words.specs.Lines.{Text, as_line, joined, lines, parts, rest}
 use Rattle.nut_words.specs.Spelling.{is_printing}
 use Rattle.nut_words.specs.Quoting.{IsPrintable, escaped, line_text, quoted, stands_bare, word_text}
@@ -13,10 +14,7 @@ all-append [] ys h k = k
 all-append (x ∷ xs) ys h k = (h.0, all-append xs ys h.1 k)
 
 escaped_printable : (c : ℕ) → is_printing c ≡ true → IsPrintable (escaped c)
-escaped_printable c p = by_test (c == 34 || c == 92 || c == 35) where
-  by_test : (b : Bool) → IsPrintable (cond b (92 ∷ c ∷ []) (c ∷ []))
-  by_test true = (refl, (p, tt))
-  by_test false = (p, tt)
+escaped_printable c p = cond_both (c == 34 || c == 92 || c == 35) (92 ∷ c ∷ []) (c ∷ []) IsPrintable (λ _. (refl, (p, tt))) (λ _. (p, tt))
 
 items_printable : (text : List ℕ) → IsPrintable text → IsPrintable (flat_map escaped text)
 items_printable [] h = tt
@@ -26,10 +24,7 @@ pub quoted_printable : (text : List ℕ) → IsPrintable text → IsPrintable (q
 quoted_printable text h = (refl, all-append (flat_map escaped text) (34 ∷ []) (items_printable text h) (refl, tt))
 
 pub word_printable : (word : List ℕ) → IsPrintable word → IsPrintable (word_text word)
-word_printable word h = by_test (stands_bare word) where
-  by_test : (b : Bool) → IsPrintable (cond b word (quoted word))
-  by_test true = h
-  by_test false = quoted_printable word h
+word_printable word h = cond_both (stands_bare word) word (quoted word) IsPrintable (λ _. h) (λ _. quoted_printable word h)
 
 pub line_printable : (words : List (List ℕ)) → AllByRecursion IsPrintable words → IsPrintable (line_text words)
 line_printable [] h = tt
