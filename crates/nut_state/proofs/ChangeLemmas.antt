@@ -1,9 +1,11 @@
 -- What each change does, if a search by name has found its variable or command, and if it has found none.
-use Rattle.std.proofs.Common.{◌≡◌, ℕ, zero, suc, List, [], ◌∷◌, ◌++◌, Bool, true, false, not, ◌&&◌, Some, None, Ok, Err, Result, length, refl, sym, ap, subst, ◌∙◌, arith, inl, inr, ◌⊎◌}
+use Rattle.std.proofs.Common.{◌≡◌, ℕ, List, [], ◌∷◌, ◌++◌, Bool, true, false, not, ◌&&◌, Some, None, Ok, Err, Result, length, refl, sym, ap, subst, ◌∙◌, arith, inl, inr}
 use Rattle.std.specs.Prelude.{if◌then◌else◌, filter, is_some, nat_lt, nat_le, unwrap_or, slice_set, slice_index_or}
 use Rattle.std.specs.List.{insert, remove, list_any}
 use Rattle.std.specs.Result.{OnOk, OnErr, is_ok}
 use Rattle.std.specs.Str.{bytes_eq}
+use Rattle.std.proofs.lemmas.Bool.{and_left, and_right, cases_Bool}
+use Rattle.std.proofs.lemmas.List.{set-get_or}
 use Rattle.nut_words.specs.declared.limits.TheConstants.{VALUE_MAX}
 use Rattle.nut_state.specs.declared.limits.TheConstants.{VARIABLES_MAX, COMMANDS_MAX}
 use Rattle.nut_state.specs.declared.number.Range.{Range}
@@ -22,11 +24,6 @@ name_of v = v.name
 
 abbrev pub itself : List ℕ → List ℕ
 itself command = command
-
--- what holds anyway holds after an error
-pub at_an_error : {T E P : Type 0} (r : Result T E) → P → OnErr r P
-at_an_error (Ok x) p = tt
-at_an_error (Err e) p = p
 
 -- commands, of which an insertion that lacked memory left all as they were
 pub commands_kept : {T E : Type 0} (r : Result T E) (t : Table) (xs ys : List (List ℕ)) → xs ≡ (if is_ok r then ys else t.commands) → OnErr r (record t { commands = xs } ≡ t)
@@ -47,19 +44,17 @@ module _ (t : Table) (name : List ℕ) (i : ℕ) (v : Entry) (f : IsFound name_o
   by_edit change edit new ok is to =
       ap (λ w. record t { variables = slice_set t.variables i w }) to ∙ sym (revised_is edit) ∙ sym is ∙ sym (after_accepted t change ok)
 
-  same_set : (xs : List Entry) (k : ℕ) → v ≡ slice_index_or xs k v → slice_set xs k v ≡ xs
-  same_set [] k e = refl
-  same_set (x ∷ xs) zero e = ap (λ y. y ∷ xs) e
-  same_set (x ∷ xs) (suc k) e = ap (λ ys. x ∷ ys) (same_set xs k e)
+  same_set : slice_set t.variables i v ≡ t.variables
+  same_set = ap (slice_set t.variables i) at ∙ set-get_or t.variables i v
 
   -- a variable that is put back as it was
   pub put_back : (new : Entry) → new ≡ v → record t { variables = slice_set t.variables i new } ≡ t
   put_back new to =
-      ap (λ w. record t { variables = slice_set t.variables i w }) to ∙ ap (λ vs. record t { variables = vs }) (same_set t.variables i at)
+      ap (λ w. record t { variables = slice_set t.variables i w }) to ∙ ap (λ vs. record t { variables = vs }) same_set
 
   untouched : (change : Change) (new : Entry) → accepts t change ≡ false → new ≡ v → record t { variables = slice_set t.variables i new } ≡ after t change
   untouched change new denied to =
-      ap (λ w. record t { variables = slice_set t.variables i w }) to ∙ ap (λ vs. record t { variables = vs }) (same_set t.variables i at)
+      ap (λ w. record t { variables = slice_set t.variables i w }) to ∙ ap (λ vs. record t { variables = vs }) same_set
       ∙ sym (after_refused t change denied)
 
   pub set_flags_found : (flags : Flags) (new : Entry) → new ≡ record v { flags = flags }
@@ -99,24 +94,20 @@ module _ (t : Table) (name : List ℕ) (i : ℕ) (v : Entry) (f : IsFound name_o
   pub del_enum_found : (value : List ℕ) (new : Entry) → new ≡ without_enum value v
       → record t { variables = slice_set t.variables i new } ≡ after t (del_enum name value)
   unfolding accepts changed
-  del_enum_found value new to = by (lists_enum value v.enums) refl
-    where
-      by : (b : Bool) → lists_enum value v.enums ≡ b → record t { variables = slice_set t.variables i new } ≡ after t (del_enum name value)
-      by true listed = by_edit (del_enum name value) (without_enum value) new (rw variable_is listed) refl to
-      by false none =
-          untouched (del_enum name value) new (rw variable_is none)
-          (to ∙ ap (λ xs. record v { enums = xs }) (keeps_all (λ listed. bytes_eq listed value) v.enums none))
+  del_enum_found value new to = elim (cases_Bool (lists_enum value v.enums)) [
+    | inl listed ↦ by_edit (del_enum name value) (without_enum value) new (rw variable_is listed) refl to
+    | inr none ↦
+        untouched (del_enum name value) new (rw variable_is none) (to ∙ ap (λ xs. record v { enums = xs }) (keeps_all (λ listed. bytes_eq listed value) v.enums none))
+  ]
 
   pub del_range_found : (range : Range) (new : Entry) → new ≡ without_range range v
       → record t { variables = slice_set t.variables i new } ≡ after t (del_range name (Some range))
   unfolding accepts changed
-  del_range_found range new to = by (lists_range range v.ranges) refl
-    where
-      by : (b : Bool) → lists_range range v.ranges ≡ b → record t { variables = slice_set t.variables i new } ≡ after t (del_range name (Some range))
-      by true listed = by_edit (del_range name (Some range)) (without_range range) new (rw variable_is listed) refl to
-      by false none =
-          untouched (del_range name (Some range)) new (rw variable_is none)
-          (to ∙ ap (λ xs. record v { ranges = xs }) (keeps_all (λ listed. same_range listed range) v.ranges none))
+  del_range_found range new to = elim (cases_Bool (lists_range range v.ranges)) [
+    | inl listed ↦ by_edit (del_range name (Some range)) (without_range range) new (rw variable_is listed) refl to
+    | inr none ↦
+        untouched (del_range name (Some range)) new (rw variable_is none) (to ∙ ap (λ xs. record v { ranges = xs }) (keeps_all (λ listed. same_range listed range) v.ranges none))
+  ]
 
   pub set_info_found : (value : List ℕ) (new : Entry) → is_name name ≡ true → nat_le (length value) VALUE_MAX ≡ true → new ≡ with_value value v
       → record t { variables = slice_set t.variables i new } ≡ after t (set_info name value)
@@ -187,23 +178,18 @@ set_aux_unread t name = sym (after_refused t (set_aux name None) refl)
 
 -- ---- a variable that is added, or not
 
-pub and_false : (a b : Bool) → (a ≡ false) ⊎ (b ≡ false) → (a && b) ≡ false
-and_false a b (inl h) = rw h refl
-and_false true b (inr h) = h
-and_false false b (inr h) = refl
-
 pub set_aux_long : (t : Table) (name : List ℕ) (aux : ℕ) → nat_le aux VALUE_MAX ≡ false → t ≡ after t (set_aux name (Some aux))
 unfolding accepts
-set_aux_long t name aux long = sym (after_refused t (set_aux name (Some aux)) (and_false (is_some (variable t name)) _ (inr long)))
+set_aux_long t name aux long = sym (after_refused t (set_aux name (Some aux)) (and_right (is_some (variable t name)) _ long))
 
 pub set_info_refused : (t : Table) (name value : List ℕ) → (is_name name && nat_le (length value) VALUE_MAX) ≡ false → t ≡ after t (set_info name value)
 unfolding accepts
-set_info_refused t name value bad = sym (after_refused t (set_info name value) (and_false _ _ (inl bad)))
+set_info_refused t name value bad = sym (after_refused t (set_info name value) (and_left _ _ bad))
 
 pub set_info_full : (t : Table) (name value : List ℕ) → variable t name ≡ None → nat_lt (length t.variables) VARIABLES_MAX ≡ false → t ≡ after t (set_info name value)
 unfolding accepts
 set_info_full t name value gone full =
-    sym (after_refused t (set_info name value) (and_false (is_name name && nat_le (length value) VALUE_MAX) _ (inr (rw (gone, full) refl))))
+    sym (after_refused t (set_info name value) (and_right (is_name name && nat_le (length value) VALUE_MAX) _ (rw (gone, full) refl)))
 
 module _ (t : Table) (name value : List ℕ) (i : ℕ) (f : IsFree name_of name t.variables i) (good : is_name name ≡ true)
     (fits : nat_le (length value) VALUE_MAX ≡ true) (room : nat_lt (length t.variables) VARIABLES_MAX ≡ true) where
@@ -237,12 +223,12 @@ module _ (t : Table) (name value : List ℕ) (i : ℕ) (f : IsFree name_of name 
 
 pub add_command_refused : (t : Table) (name : List ℕ) → (is_name name && nat_lt (length t.commands) COMMANDS_MAX) ≡ false → t ≡ after t (add_command name)
 unfolding accepts
-add_command_refused t name bad = sym (after_refused t (add_command name) (and_false _ _ (inl bad)))
+add_command_refused t name bad = sym (after_refused t (add_command name) (and_left _ _ bad))
 
 pub add_command_listed : (t : Table) (name : List ℕ) (i : ℕ) → IsFound itself name t.commands i → t ≡ after t (add_command name)
 unfolding accepts
 add_command_listed t name i f =
-    sym (after_refused t (add_command name) (and_false (is_name name && nat_lt (length t.commands) COMMANDS_MAX) _ (inr (rw (f.is name) refl))))
+    sym (after_refused t (add_command name) (and_right (is_name name && nat_lt (length t.commands) COMMANDS_MAX) _ (rw (f.is name) refl)))
 
 module _ (t : Table) (name : List ℕ) (i : ℕ) (f : IsFree itself name t.commands i) (good : is_name name ≡ true)
     (room : nat_lt (length t.commands) COMMANDS_MAX ≡ true) where

@@ -12,13 +12,12 @@ use Rattle.nut_state.specs.Sorted.{name_cmp}
 
 compare_next : (a b : List ℕ) (at : ℕ) → at < length a → at < length b
     → name_cmp (drop at a) (drop at b) ≡ ordering_then (nat_cmp (get_or a at 0) (get_or b at 0)) (name_cmp (drop (at + 1) a) (drop (at + 1) b))
-compare_next [] b at within other = absurd (omega arith)
-compare_next (x ∷ xs) [] at within other = absurd (omega arith)
 compare_next (x ∷ xs) (y ∷ ys) zero within other = refl
 compare_next (x ∷ xs) (y ∷ ys) (suc at) within other =
     let next : suc (at + 1) ≡ suc at + 1 = omega arith in
     subst (λ n. name_cmp (drop at xs) (drop at ys) ≡ ordering_then (nat_cmp (get_or xs at 0) (get_or ys at 0)) (name_cmp (drop n (x ∷ xs)) (drop n (y ∷ ys))))
     next (compare_next xs ys at (omega arith) (omega arith))
+compare_next _ _ at within other = absurd (omega arith)
 
 module _ (a b : List ℕ) (at : ℕ) (within : at < length a) (other : at < length b) where
   next : (o : Ordering) → nat_cmp (get_or a at 0) (get_or b at 0) ≡ o
@@ -29,9 +28,8 @@ module _ (a b : List ℕ) (at : ℕ) (within : at < length a) (other : at < leng
   compare_equal same = next Equal (sym (nat_cmp_is (get_or a at 0) (get_or b at 0) Equal same))
 
   decided : (o : Ordering) → nat_cmp (get_or a at 0) (get_or b at 0) ≡ o → (get_or a at 0 ≡ get_or b at 0 → ⊥) → name_cmp (drop at a) (drop at b) ≡ o
-  decided Less is differ = next Less is
-  decided Greater is differ = next Greater is
   decided Equal is differ = absurd (differ (nat_cmp-IsAntisymmetric (get_or a at 0) (get_or b at 0) is))
+  decided k is differ = next k is
 
   pub compare_unequal : (get_or a at 0 ≡ get_or b at 0 → ⊥) → name_cmp (drop at a) (drop at b) ≡ nat_cmp (get_or a at 0) (get_or b at 0)
   compare_unequal differ = decided (nat_cmp (get_or a at 0) (get_or b at 0)) refl differ
@@ -51,14 +49,7 @@ bytes_behind n bytes each k = rw (get_or-drop n bytes k 0) (each (n + k))
 
 eight : (bs : List ℕ) → 8 ≤ length bs → from_be_bytes w64 (take 8 bs) ≡ number 0 (take 8 bs)
 eight (a ∷ b ∷ c ∷ d ∷ e ∷ f ∷ g ∷ h ∷ more) long = omega arith
-eight [] long = absurd (omega (arith, long))
-eight (a ∷ []) long = absurd (omega (arith, long))
-eight (a ∷ b ∷ []) long = absurd (omega (arith, long))
-eight (a ∷ b ∷ c ∷ []) long = absurd (omega (arith, long))
-eight (a ∷ b ∷ c ∷ d ∷ []) long = absurd (omega (arith, long))
-eight (a ∷ b ∷ c ∷ d ∷ e ∷ []) long = absurd (omega (arith, long))
-eight (a ∷ b ∷ c ∷ d ∷ e ∷ f ∷ []) long = absurd (omega (arith, long))
-eight (a ∷ b ∷ c ∷ d ∷ e ∷ f ∷ g ∷ []) long = absurd (omega (arith, long))
+eight _ long = absurd (omega (arith, long))
 
 rises : (n a b : ℕ) (us vs : List ℕ) → n ≤ length us → n ≤ length vs → AreBytes us → a < b → number a (take n us) < number b (take n vs)
 rises zero a b us vs p q bytes less = less
@@ -96,9 +87,8 @@ in_order (suc n) a (u ∷ us) (v ∷ vs) p q g h =
         ∙ ap (λ z. ordering_then (nat_cmp (number (a * 256 + u) (take n us)) (number (a * 256 + z) (take n vs))) rest) level
 
 at_first : (x y : ℕ) (r o : Ordering) → nat_cmp x y ≡ r → (x ≡ y → ⊥) → ordering_then r o ≡ r
-at_first x y Less o is differ = refl
-at_first x y Greater o is differ = refl
 at_first x y Equal o is differ = absurd (differ (nat_cmp-IsAntisymmetric x y is))
+at_first x y _ o is differ = refl
 
 -- The first eight bytes of two names were read as numbers.
 module _ (a b : List ℕ) (x y : ℕ) (within : 8 ≤ length a) (other : 8 ≤ length b) (bytes : AreBytes a) (others : AreBytes b)
@@ -115,9 +105,8 @@ module _ (a b : List ℕ) (x y : ℕ) (within : 8 ≤ length a) (other : 8 ≤ l
 ended : (xs ys : List ℕ) (at m n : ℕ) → m ≡ length xs + at → n ≡ length ys + at → min (length xs) (length ys) ≡ 0
     → MatchOrdering (name_cmp xs ys) (m < n) (m ≡ n) (n < m)
 ended [] [] at m n first second end = first ∙ sym second
-ended [] (y ∷ ys) at m n first second end = omega arith
-ended (x ∷ xs) [] at m n first second end = omega arith
 ended (x ∷ xs) (y ∷ ys) at m n first second end = absurd (omega arith)
+ended _ _ at m n first second end = omega arith
 
 pub compare_end : (a b : List ℕ) (at : ℕ) → at ≤ length a → at ≤ length b → min (length a) (length b) ≤ at
     → name_cmp (drop at a) (drop at b) ≡ nat_cmp (length a) (length b)

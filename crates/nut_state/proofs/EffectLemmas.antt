@@ -4,16 +4,17 @@ use Rattle.std.specs.Prelude.{filter, is_some, nat_le, unwrap_or}
 use Rattle.std.specs.Option.{option_or, option_to_list}
 use Rattle.std.specs.Str.{bytes_eq}
 use Rattle.std.proofs.lemmas.Slice.Eq.{bytes_eq-Decides}
+use Rattle.std.proofs.lemmas.Bool.{and_parts, cases_Bool}
 use Rattle.nut_words.specs.declared.limits.TheConstants.{VALUE_MAX}
 use Rattle.nut_state.specs.declared.number.Range.{Range}
 use Rattle.nut_state.specs.Sorted.{named}
 use Rattle.nut_state.specs.Table.{Table, Entry, variable, has_command, value_of, flags_of, aux_of, enums_of, ranges_of}
 use Rattle.nut_state.specs.Step.{fresh, with_value, without_enum, without_range, passes, with_variable, with_command, revised, accepts, changed}
 use Rattle.nut_state.specs.Attribute.{same_range}
-use Rattle.nut_state.specs.Change.{Change, set_info, del_info, add_enum, del_enum, add_range, del_range, set_aux, set_flags, add_command, del_command, dump_done, data_ok, data_stale, pong, tracking}
+use Rattle.nut_state.specs.Change.{Change, set_info, del_info, add_enum, del_enum, add_range, del_range, set_aux, set_flags, add_command, del_command}
 use Rattle.nut_state.specs.LookBack.{deletes, value_set, flags_set, aux_set, enum_added, removes_enum, range_added, removes_range, command_set, dumps, data_set}
 use Rattle.nut_state.proofs.PutLemmas.{HasName, named-put_same, named-put_other, name-named}
-use Rattle.nut_state.proofs.TableLemmas.{either, and_left}
+use Rattle.nut_state.proofs.TableLemmas.{either}
 
 -- What a change says of a name, against the variable before and after it.
 pub record FieldEffects (name : List ℕ) (change : Change) (v w : Entry) : Type 0 where
@@ -42,20 +43,18 @@ pub record SaysNothing (name : List ℕ) (change : Change) : Type 0 where
   pub range_out : (x : Range) → removes_range name x change ≡ false
 
 module _ {X : Type 0} where
-  pub all_stay : (removes : X → Bool) (xs : List X) → ((x : X) → removes x ≡ false) → xs ≡ filter (λ x. not (removes x)) xs ++ []
-  all_stay removes [] h = refl
-  all_stay removes (x ∷ xs) h = rw (h x) (ap (λ ys. x ∷ ys) (all_stay removes xs h))
-
   pub stay : (removes : X → Bool) (xs : List X) → ((x : X) → removes x ≡ false) → xs ≡ filter (λ x. not (removes x)) xs
   stay removes [] h = refl
   stay removes (x ∷ xs) h = rw (h x) (ap (λ ys. x ∷ ys) (stay removes xs h))
 
+  pub all_stay : (removes : X → Bool) (xs : List X) → ((x : X) → removes x ≡ false) → xs ≡ filter (λ x. not (removes x)) xs ++ []
+  all_stay removes xs h = stay removes xs h ∙ sym (append-nil (filter (λ x. not (removes x)) xs))
+
 names : (n name : List ℕ) → ((bytes_eq n name ≡ true) × (n ≡ name)) ⊎ ((bytes_eq n name ≡ false) × (n ≢ name))
-names n name = by (bytes_eq n name) refl
-  where
-    by : (b : Bool) → bytes_eq n name ≡ b → ((bytes_eq n name ≡ true) × (n ≡ name)) ⊎ ((bytes_eq n name ≡ false) × (n ≢ name))
-    by true e = inl (e, (bytes_eq-Decides n name).0 e)
-    by false e = inr (e, λ same. cc (sym e ∙ (bytes_eq-Decides n name).1 same))
+names n name = elim (cases_Bool (bytes_eq n name)) [
+  | inl e ↦ inl (e, (bytes_eq-Decides n name).0 e)
+  | inr e ↦ inr (e, λ same. cc (sym e ∙ (bytes_eq-Decides n name).1 same))
+]
 
 idle : (t u : Table) (name : List ℕ) (change : Change) → variable u name ≡ variable t name → SaysNothing name change → Effects name change t u
 idle t u name change same nothing = record {
@@ -166,32 +165,26 @@ effects t name (del_enum n value) ok stays =
     by_edit t n name (del_enum n value) (without_enum value) (λ v. refl) (some_if_passes t n _ ok)
     (λ b v. record { value = refl; flags = refl; aux = refl; enums = rw b (sym (append-nil (filter (λ listed. not (bytes_eq listed value)) v.enums))); ranges = all_stay (λ _. false) v.ranges (λ _. refl) })
     (λ b. nothing_said name (del_enum n value) refl refl refl refl (λ _. rw b refl) refl (λ _. refl))
-effects t name (add_range n None) ok stays = cc
 effects t name (add_range n (Some range)) ok stays =
     by_edit t n name (add_range n (Some range)) (λ v. record v { ranges = v.ranges ++ range ∷ [] }) (λ v. refl) (some_if_passes t n _ ok)
     (λ b v. record { value = refl; flags = refl; aux = refl; enums = all_stay (λ _. false) v.enums (λ _. refl); ranges = rw b (ap (λ xs. xs ++ range ∷ []) (stay (λ _. false) v.ranges (λ _. refl))) })
     (λ b. nothing_said name (add_range n (Some range)) refl refl refl refl (λ _. refl) (rw b refl) (λ _. refl))
-effects t name (del_range n None) ok stays = cc
 effects t name (del_range n (Some range)) ok stays =
     by_edit t n name (del_range n (Some range)) (without_range range) (λ v. refl) (some_if_passes t n _ ok)
     (λ b v. record { value = refl; flags = refl; aux = refl; enums = all_stay (λ _. false) v.enums (λ _. refl); ranges = rw b (sym (append-nil (filter (λ listed. not (same_range listed range)) v.ranges))) })
     (λ b. nothing_said name (del_range n (Some range)) refl refl refl refl (λ _. refl) refl (λ _. rw b refl))
-effects t name (set_aux n None) ok stays = cc
 effects t name (set_aux n (Some aux)) ok stays =
-    by_edit t n name (set_aux n (Some aux)) (λ v. record v { aux = aux }) (λ v. refl) (and_left (is_some (variable t n)) (nat_le aux VALUE_MAX) ok)
+    by_edit t n name (set_aux n (Some aux)) (λ v. record v { aux = aux }) (λ v. refl) (and_parts (is_some (variable t n)) (nat_le aux VALUE_MAX) ok).0
     (λ b v. record { value = refl; flags = refl; aux = rw b refl; enums = all_stay (λ _. false) v.enums (λ _. refl); ranges = all_stay (λ _. false) v.ranges (λ _. refl) })
     (λ b. nothing_said name (set_aux n (Some aux)) refl refl (rw b refl) refl (λ _. refl) refl (λ _. refl))
 effects t name (set_flags n flags) ok stays =
     by_edit t n name (set_flags n flags) (λ v. record v { flags = flags }) (λ v. refl) ok
     (λ b v. record { value = refl; flags = rw b refl; aux = refl; enums = all_stay (λ _. false) v.enums (λ _. refl); ranges = all_stay (λ _. false) v.ranges (λ _. refl) })
     (λ b. nothing_said name (set_flags n flags) refl (rw b refl) refl refl (λ _. refl) refl (λ _. refl))
-effects t name (add_command n) ok stays = idle t _ name (add_command n) refl (nothing_said name (add_command n) refl refl refl refl (λ _. refl) refl (λ _. refl))
-effects t name (del_command n) ok stays = idle t _ name (del_command n) refl (nothing_said name (del_command n) refl refl refl refl (λ _. refl) refl (λ _. refl))
-effects t name dump_done ok stays = idle t _ name dump_done refl (nothing_said name dump_done refl refl refl refl (λ _. refl) refl (λ _. refl))
-effects t name data_ok ok stays = idle t _ name data_ok refl (nothing_said name data_ok refl refl refl refl (λ _. refl) refl (λ _. refl))
-effects t name data_stale ok stays = idle t _ name data_stale refl (nothing_said name data_stale refl refl refl refl (λ _. refl) refl (λ _. refl))
-effects t name pong ok stays = cc
-effects t name (tracking number status) ok stays = cc
+effects t name (add_range n None) ok stays = cc
+effects t name (del_range n None) ok stays = cc
+effects t name (set_aux n None) ok stays = cc
+effects t name k ok stays = idle t _ name k refl (nothing_said name k refl refl refl refl (λ _. refl) refl (λ _. refl))
 
 -- a variable that is deleted is gone
 pub gone : (t : Table) (name : List ℕ) (change : Change) → deletes name change ≡ true → variable (changed t change) name ≡ None
@@ -224,19 +217,7 @@ put_command t n name new h (inr (b, apart)) = rw b (ap is_some (named-put_other 
 
 pub rest_effects : (t : Table) (name : List ℕ) (change : Change) → accepts t change ≡ true → RestEffects name change t (changed t change)
 unfolding accepts changed
-rest_effects t name (set_info n value) ok = same_rest t _ name (set_info n value) refl refl refl refl
-rest_effects t name (del_info n) ok = same_rest t _ name (del_info n) refl refl refl refl
-rest_effects t name (add_enum n value) ok = same_rest t _ name (add_enum n value) refl refl refl refl
-rest_effects t name (del_enum n value) ok = same_rest t _ name (del_enum n value) refl refl refl refl
-rest_effects t name (add_range n range) ok = same_rest t _ name (add_range n range) refl refl refl refl
 rest_effects t name (del_range n None) ok = cc
-rest_effects t name (del_range n (Some range)) ok = same_rest t _ name (del_range n (Some range)) refl refl refl refl
-rest_effects t name (set_aux n aux) ok = same_rest t _ name (set_aux n aux) refl refl refl refl
-rest_effects t name (set_flags n flags) ok = same_rest t _ name (set_flags n flags) refl refl refl refl
 rest_effects t name (add_command n) ok = record { command = put_command t n name (Some n) refl (names n name); dumped = refl; current = refl }
 rest_effects t name (del_command n) ok = record { command = put_command t n name None tt (names n name); dumped = refl; current = refl }
-rest_effects t name dump_done ok = same_rest t _ name dump_done refl refl refl refl
-rest_effects t name data_ok ok = same_rest t _ name data_ok refl refl refl refl
-rest_effects t name data_stale ok = same_rest t _ name data_stale refl refl refl refl
-rest_effects t name pong ok = cc
-rest_effects t name (tracking number status) ok = cc
+rest_effects t name k ok = same_rest t _ name k refl refl refl refl

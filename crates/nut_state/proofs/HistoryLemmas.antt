@@ -8,9 +8,11 @@ use Rattle.nut_words.specs.Reader.{spelled}
 use Rattle.nut_words.specs.declared.limits.TheConstants.{VALUE_MAX}
 use Rattle.std.proofs.lemmas.List.Elements.{All-nil, filter-append}
 use Rattle.std.proofs.lemmas.List.{reverse-append}
+use Rattle.std.proofs.lemmas.Bool.{and_parts, not-true}
+use Rattle.std.proofs.lemmas.List.Folds.{list_any-append}
 use Rattle.nut_state.specs.declared.limits.TheConstants.{VARIABLES_MAX, COMMANDS_MAX}
 use Rattle.nut_state.specs.Attribute.{no_flags, takes_enum, lists_enum, takes_range, lists_range}
-use Rattle.nut_state.specs.Change.{Change, set_info, del_info, add_enum, del_enum, add_range, del_range, set_aux, set_flags, add_command, del_command, dump_done, data_ok, data_stale, pong, tracking, asked, heard}
+use Rattle.nut_state.specs.Change.{Change, set_info, del_info, add_enum, del_enum, add_range, del_range, set_aux, set_flags, add_command, del_command, asked, heard}
 use Rattle.nut_state.specs.laws.Holds.{FollowsAlike, Holds, IsTable, IsWithinLimits, LooksBack}
 use Rattle.nut_state.specs.LookBack.{deletes, value_set, flags_set, aux_set, enum_added, removes_enum, range_added, removes_range, command_set, dumps, data_set, latest, standing, era, is_there, is_command, variable_count, command_count, is_accepted, adds_to, accepted_after, accepted}
 use Rattle.nut_state.specs.Sorted.{named}
@@ -20,19 +22,14 @@ use Rattle.nut_state.specs.Text.{is_name}
 use Rattle.nut_state.proofs.EffectLemmas.{effects, gone, rest_effects}
 use Rattle.nut_state.proofs.ListLemmas.{lists_agree}
 use Rattle.nut_state.proofs.PutLemmas.{length-put_again, length-put_away, length-put_new, length-put_nothing}
-use Rattle.nut_state.proofs.TableLemmas.{IsTable-after, after_accepted, after_refused, and_right, either}
-
-or_assoc : (a b c : Bool) → (a || (b || c)) ≡ ((a || b) || c)
-or_assoc true b c = refl
-or_assoc false b c = refl
+use Rattle.nut_state.proofs.TableLemmas.{IsTable-after, after_accepted, after_refused, either}
 
 or_false : (a : Bool) → (a || false) ≡ a
 or_false true = refl
 or_false false = refl
 
 any-push : {X : Type 0} (p : X → Bool) (xs : List X) (c : X) → list_any p (xs ++ c ∷ []) ≡ (list_any p xs || p c)
-any-push p [] c = or_false (p c)
-any-push p (x ∷ xs) c = ap (λ b. p x || b) (any-push p xs c) ∙ or_assoc (p x) (list_any p xs) (p c)
+any-push p xs c = list_any-append p xs (c ∷ []) ∙ ap (λ b. list_any p xs || b) (or_false (p c))
 
 -- One more change at the end: what it removes is gone, and what it adds is there.
 standing-push : {X : Type 0} (added : Change → Option X) (removes : X → Change → Bool) (xs : List Change) (c : Change)
@@ -139,42 +136,19 @@ module _ (t : Table) (changes : List Change) (table : IsTable t) (h : LooksBack 
   variables_more (add_enum name value) ok = length-revised t name _ table ∙ h.variables
   variables_more (del_enum name value) ok = length-revised t name _ table ∙ h.variables
   variables_more (add_range name range) ok = length-revised t name _ table ∙ h.variables
-  variables_more (del_range name None) ok = cc
   variables_more (del_range name (Some range)) ok = length-revised t name _ table ∙ h.variables
   variables_more (set_aux name aux) ok = length-revised t name _ table ∙ h.variables
   variables_more (set_flags name flags) ok = length-revised t name _ table ∙ h.variables
-  variables_more (add_command name) ok = h.variables
-  variables_more (del_command name) ok = h.variables
-  variables_more dump_done ok = h.variables
-  variables_more data_ok ok = h.variables
-  variables_more data_stale ok = h.variables
-  variables_more pong ok = cc
-  variables_more (tracking number status) ok = cc
-
-  not_true : (b : Bool) → not b ≡ true → b ≡ false
-  not_true true e = cc
-  not_true false e = refl
+  variables_more _ ok = h.variables
 
   commands_more : (change : Change) → accepts t change ≡ true → length (changed t change).commands ≡ command_count (change ∷ changes)
   unfolding accepts changed
   commands_more (add_command name) ok =
-      let absent : has_command t name ≡ false = not_true _ (and_right (is_name name && nat_lt (length t.commands) COMMANDS_MAX) (not (has_command t name)) ok) in
+      let absent : has_command t name ≡ false = not-true _ (and_parts (is_name name && nat_lt (length t.commands) COMMANDS_MAX) (not (has_command t name)) ok).1 in
       length-put_new (λ c. c) name name t.commands (none_there _ absent) ∙ ap suc h.commands
   commands_more (del_command name) ok = length-put_away (λ c. c) name t.commands table.commands_ascend ok ∙ ap (λ n. n - 1) h.commands
-  commands_more (set_info name value) ok = h.commands
-  commands_more (del_info name) ok = h.commands
-  commands_more (add_enum name value) ok = h.commands
-  commands_more (del_enum name value) ok = h.commands
-  commands_more (add_range name range) ok = h.commands
   commands_more (del_range name None) ok = cc
-  commands_more (del_range name (Some range)) ok = h.commands
-  commands_more (set_aux name aux) ok = h.commands
-  commands_more (set_flags name flags) ok = h.commands
-  commands_more dump_done ok = h.commands
-  commands_more data_ok ok = h.commands
-  commands_more data_stale ok = h.commands
-  commands_more pong ok = cc
-  commands_more (tracking number status) ok = cc
+  commands_more _ ok = h.commands
 
   pub more : (change : Change) → accepts t change ≡ true → LooksBack (changed t change) (change ∷ changes)
   more change ok = record {
@@ -206,22 +180,15 @@ module _ (t : Table) (changes : List Change) (table : IsTable t) (h : LooksBack 
       passes_is (λ v. v.enums) (takes_enum value) (variable t name) ∙ (λ j. there_is name j && takes_enum value (h.enums name j))
   accepts_same (del_enum name value) =
       passes_is (λ v. v.enums) (lists_enum value) (variable t name) ∙ (λ j. there_is name j && lists_enum value (h.enums name j))
-  accepts_same (add_range name None) = refl
   accepts_same (add_range name (Some range)) =
       passes_is (λ v. v.ranges) (takes_range range) (variable t name) ∙ (λ j. there_is name j && takes_range range (h.ranges name j))
-  accepts_same (del_range name None) = refl
   accepts_same (del_range name (Some range)) =
       passes_is (λ v. v.ranges) (lists_range range) (variable t name) ∙ (λ j. there_is name j && lists_range range (h.ranges name j))
-  accepts_same (set_aux name None) = refl
   accepts_same (set_aux name (Some aux)) = λ j. there_is name j && nat_le aux VALUE_MAX
   accepts_same (set_flags name flags) = there_is name
   accepts_same (add_command name) = λ j. is_name name && nat_lt (h.commands j) COMMANDS_MAX && not (h.command name j)
   accepts_same (del_command name) = h.command name
-  accepts_same dump_done = refl
-  accepts_same data_ok = refl
-  accepts_same data_stale = refl
-  accepts_same pong = refl
-  accepts_same (tracking number status) = refl
+  accepts_same _ = refl
 
   adds_same : (change : Change) → adds t change ≡ adds_to changes change
   unfolding adds adds_to
@@ -229,17 +196,7 @@ module _ (t : Table) (changes : List Change) (table : IsTable t) (h : LooksBack 
   adds_same (add_enum name value) = accepts_same (add_enum name value)
   adds_same (add_range name range) = accepts_same (add_range name range)
   adds_same (add_command name) = accepts_same (add_command name)
-  adds_same (del_info name) = refl
-  adds_same (del_enum name value) = refl
-  adds_same (del_range name range) = refl
-  adds_same (set_aux name aux) = refl
-  adds_same (set_flags name flags) = refl
-  adds_same (del_command name) = refl
-  adds_same dump_done = refl
-  adds_same data_ok = refl
-  adds_same data_stale = refl
-  adds_same pong = refl
-  adds_same (tracking number status) = refl
+  adds_same _ = refl
 
   follows_alike : FollowsAlike t changes
   follows_alike = record { accepted_alike = accepts_same; added_alike = adds_same }

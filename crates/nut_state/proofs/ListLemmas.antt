@@ -1,7 +1,8 @@
 -- The lists of a table that is in order agree with its look-ups.
-use Rattle.std.proofs.Common.{◌≡◌, ℕ, zero, suc, List, [], ◌∷◌, Bool, true, false, Some, None, get_or, map, refl, sym, ap, subst, ◌∙◌, arith, ◌⊎◌, inl, inr}
+use Rattle.std.proofs.Common.{◌≡◌, ℕ, zero, suc, List, [], ◌∷◌, Bool, true, Some, None, get_or, map, sym, ap, subst, ◌∙◌, arith, ◌⊎◌, inl, inr}
 use Rattle.std.specs.Prelude.{is_some}
 use Rattle.std.specs.List.{find, All, Contains}
+use Rattle.std.proofs.lemmas.Bool.{cases_Bool}
 use Rattle.std.proofs.lemmas.List.{get_or_default}
 use Rattle.std.specs.declared.cmp.Ordering.TheVariants.{Equal}
 use Rattle.nut_state.specs.Sorted.{name_cmp, named, IsAscending}
@@ -24,11 +25,10 @@ module _ {X : Type 0} (name_of : X → List ℕ) where
 
   find_listed : (p : X → Bool) (xs : List X) (x : X) → find p xs ≡ Some x → Contains xs x
   find_listed p [] x h = cc
-  find_listed p (y ∷ ys) x h = by (p y) refl (find_listed p ys x)
-    where
-      by : (b : Bool) → p y ≡ b → (find p ys ≡ Some x → Contains ys x) → Contains (y ∷ ys) x
-      by true e more = let same : y ≡ x = grind arith in (zero, omega arith, same)
-      by false e more = in_tail y x ys (more (grind arith))
+  find_listed p (y ∷ ys) x h = elim (cases_Bool (p y)) [
+    | inl e ↦ let same : y ≡ x = grind arith in (zero, omega arith, same)
+    | inr e ↦ in_tail y x ys (find_listed p ys x (grind arith))
+  ]
 
   found_listed : (name : List ℕ) (xs : List X) (x : X) → named name_of name xs ≡ Some x → Contains xs x
   unfolding named

@@ -1,12 +1,14 @@
 -- What an edit by name does to look-ups, to the order, to the length, and to what holds of each element.
-use Rattle.std.proofs.Common.{◌≡◌, ◌≢◌, ℕ, suc, ◌+◌, ◌-◌, ◌≤◌, List, [], ◌∷◌, ◌++◌, Bool, true, false, cond, Option, Some, None, length, map, refl, sym, ap, subst, ◌∙◌, arith, length-append}
+use Rattle.std.proofs.Common.{◌≡◌, ◌≢◌, ℕ, suc, ◌+◌, ◌-◌, ◌≤◌, List, [], ◌∷◌, ◌++◌, Bool, true, false, cond, Option, Some, None, length, map, refl, sym, ap, subst, ◌∙◌, arith, inl, inr, length-append}
 use Rattle.std.specs.Prelude.{filter, is_some}
 use Rattle.std.specs.List.{find, AllByRecursion, All}
 use Rattle.std.proofs.lemmas.List.Elements.{recursion_from_All, All-weaker, filter_passes, All-append, All-filter}
-use Rattle.std.specs.Option.{option_to_list}
+use Rattle.std.specs.Option.{option_or, option_to_list}
 use Rattle.std.specs.Ordering.{is_lt, is_gt, is_eq}
 use Rattle.std.specs.declared.cmp.Ordering.{Ordering}
 use Rattle.std.specs.declared.cmp.Ordering.TheVariants.{Less, Equal, Greater}
+use Rattle.std.proofs.lemmas.List.Folds.{find-append}
+use Rattle.std.proofs.lemmas.Bool.{cases_Bool, false_from_ne_true}
 use Rattle.nut_state.specs.Sorted.{name_cmp, IsAscending, named, put}
 use Rattle.nut_state.proofs.SortedLemmas.{same_name, name_itself, name_earlier, name_trans, lower, higher, equal, Each, one_at_most}
 
@@ -20,12 +22,24 @@ module _ {X : Type 0} where
   find_dropped p q h (x ∷ xs) = grind (arith, find_dropped p q h xs, h x)
 
   find_past : (p : X → Bool) (xs ys : List X) → find p xs ≡ None → find p (xs ++ ys) ≡ find p ys
-  find_past p [] ys h = refl
-  find_past p (x ∷ xs) ys h = grind (arith, find_past p xs ys)
+  find_past p xs ys h = find-append p xs ys ∙ ap (λ o. option_or o (find p ys)) h
 
   find_first : (p : X → Bool) (xs ys : List X) → find p ys ≡ None → find p (xs ++ ys) ≡ find p xs
   find_first p [] ys h = h
   find_first p (x ∷ xs) ys h = ap (λ o. cond (p x) (Some x) o) (find_first p xs ys h)
+
+-- what tests say of an order
+lt_is : (o : Ordering) → is_lt o ≡ true → o ≡ Less
+lt_is Less h = refl
+lt_is _ h = cc
+
+gt_is : (o : Ordering) → is_gt o ≡ true → o ≡ Greater
+gt_is Greater h = refl
+gt_is _ h = cc
+
+eq_is : (o : Ordering) → is_eq o ≡ true → o ≡ Equal
+eq_is Equal h = refl
+eq_is _ h = cc
 
 module _ {X : Type 0} (name_of : X → List ℕ) where
   -- The entry has this name, or there is no entry.
@@ -33,55 +47,25 @@ module _ {X : Type 0} (name_of : X → List ℕ) where
   HasName name None = Unit {0}
   HasName name (Some x) = name_of x ≡ name
 
-  lower_not : (name : List ℕ) (x : X) → equal name_of name x ≡ true → lower name_of name x ≡ false
-  lower_not name x h = by (name_cmp (name_of x) name) h
-    where
-      by : (o : Ordering) → is_eq o ≡ true → is_lt o ≡ false
-      by Less h = cc
-      by Equal h = refl
-      by Greater h = refl
-
-  higher_not : (name : List ℕ) (x : X) → equal name_of name x ≡ true → higher name_of name x ≡ false
-  higher_not name x h = by (name_cmp (name_of x) name) h
-    where
-      by : (o : Ordering) → is_eq o ≡ true → is_gt o ≡ false
-      by Less h = refl
-      by Equal h = refl
-      by Greater h = cc
-
   -- the look-up of the name that was put
   pub named-put_same : (name : List ℕ) (new : Option X) (xs : List X) → HasName name new → named name_of name (put name_of name new xs) ≡ new
   unfolding named put
   named-put_same name new xs h =
       find_past (equal name_of name) (filter (lower name_of name) xs) (option_to_list new ++ filter (higher name_of name) xs)
-      (find_dropped (equal name_of name) (lower name_of name) (lower_not name) xs)
+      (find_dropped (equal name_of name) (lower name_of name) (λ x h. ap is_lt (eq_is _ h)) xs)
       ∙ by new h
     where
       by : (o : Option X) → HasName name o → find (equal name_of name) (option_to_list o ++ filter (higher name_of name) xs) ≡ o
-      by None h = find_dropped (equal name_of name) (higher name_of name) (higher_not name) xs
+      by None h = find_dropped (equal name_of name) (higher name_of name) (λ x h. ap is_gt (eq_is _ h)) xs
       by (Some x) h = rw (h, name_itself name) refl
-
-  -- Different names do not compare as equal.
-  other_name : (a b : List ℕ) → a ≢ b → is_eq (name_cmp a b) ≡ false
-  other_name a b n = by (name_cmp a b) refl
-    where
-      by : (o : Ordering) → name_cmp a b ≡ o → is_eq o ≡ false
-      by Less e = refl
-      by Equal e = absurd (n (same_name a b e))
-      by Greater e = refl
 
   -- An entry with another name isn't the one looked for.
   not_found : (other name : List ℕ) (new : Option X) → HasName name new → name ≢ other → find (equal name_of other) (option_to_list new) ≡ None
   not_found other name None h n = refl
-  not_found other name (Some x) h n = rw (h, other_name name other n) refl
+  not_found other name (Some x) h n = rw (h, false_from_ne_true _ (λ e. n (same_name name other (eq_is _ e)))) refl
 
   same_as : (other : List ℕ) (x : X) → equal name_of other x ≡ true → name_of x ≡ other
-  same_as other x h = by (name_cmp (name_of x) other) refl h
-    where
-      by : (o : Ordering) → name_cmp (name_of x) other ≡ o → is_eq o ≡ true → name_of x ≡ other
-      by Less e h = cc
-      by Equal e h = same_name (name_of x) other e
-      by Greater e h = cc
+  same_as other x h = same_name (name_of x) other (eq_is _ h)
 
   -- the look-up of any other name
   pub named-put_other : (name other : List ℕ) (new : Option X) (xs : List X) → HasName name new → name ≢ other
@@ -122,22 +106,6 @@ module _ {X : Type 0} (name_of : X → List ℕ) where
   each_filter : (P : X → Type 0) (p : X → Bool) → ((x : X) → p x ≡ true → P x) → (xs : List X) → AllByRecursion P (filter p xs)
   each_filter P p h xs = recursion_from_All P (filter p xs) (All-weaker (λ x. p x ≡ true) P h (filter p xs) (filter_passes p xs))
 
-  lower_is : (name : List ℕ) (x : X) → lower name_of name x ≡ true → name_cmp (name_of x) name ≡ Less
-  lower_is name x h = by (name_cmp (name_of x) name) h
-    where
-      by : (o : Ordering) → is_lt o ≡ true → o ≡ Less
-      by Less h = refl
-      by Equal h = cc
-      by Greater h = cc
-
-  higher_is : (name : List ℕ) (x : X) → higher name_of name x ≡ true → name_cmp name (name_of x) ≡ Less
-  higher_is name x h = name_earlier (name_of x) name (by (name_cmp (name_of x) name) h)
-    where
-      by : (o : Ordering) → is_gt o ≡ true → o ≡ Greater
-      by Less h = cc
-      by Equal h = cc
-      by Greater h = refl
-
   after_each : (name : List ℕ) (xs : List X) → AllByRecursion (λ x. name_cmp name (name_of x) ≡ Less) xs → After name xs
   after_each name [] h = tt
   after_each name (x ∷ xs) h = (h.0, after_each name xs h.1)
@@ -167,9 +135,9 @@ module _ {X : Type 0} (name_of : X → List ℕ) where
   unfolding put
   ascending-put name new xs h up =
       joined name (filter (lower name_of name) xs) new (filter (higher name_of name) xs) (ascending_filter (lower name_of name) xs up)
-      (each_filter (λ x. name_cmp (name_of x) name ≡ Less) (lower name_of name) (lower_is name) xs) h
+      (each_filter (λ x. name_cmp (name_of x) name ≡ Less) (lower name_of name) (λ x. lt_is (name_cmp (name_of x) name)) xs) h
       (ascending_filter (higher name_of name) xs up)
-      (after_each name _ (each_filter (λ x. name_cmp name (name_of x) ≡ Less) (higher name_of name) (higher_is name) xs))
+      (after_each name _ (each_filter (λ x. name_cmp name (name_of x) ≡ Less) (higher name_of name) (λ x h. name_earlier (name_of x) name (gt_is _ h)) xs))
 
   -- ---- length
 
@@ -182,8 +150,7 @@ module _ {X : Type 0} (name_of : X → List ℕ) where
           → length (filter (lower name_of name) xs) + (length (filter (equal name_of name) xs) + length (filter (higher name_of name) xs)) ≡ length xs
           → length (filter (lower name_of name) (x ∷ xs)) + (length (filter (equal name_of name) (x ∷ xs)) + length (filter (higher name_of name) (x ∷ xs))) ≡ suc (length xs)
       by Less e h = rw e (omega arith)
-      by Equal e h = rw e (omega arith)
-      by Greater e h = rw e (omega arith)
+      by _ e h = rw e (omega arith)
 
   count_found : (p : X → Bool) (xs : List X) → is_some (find p xs) ≡ true → 1 ≤ length (filter p xs)
   count_found p [] h = cc
@@ -256,11 +223,10 @@ module _ {X : Type 0} (name_of : X → List ℕ) where
 
   find_holds : (P : X → Type 0) (p : X → Bool) (xs : List X) (x : X) → AllByRecursion P xs → find p xs ≡ Some x → P x
   find_holds P p [] x all h = cc
-  find_holds P p (y ∷ ys) x all h = by (p y) refl (find_holds P p ys x all.1)
-    where
-      by : (b : Bool) → p y ≡ b → (find p ys ≡ Some x → P x) → P x
-      by true e more = let same : y ≡ x = grind arith in subst P same all.0
-      by false e more = more (grind arith)
+  find_holds P p (y ∷ ys) x all h = elim (cases_Bool (p y)) [
+    | inl e ↦ let same : y ≡ x = grind arith in subst P same all.0
+    | inr e ↦ find_holds P p ys x all.1 (grind arith)
+  ]
 
   pub name-named : (name : List ℕ) (xs : List X) (x : X) → named name_of name xs ≡ Some x → name_of x ≡ name
   unfolding named

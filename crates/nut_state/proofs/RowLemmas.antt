@@ -1,9 +1,9 @@
 -- The text that is kept with a variable ends its row.
-use Rattle.std.proofs.Common.{◌≡◌, ℕ, ◌+◌, ◌-◌, ◌==◌, List, [], ◌∷◌, ◌++◌, Bool, true, false, length, take, refl, sym, ap, subst, ◌∙◌, arith, append_assoc, length-append}
-use Rattle.std.specs.Prelude.{◌&&◌}
+use Rattle.std.proofs.Common.{◌≡◌, ℕ, ◌+◌, ◌-◌, ◌==◌, List, [], ◌∷◌, ◌++◌, true, length, take, refl, sym, ap, subst, ◌∙◌, arith, append_assoc, length-append}
 use Rattle.std.specs.List.{list_all, flat_map}
 use Rattle.std.proofs.lemmas.Bool.Decides.{nat_tests}
 use Rattle.std.proofs.Math.Seq.{take-append_seam, take-append-add, drop-append-add}
+use Rattle.std.proofs.lemmas.Bool.{and_parts}
 use Rattle.nut_words.specs.Bytes.{blank, line_feed, quote}
 use Rattle.nut_words.specs.Name.{is_name_byte}
 use Rattle.nut_words.specs.Quoting.{escaped, stands_bare, word_text}
@@ -16,14 +16,10 @@ use Rattle.nut_state.specs.inside.RowInside.{named_in, row_text, Keeps, IsRowEnd
 byte_alone : (c : ℕ) → (length (escaped c) == 1) ≡ true → escaped c ≡ c ∷ []
 byte_alone c h = grind (arith, nat_tests)
 
-both : (a b : Bool) → (a && b) ≡ true → (a ≡ true) × (b ≡ true)
-both true b h = (refl, h)
-both false b h = absurd (cc)
-
 alone : (value : List ℕ) → is_unescaped value ≡ true → flat_map escaped value ≡ value
 alone [] h = refl
 alone (c ∷ cs) h =
-    let parts = both (length (escaped c) == 1) (is_unescaped cs) h in
+    let parts = and_parts (length (escaped c) == 1) (is_unescaped cs) h in
     rw (byte_alone c parts.0, alone cs parts.1) refl
 
 name_byte_bare : (c : ℕ) → is_name_byte c ≡ true → is_bare c ≡ true
@@ -32,7 +28,7 @@ name_byte_bare c h = grind (arith, nat_tests)
 bytes_bare : (name : List ℕ) → list_all is_name_byte name ≡ true → list_all is_bare name ≡ true
 bytes_bare [] h = refl
 bytes_bare (c ∷ cs) h =
-    let parts = both (is_name_byte c) (list_all is_name_byte cs) h in
+    let parts = and_parts (is_name_byte c) (list_all is_name_byte cs) h in
     rw (name_byte_bare c parts.0, bytes_bare cs parts.1) refl
 
 name_text : (name : List ℕ) → is_name name ≡ true → word_text name ≡ name

@@ -1,6 +1,6 @@
 -- What a search by name, and an edit at its place, do to a list that ascends by name.
 use Rattle.std.proofs.Common.{◌≡◌, ℕ, zero, suc, ◌<◌, ◌≤◌, List, [], ◌∷◌, ◌++◌, Bool, Some, None, Ok, Err, Result, length, get_or, take, drop, map, refl, sym, ap, subst, ◌∙◌, arith, add-one}
-use Rattle.std.specs.Prelude.{filter, slice_set, MatchResult}
+use Rattle.std.specs.Prelude.{filter, MatchResult}
 use Rattle.std.specs.List.{find, AllByRecursion}
 use Rattle.std.specs.List.Sorted.{IsBinarySearchResult, IsSortedBy}
 use Rattle.std.specs.Ordering.{is_lt, is_gt, is_eq, ordering_reverse}
@@ -9,6 +9,7 @@ use Rattle.std.specs.declared.cmp.Ordering.{Ordering}
 use Rattle.std.specs.declared.cmp.Ordering.TheVariants.{Less, Equal, Greater}
 use Rattle.std.proofs.lemmas.Cmp.{nat_list_cmp_total, tied_itself}
 use Rattle.std.proofs.lemmas.List.Sorted.{searchable_from_sorted}
+use Rattle.std.proofs.lemmas.List.{set_split}
 use Rattle.nut_state.specs.Sorted.{name_cmp, IsAscending, IsFound, IsFree, IsPlace, named, put}
 
 -- ---- the order of names
@@ -96,11 +97,10 @@ module _ {X : Type 0} (name_of : X → List ℕ) where
   one_at_most name (x ∷ xs) up = by (name_cmp (name_of x) name) refl (one_at_most name xs up.1)
     where
       by : (o : Ordering) → name_cmp (name_of x) name ≡ o → length (filter (equal name) xs) ≤ 1 → length (filter (equal name) (x ∷ xs)) ≤ 1
-      by Less e rest = rw e rest
-      by Greater e rest = rw e rest
       by Equal e rest =
           let each : Each Greater name xs = all_higher name xs (subst (λ n. NamesAfter n xs) (same_name (name_of x) name e) up.0) in
           rw (e, higher_none name xs each) (omega arith)
+      by _ e rest = rw e rest
 
   -- what a search that found an element says
   pub parts_if_found : (name : List ℕ) (xs : List X) (i : ℕ) → IsAscending (map name_of xs) → i < length xs
@@ -117,11 +117,6 @@ module _ {X : Type 0} (name_of : X → List ℕ) where
       let rest = parts_if_found name xs i up.1 (omega arith) here in
       rw h (ap (λ ys. x ∷ ys) rest.0, rest.1, rest.2)
 
-  set_parts : (xs : List X) (i : ℕ) (y : X) → i < length xs → take i xs ++ (y ∷ drop (suc i) xs) ≡ slice_set xs i y
-  set_parts [] i y l = absurd (omega arith)
-  set_parts (x ∷ xs) zero y l = refl
-  set_parts (x ∷ xs) (suc i) y l = ap (λ ys. x ∷ ys) (set_parts xs i y (omega arith))
-
   pub found : (name : List ℕ) (xs : List X) (i : ℕ) → IsAscending (map name_of xs) → i < length xs
       → ((d : X) → name_cmp (name_of (get_or xs i d)) name ≡ Equal) → IsFound name_of name xs i
   unfolding named put
@@ -130,7 +125,7 @@ module _ {X : Type 0} (name_of : X → List ℕ) where
       record {
         within = l;
         is = parts.2;
-        replaced = λ new. (λ j. parts.0 j ++ (new ∷ parts.1 j)) ∙ set_parts xs i new l;
+        replaced = λ new. (λ j. parts.0 j ++ (new ∷ parts.1 j)) ∙ sym (set_split xs i new l);
         removed = λ j. parts.0 j ++ parts.1 j;
       }
 

@@ -1,19 +1,19 @@
 -- Each line leaves a table that is in order and within its limits.
-use Rattle.std.proofs.Common.{◌≡◌, ℕ, ◌<◌, ◌≤◌, List, [], ◌∷◌, ◌++◌, Bool, true, false, not, ◌&&◌, ◌||◌, ◌⊎◌, inl, inr, Option, Some, None, length, refl, ap, ◌∙◌, arith, length-append}
+use Rattle.std.proofs.Common.{◌≡◌, ℕ, ◌≤◌, List, [], ◌∷◌, ◌++◌, Bool, true, false, not, ◌&&◌, ◌||◌, ◌⊎◌, inl, inr, Option, Some, None, length, refl, ap, ◌∙◌, arith, length-append}
 use Rattle.std.specs.Prelude.{filter, is_some, nat_lt, nat_le, unwrap_or}
 use Rattle.std.specs.List.{All}
 use Rattle.std.specs.Option.{option_to_list}
 use Rattle.std.specs.Str.{bytes_eq}
 use Rattle.std.proofs.lemmas.List.Filters.{length-filter_both}
 use Rattle.std.proofs.lemmas.List.Elements.{All-nil, All-cons, All-append, All-filter}
-use Rattle.std.proofs.lemmas.Bool.Decides.{nat_tests}
+use Rattle.std.proofs.lemmas.Bool.{and_parts, leb-true, ltb-true, cases_Bool}
 use Rattle.nut_words.specs.declared.limits.TheConstants.{VALUE_MAX}
 use Rattle.nut_state.specs.declared.limits.TheConstants.{VARIABLES_MAX, COMMANDS_MAX, ENUMS_MAX, RANGES_MAX}
 use Rattle.nut_state.specs.Sorted.{put}
 use Rattle.nut_state.specs.Table.{Table, Entry, variable}
 use Rattle.nut_state.specs.Step.{fresh, with_value, without_enum, without_range, passes, with_variable, with_command, revised, accepts, changed, after}
 use Rattle.nut_state.specs.Attribute.{same_range, takes_enum, takes_range}
-use Rattle.nut_state.specs.Change.{Change, set_info, del_info, add_enum, del_enum, add_range, del_range, set_aux, set_flags, add_command, del_command, dump_done, data_ok, data_stale, pong, tracking}
+use Rattle.nut_state.specs.Change.{Change, set_info, del_info, add_enum, del_enum, add_range, del_range, set_aux, set_flags, add_command, del_command, dump_done, data_ok, data_stale}
 use Rattle.nut_state.specs.Text.{is_name}
 use Rattle.nut_state.specs.laws.Holds.{IsTable, IsWithinLimits}
 use Rattle.nut_state.proofs.PutLemmas.{HasName, ascending-put, length-put, length-put_found, length-put_none, All-put, name-named, All-named}
@@ -72,40 +72,25 @@ IsTable-marked t dumped ok h = record {
 length-filter_le : {X : Type 0} (p : X → Bool) (xs : List X) → length (filter p xs) ≤ length xs
 length-filter_le p xs = omega (arith, length-filter_both p (λ x. not (p x)) (λ x. refl) xs)
 
-pub and_left : (a b : Bool) → (a && b) ≡ true → a ≡ true
-and_left true b h = refl
-and_left false b h = h
-
-pub and_right : (a b : Bool) → (a && b) ≡ true → b ≡ true
-and_right true b h = h
-and_right false b h = cc
-
 -- the test at the variable that `passes` has found
 passes_at : (t : Table) (name : List ℕ) (test : Entry → Bool) (v : Entry) → variable t name ≡ Some v → passes t name test ≡ true → test v ≡ true
 passes_at t name test v e h = rw e at h
-
--- a number that passes the test
-at_most : (a b : ℕ) → nat_le a b ≡ true → a ≤ b
-at_most a b h = grind (arith, nat_tests)
-
-less : (a b : ℕ) → nat_lt a b ≡ true → a < b
-less a b h = grind (arith, nat_tests)
 
 IsTable-changed : (t : Table) (change : Change) → accepts t change ≡ true → IsTable t → IsTable (changed t change)
 unfolding accepts changed
 IsTable-changed t (set_info name value) ok h = by (either (variable t name))
   where
     good : is_name name ≡ true
-    good = and_left _ _ (and_left _ _ ok)
+    good = (and_parts _ _ (and_parts _ _ ok).0).0
 
     short : length value ≤ VALUE_MAX
-    short = at_most _ _ (and_right (is_name name) (nat_le (length value) VALUE_MAX) (and_left _ _ ok))
+    short = leb-true _ _ (and_parts (is_name name) (nat_le (length value) VALUE_MAX) ((and_parts _ _ ok).0)).1
 
     by : (variable t name ≡ None) ⊎ ((v : Entry) × (variable t name ≡ Some v))
         → IsTable (with_variable t name (Some (with_value value (unwrap_or (variable t name) (fresh name value)))))
     by (inl e) =
         let test : (is_some (variable t name) || nat_lt (length t.variables) VARIABLES_MAX) ≡ true =
-        and_right (is_name name && nat_le (length value) VALUE_MAX) (is_some (variable t name) || nat_lt (length t.variables) VARIABLES_MAX) ok in
+        (and_parts (is_name name && nat_le (length value) VALUE_MAX) (is_some (variable t name) || nat_lt (length t.variables) VARIABLES_MAX) ok).1 in
         let room : nat_lt (length t.variables) VARIABLES_MAX ≡ true = rw e at test in
         rw e (IsTable-with_variable t name (Some (with_value value (fresh name value))) refl
         (All-cons IsWithinLimits _ [] (record {
@@ -116,7 +101,7 @@ IsTable-changed t (set_info name value) ok h = by (either (variable t name))
           each_enum = All-nil (λ text. length text ≤ VALUE_MAX);
           ranges = omega arith;
         }) (All-nil IsWithinLimits))
-        (omega (arith, less _ _ room, length-put (λ v. v.name) name (Some (with_value value (fresh name value))) t.variables)) h)
+        (omega (arith, ltb-true _ _ room, length-put (λ v. v.name) name (Some (with_value value (fresh name value))) t.variables)) h)
     by (inr (v, e)) =
         let some : is_some (variable t name) ≡ true = ap is_some e in
         let within = All-named (λ v. v.name) IsWithinLimits name t.variables v h.each_within e in
@@ -136,16 +121,16 @@ IsTable-changed t (add_enum name value) ok h =
     IsTable-revised t name (λ v. record v { enums = v.enums ++ value ∷ [] }) (λ v. refl)
     (λ v e within.
     let takes : takes_enum value v.enums ≡ true = passes_at t name (λ w. takes_enum value w.enums) v e ok in
-    let fits = and_left _ _ takes in
-    let room : nat_lt (length v.enums) ENUMS_MAX ≡ true = and_right (nat_le (length value) VALUE_MAX) (nat_lt (length v.enums) ENUMS_MAX) fits in
-    let short : nat_le (length value) VALUE_MAX ≡ true = and_left _ _ fits in
+    let fits = (and_parts _ _ takes).0 in
+    let room : nat_lt (length v.enums) ENUMS_MAX ≡ true = (and_parts (nat_le (length value) VALUE_MAX) (nat_lt (length v.enums) ENUMS_MAX) fits).1 in
+    let short : nat_le (length value) VALUE_MAX ≡ true = (and_parts _ _ fits).0 in
     record {
       name = within.name;
       value = within.value;
       aux = within.aux;
-      enums = omega (arith, less _ _ room, length-append v.enums (value ∷ []));
+      enums = omega (arith, ltb-true _ _ room, length-append v.enums (value ∷ []));
       each_enum = All-append (λ text. length text ≤ VALUE_MAX) v.enums (value ∷ []) within.each_enum
-          (All-cons (λ text. length text ≤ VALUE_MAX) value [] (at_most _ _ short) (All-nil (λ text. length text ≤ VALUE_MAX)));
+          (All-cons (λ text. length text ≤ VALUE_MAX) value [] (leb-true _ _ short) (All-nil (λ text. length text ≤ VALUE_MAX)));
       ranges = within.ranges;
     }) h
 IsTable-changed t (del_enum name value) ok h =
@@ -163,16 +148,15 @@ IsTable-changed t (add_range name (Some range)) ok h =
     IsTable-revised t name (λ v. record v { ranges = v.ranges ++ range ∷ [] }) (λ v. refl)
     (λ v e within.
     let takes : takes_range range v.ranges ≡ true = passes_at t name (λ w. takes_range range w.ranges) v e ok in
-    let room : nat_lt (length v.ranges) RANGES_MAX ≡ true = and_left _ _ takes in
+    let room : nat_lt (length v.ranges) RANGES_MAX ≡ true = (and_parts _ _ takes).0 in
     record {
       name = within.name;
       value = within.value;
       aux = within.aux;
       enums = within.enums;
       each_enum = within.each_enum;
-      ranges = omega (arith, less _ _ room, length-append v.ranges (range ∷ []));
+      ranges = omega (arith, ltb-true _ _ room, length-append v.ranges (range ∷ []));
     }) h
-IsTable-changed t (del_range name None) ok h = h
 IsTable-changed t (del_range name (Some range)) ok h =
     IsTable-revised t name (without_range range) (λ v. refl)
     (λ v e within. record {
@@ -189,7 +173,7 @@ IsTable-changed t (set_aux name (Some aux)) ok h =
     (λ v e within. record {
       name = within.name;
       value = within.value;
-      aux = at_most _ _ (and_right (is_some (variable t name)) (nat_le aux VALUE_MAX) ok);
+      aux = leb-true _ _ (and_parts (is_some (variable t name)) (nat_le aux VALUE_MAX) ok).1;
       enums = within.enums;
       each_enum = within.each_enum;
       ranges = within.ranges;
@@ -205,19 +189,18 @@ IsTable-changed t (set_flags name flags) ok h =
       ranges = within.ranges;
     }) h
 IsTable-changed t (add_command name) ok h =
-    let fits = and_left _ _ ok in
-    let room : nat_lt (length t.commands) COMMANDS_MAX ≡ true = and_right (is_name name) (nat_lt (length t.commands) COMMANDS_MAX) fits in
-    let good : is_name name ≡ true = and_left _ _ fits in
+    let fits = (and_parts _ _ ok).0 in
+    let room : nat_lt (length t.commands) COMMANDS_MAX ≡ true = (and_parts (is_name name) (nat_lt (length t.commands) COMMANDS_MAX) fits).1 in
+    let good : is_name name ≡ true = (and_parts _ _ fits).0 in
     IsTable-with_command t name (Some name) refl (All-cons (λ c. is_name c ≡ true) name [] good (All-nil (λ c. is_name c ≡ true)))
-    (omega (arith, less _ _ room, length-put (λ c. c) name (Some name) t.commands)) h
+    (omega (arith, ltb-true _ _ room, length-put (λ c. c) name (Some name) t.commands)) h
 IsTable-changed t (del_command name) ok h =
     IsTable-with_command t name None tt (All-nil (λ c. is_name c ≡ true))
     (omega (arith, length-put_none (λ c. c) name t.commands, h.commands_within)) h
 IsTable-changed t dump_done ok h = IsTable-marked t true t.data_ok h
 IsTable-changed t data_ok ok h = IsTable-marked t t.dump_done true h
 IsTable-changed t data_stale ok h = IsTable-marked t t.dump_done false h
-IsTable-changed t pong ok h = h
-IsTable-changed t (tracking number status) ok h = h
+IsTable-changed t _ ok h = h
 
 pub after_accepted : (t : Table) (change : Change) → accepts t change ≡ true → after t change ≡ changed t change
 unfolding after
@@ -228,22 +211,7 @@ unfolding after
 after_refused t change denied = rw denied refl
 
 pub IsTable-after : (t : Table) (change : Change) → IsTable t → IsTable (after t change)
-IsTable-after t change h = by (accepts t change) refl
-  where
-    by : (b : Bool) → accepts t change ≡ b → IsTable (after t change)
-    by true ok = rw (after_accepted t change ok) (IsTable-changed t change ok h)
-    by false denied = rw (after_refused t change denied) h
-
--- ---- tests of numbers
-
-pub lt_true : (a b : ℕ) → a < b → nat_lt a b ≡ true
-lt_true a b h = grind (arith, nat_tests)
-
-pub lt_false : (a b : ℕ) → b ≤ a → nat_lt a b ≡ false
-lt_false a b h = grind (arith, nat_tests)
-
-pub le_true : (a b : ℕ) → a ≤ b → nat_le a b ≡ true
-le_true a b h = grind (arith, nat_tests)
-
-pub le_false : (a b : ℕ) → b < a → nat_le a b ≡ false
-le_false a b h = grind (arith, nat_tests)
+IsTable-after t change h = elim (cases_Bool (accepts t change)) [
+  | inl ok ↦ rw (after_accepted t change ok) (IsTable-changed t change ok h)
+  | inr denied ↦ rw (after_refused t change denied) h
+]

@@ -1,11 +1,8 @@
-use Rattle.std.proofs.Common.{◌≡◌, ℕ, ◌-◌, List, length, take, drop, refl, ap, sym, ◌∙◌, arith}
+use Rattle.std.proofs.Common.{refl, ap, sym, ◌∙◌}
 use Rattle.std.specs.Int.{from_be_bytes, w64}
-use Rattle.std.proofs.lemmas.List.{length-drop, take_all}
+use Rattle.std.proofs.lemmas.List.{take_rest}
 use Rattle.nut_state.proofs.CompareLemmas.{bytes_behind, words_equal, words_unequal}
 use Rattle.nut_state.proofs.sorted.compare.Goals as goal
-
-rest_of : (name : List ℕ) (n : ℕ) → take (length name - n) (drop n name) ≡ drop n name
-rest_of name n = take_all (length name - n) (drop n name) (omega (arith, length-drop n name))
 
 pub loop-front-init : goal.loop-front-init
 loop-front-init c = record { same = refl; bytes = λ k. (c.type_inv.a k).fits; others = λ k. (c.type_inv.b k).fits }
@@ -25,7 +22,7 @@ loop-front-preserved c =
     let at = c.loop-front.invariant in
     let front = c.in-Some.ensures.cases in
     let other = c.in-Some-first_chunk.ensures.cases in
-    rw (rest_of c.loop-front.left.now 8, rest_of c.loop-front.right.now 8)
+    rw (take_rest c.loop-front.left.now 8, take_rest c.loop-front.right.now 8)
     (record {
       same = at.same
           ∙ words_equal c.loop-front.left.now c.loop-front.right.now _ _ front.enough other.enough at.bytes at.others

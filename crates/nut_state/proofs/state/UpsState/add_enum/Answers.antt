@@ -1,12 +1,13 @@
 use Rattle.std.proofs.Common.{◌≡◌, true, sym, subst, ◌∙◌}
 use Rattle.std.specs.Prelude.{slice_set}
+use Rattle.nut_words.proofs.Written.{at_err}
 use Rattle.nut_state.specs.Sorted.{IsFound, IsFree}
 use Rattle.nut_state.specs.laws.Holds.{IsTable}
 use Rattle.nut_state.specs.contracts.state.UpsState.{the_view}
 use Rattle.nut_state.specs.Step.{after, adds}
 use Rattle.nut_state.specs.Change.{add_enum}
 use Rattle.nut_state.proofs.TableLemmas.{IsTable-after}
-use Rattle.nut_state.proofs.ChangeLemmas.{name_of, at_an_error, put_back, add_enum_found, add_enum_full, add_enum_absent, add_enum_adds}
+use Rattle.nut_state.proofs.ChangeLemmas.{name_of, put_back, add_enum_found, add_enum_full, add_enum_absent, add_enum_adds}
 use Rattle.nut_state.proofs.state.UpsState.add_enum.Goals as goal
 
 pub returns-in_default-clause-ok : goal.returns-in_default-clause-ok
@@ -46,6 +47,6 @@ returns-clause-ok c = rw (← c.self.view_is) (added c)
 pub returns-in_err-add_enum-clause-err : goal.returns-in_err-add_enum-clause-err
 returns-in_err-add_enum-clause-err c =
     let found : IsFound name_of c.args.name.now c.self.inside.variables.items c.in-Ok.place = rw c.deref.ensures.value at c.in-Ok.ensures in
-    at_an_error c.from_residual.result
+    at_err c.from_residual.result
     (put_back (the_view c.self.inside) c.args.name.now c.in-Ok.place c.index_mut-variable.result.now found c.index_mut-variable.ensures.value
     c.add_enum.new.self c.in_err-add_enum.ensures.err ∙ c.self.view_is)

@@ -1,12 +1,13 @@
 use Rattle.std.proofs.Common.{◌≡◌, true, Some, sym, subst, ap, ◌∙◌}
 use Rattle.std.specs.Prelude.{slice_set}
+use Rattle.nut_words.proofs.Written.{at_err}
 use Rattle.nut_state.specs.Sorted.{IsFound, IsFree}
 use Rattle.nut_state.specs.laws.Holds.{IsTable}
 use Rattle.nut_state.specs.contracts.state.UpsState.{the_view}
 use Rattle.nut_state.specs.Step.{after, adds}
 use Rattle.nut_state.specs.Change.{add_range}
 use Rattle.nut_state.proofs.TableLemmas.{IsTable-after}
-use Rattle.nut_state.proofs.ChangeLemmas.{name_of, at_an_error, put_back, add_range_found, add_range_full, add_range_absent, add_range_adds, add_range_unread}
+use Rattle.nut_state.proofs.ChangeLemmas.{name_of, put_back, add_range_found, add_range_full, add_range_absent, add_range_adds, add_range_unread}
 use Rattle.nut_state.proofs.state.UpsState.add_range.Goals as goal
 
 pub returns-in_default-clause-ok : goal.returns-in_default-clause-ok
@@ -50,6 +51,6 @@ returns-clause-ok c = rw (← c.self.view_is) (added c)
 pub returns-in_err-add_range-clause-err : goal.returns-in_err-add_range-clause-err
 returns-in_err-add_range-clause-err c =
     let found : IsFound name_of c.args.name.now c.self.inside.variables.items c.in-Ok.place = rw c.deref.ensures.value at c.in-Ok.ensures in
-    at_an_error c.from_residual.result
+    at_err c.from_residual.result
     (put_back (the_view c.self.inside) c.args.name.now c.in-Ok.place c.index_mut-variable.result.now found c.index_mut-variable.ensures.value
     c.add_range.new.self c.in_err-add_range.ensures.err ∙ c.self.view_is)
