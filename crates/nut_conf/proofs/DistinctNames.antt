@@ -1,10 +1,11 @@
 -- In a file that reads without a fault, no two sections have the same name.
-use Rattle.std.proofs.Common.{◌≡◌, ℕ, ◌+◌, ◌==◌, Bool, true, false, cond, ◌||◌, nat_lt, nat_le, List, [], ◌∷◌, ◌++◌, length, map, Option, None, Some, Result, Ok, Err, refl, sym, ap, subst}
+use Rattle.std.proofs.Common.{◌≡◌, ℕ, ◌+◌, ◌==◌, Bool, true, false, cond, nat_lt, nat_le, List, [], ◌∷◌, ◌++◌, length, map, Option, None, Some, Result, Ok, Err, refl, sym, ap, subst}
 use Rattle.std.specs.List.{AllByRecursion, IsDistinct, list_any}
 use Rattle.std.specs.Option.{option_map_or}
 use Rattle.std.specs.Result.{result_err}
 use Rattle.std.specs.Str.{bytes_eq}
 use Rattle.std.proofs.lemmas.Slice.Eq.{bytes_eq-Decides}
+use Rattle.std.proofs.lemmas.Bool.{or_parts, cond_both, false_from_ne_true}
 use Rattle.nut_conf.specs.Faults.{◌>>=◌}
 use Rattle.nut_conf.specs.Values.{Words, name}
 use Rattle.nut_conf.specs.Files.{LineFault, words_of, unless, with_line, at_line, read_lines, read_file, lines_of}
@@ -12,7 +13,6 @@ use Rattle.nut_conf.specs.Sections.{Section, section_name, sections, last, is_na
 use Rattle.nut_conf.specs.laws.Laws.{HasDistinctNames}
 use Rattle.nut_conf.specs.declared.fault.FaultKind.{FaultKind}
 use Rattle.nut_conf.specs.declared.fault.FaultKind.TheVariants.{OutsideSection, Repeated, PastLimit}
-use Rattle.nut_words.proofs.CutLemmas.{false-from_not_true}
 use Rattle.nut_words.specs.declared.limits.TheConstants.{UPS_NAME_MAX}
 use Rattle.nut_conf.proofs.SectionLemmas.{sections-opens, sections-more, with_line_in, name-same}
 use Rattle.nut_conf.specs.declared.limits.TheConstants.{FILE_MAX}
@@ -47,23 +47,14 @@ module _ (fault : LineFault) (P : List Words → Type 0) (keeps : (before : List
       ] refl is
 
   pub keeps_file : (file : List ℕ) (after : List Words) → P [] → read_file fault file ≡ Ok after → P after
-  keeps_file file after holds is = by_test (nat_lt FILE_MAX (length file)) is where
-    by_test : (b : Bool) → cond b (Err (0, PastLimit)) (read_lines fault [] 1 (lines_of file)) ≡ Ok after → P after
-    by_test true is = absurd (cc)
-    by_test false is = keeps_lines (lines_of file) [] after 1 holds is
+  keeps_file file after holds is =
+      cond_both (nat_lt FILE_MAX (length file)) (Err (0, PastLimit)) (read_lines fault [] 1 (lines_of file)) (λ r. r ≡ Ok after → P after)
+      (λ _ e. absurd (cc)) (λ _ e. keeps_lines (lines_of file) [] after 1 holds e) is
 
 bytes_eq-swap : (a b : List ℕ) → bytes_eq a b ≡ false → bytes_eq b a ≡ false
-bytes_eq-swap a b h = false-from_not_true (bytes_eq b a) (λ t.
+bytes_eq-swap a b h = false_from_ne_true (bytes_eq b a) (λ t.
     let again : bytes_eq a b ≡ true = (bytes_eq-Decides a b).1 (sym ((bytes_eq-Decides b a).0 t)) in
     absurd (cc))
-
-pub left_false : (a b : Bool) → (a || b) ≡ false → a ≡ false
-left_false true b h = absurd (cc)
-left_false false b h = refl
-
-pub right_false : (a b : Bool) → (a || b) ≡ false → b ≡ false
-right_false true b h = absurd (cc)
-right_false false b h = h
 
 abbrev names : List Section → List (List ℕ)
 names ss = map (λ s. s.0) ss
@@ -80,13 +71,12 @@ distinct-push : (ss : List Section) (n : List ℕ) → HasDistinctNames ss → l
 unfolding IsDistinct
 distinct-push [] n all new = (tt, tt)
 distinct-push (s ∷ ss) n all new =
-    let apart : bytes_eq s.0 n ≡ false = bytes_eq-swap n s.0 (left_false (bytes_eq n s.0) (list_any (is_name_of n) ss) new) in
-    (apart-push s.0 ss n all.0 apart, distinct-push ss n all.1 (right_false (bytes_eq n s.0) (list_any (is_name_of n) ss) new))
+    let apart : bytes_eq s.0 n ≡ false = bytes_eq-swap n s.0 (or_parts (bytes_eq n s.0) (list_any (is_name_of n) ss) new).0 in
+    (apart-push s.0 ss n all.0 apart, distinct-push ss n all.1 (or_parts (bytes_eq n s.0) (list_any (is_name_of n) ss) new).1)
 
 names-with_line_in : (ss : List Section) (ws : Words) → names (with_line_in ss ws) ≡ names ss
-names-with_line_in [] ws = refl
-names-with_line_in (s ∷ []) ws = refl
 names-with_line_in (s ∷ t ∷ ss) ws = ap (λ ns. s.0 ∷ ns) (names-with_line_in (t ∷ ss) ws)
+names-with_line_in _ ws = refl
 
 no_names : HasDistinctNames []
 unfolding IsDistinct

@@ -6,6 +6,7 @@ use Rattle.std.specs.Result.{result_err}
 use Rattle.std.proofs.lemmas.Bool.Decides.{nat_tests}
 use Rattle.std.proofs.lemmas.List.Folds.{list_any-append}
 use Rattle.std.proofs.lemmas.Slice.Eq.{bytes_eq-Decides}
+use Rattle.std.proofs.lemmas.Bool.{or_parts}
 use Rattle.nut_conf.specs.Faults.{◌>>=◌}
 use Rattle.nut_conf.specs.Values.{Words, nth}
 use Rattle.nut_conf.specs.Settings.{Directive, Rule, Setting, accepts, added, directive_of, is_full, line_fault, names, setting, settings}
@@ -16,13 +17,13 @@ use Rattle.nut_conf.specs.declared.fault.FaultKind.{FaultKind}
 use Rattle.nut_conf.specs.declared.fault.FaultKind.TheVariants.{OutsideSection, PastLimit, Repeated, UnknownDirective}
 use Rattle.nut_conf.proofs.DraftLemmas.{settings-more, settings-other}
 use Rattle.nut_conf.proofs.SectionLemmas.{sections-more, sections-opens, with_line_in}
-use Rattle.nut_conf.proofs.DistinctNames.{keeps_file, left_false, right_false}
+use Rattle.nut_conf.proofs.DistinctNames.{keeps_file}
 
 apart-push : (clashes : Setting → Setting → Bool) (xs : List Setting) (s : Setting) → AreApart clashes xs → list_any (clashes s) xs ≡ false → AreApart clashes (xs ++ s ∷ [])
 apart-push clashes [] s all new = (refl, tt)
 apart-push clashes (x ∷ xs) s all new = (
-  list_any-append (λ other. clashes other x) xs (s ∷ []) ∙ rw (all.0, left_false (clashes s x) (list_any (clashes s) xs) new) refl,
-  apart-push clashes xs s all.1 (right_false (clashes s x) (list_any (clashes s) xs) new),
+  list_any-append (λ other. clashes other x) xs (s ∷ []) ∙ rw (all.0, (or_parts (clashes s x) (list_any (clashes s) xs) new).0) refl,
+  apart-push clashes xs s all.1 (or_parts (clashes s x) (list_any (clashes s) xs) new).1,
 )
 
 few-none : (most : Option ℕ) → AreFew most []
@@ -42,9 +43,8 @@ taken : (r : Rule) (earlier : List Setting) (s : Setting) → result_err (added 
 taken r earlier s ok = by (list_any (r.clashes s) earlier) (is_full r.most (length earlier)) refl refl ok where
   by : (a b : Bool) → list_any (r.clashes s) earlier ≡ a → is_full r.most (length earlier) ≡ b
       → result_err (cond a (Err Repeated) (cond b (Err PastLimit) (Ok (earlier ++ s ∷ [])))) ≡ None → IsTaken r earlier s
-  by true b e f h = absurd (cc)
-  by false true e f h = absurd (cc)
   by false false e f h = record { apart = e; room = f }
+  by _ _ e f h = absurd (cc)
 
 keep-push : (r : Rule) (earlier : List Setting) (s : Setting) → KeepRule r earlier → IsTaken r earlier s → KeepRule r (earlier ++ s ∷ [])
 keep-push r earlier s k t = record { apart = apart-push r.clashes earlier s k.apart t.apart; few = few-push r.most earlier s t.room }

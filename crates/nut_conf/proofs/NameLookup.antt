@@ -13,7 +13,7 @@ use Rattle.nut_conf.specs.Sections.{is_named, names_in}
 use Rattle.nut_conf.specs.declared.text.Name.{Name}
 use Rattle.nut_conf.specs.declared.fault.FaultKind.{FaultKind}
 use Rattle.std.specs.Str.{bytes_eq}
-use Rattle.nut_words.proofs.CutLemmas.{false-from_not_true}
+use Rattle.std.proofs.lemmas.Bool.{false_from_ne_true, le-ltb}
 use Rattle.nut_words.specs.declared.limits.TheConstants.{UPS_NAME_MAX}
 use Rattle.nut_conf.proofs.SlotLemmas.{length-map}
 
@@ -23,7 +23,7 @@ reads_named most bytes h = grind (arith, nat_tests)
 
 -- A word that can't be read as a name isn't any name.
 pub is_no_name : (most : ℕ) (bytes : List ℕ) (e : FaultKind) → name most bytes ≡ Err e → (n : Name most) → bytes_eq bytes n.bytes.items ≡ false
-is_no_name most bytes e fault n = false-from_not_true (bytes_eq bytes n.bytes.items) (λ same.
+is_no_name most bytes e fault n = false_from_ne_true (bytes_eq bytes n.bytes.items) (λ same.
     let is : bytes ≡ n.bytes.items = (bytes_eq-Decides bytes n.bytes.items).0 same in
     let reads : name most bytes ≡ Ok bytes = reads_named most bytes (subst (λ b. is_name most b ≡ true) (sym is) n.named) in
     absurd (cc))
@@ -38,10 +38,8 @@ no_prefix p (x ∷ xs) none = rw (none x) (omega (arith, no_prefix p xs none))
 -- A test that no element passes finds no place.
 pub position-no : {X : Type 0} (p : X → Bool) (xs : List X) → ((x : X) → p x ≡ false) → position p xs ≡ None
 position-no p xs none =
-    let below : nat_lt (position_or_len p xs) (length xs) ≡ false = ap (λ n. nat_lt n (length xs)) (no_prefix p xs none) ∙ not_below (length xs) in
-    ap (λ b. cond b (Some (position_or_len p xs)) None) below where
-      not_below : (n : ℕ) → nat_lt n n ≡ false
-      not_below n = grind (arith, nat_tests)
+    let below : nat_lt (position_or_len p xs) (length xs) ≡ false = ap (λ n. nat_lt n (length xs)) (no_prefix p xs none) ∙ le-ltb (length xs) (length xs) (omega arith) in
+    ap (λ b. cond b (Some (position_or_len p xs)) None) below
 
 -- A test that no key passes finds no value.
 pub lookup-no : {K X : Type 0} (test : K → Bool) (es : List (K × X)) → ((k : K) → test k ≡ false) → lookup test es ≡ None

@@ -2,6 +2,7 @@
 use Rattle.std.proofs.Common.{◌≡◌, ℕ, Bool, true, false, cond, ◌&&◌, ◌==◌, nat_le, nat_lt, List, [], ◌∷◌, length, map, Result, Ok, Err, refl, ap, ◌∙◌, subst, arith}
 use Rattle.std.specs.List.{list_all, flat_map, AllByRecursion}
 use Rattle.std.proofs.lemmas.Bool.Decides.{nat_tests}
+use Rattle.std.proofs.lemmas.Bool.{and_from, and_parts}
 use Rattle.nut_words.specs.Spelling.{is_printing, is_bare, is_inner, Item, Plain, Escaped, byte_of, IsItem, Part, Blank, Bare, Quoted, Equals, Comment, part_words, IsLayout}
 use Rattle.nut_words.specs.declared.words.WordFault.{WordFault}
 use Rattle.nut_words.specs.Reader.{spelled, read}
@@ -10,39 +11,29 @@ use Rattle.nut_words.specs.Quoting.{IsPrintable}
 use Rattle.nut_conf.specs.Files.{words_of, readable}
 use Rattle.nut_words.specs.Name.{is_name_byte, is_name}
 use Rattle.nut_words.specs.declared.limits.TheConstants.{WORDS_MAX}
+use Rattle.nut_words.proofs.PlainLemmas.{all_printable}
 use Rattle.nut_conf.specs.Values.{is_text}
 use Rattle.nut_conf.specs.declared.fault.FaultKind.TheVariants.{PastLimit}
 use Rattle.nut_conf.specs.declared.limits.TheConstants.{FILE_LINE_MAX}
-
-left_true : (a b : Bool) → (a && b) ≡ true → a ≡ true
-left_true true b h = refl
-left_true false b h = absurd (cc)
-
-right_true : (a b : Bool) → (a && b) ≡ true → b ≡ true
-right_true true b h = h
-right_true false b h = absurd (cc)
-
-both_true : (a b : Bool) → a ≡ true → b ≡ true → (a && b) ≡ true
-both_true a b h g = rw (h, g) refl
 
 bare_printing : (c : ℕ) → is_bare c ≡ true → is_printing c ≡ true
 bare_printing c h = grind (arith, nat_tests)
 
 inner_printing : (c : ℕ) → is_inner c ≡ true → is_printing c ≡ true
-inner_printing c h = left_true (is_printing c) _ h
+inner_printing c h = (and_parts (is_printing c) _ h).0
 
 -- The bytes of a word are printing, whichever bytes may stand in it without a backslash.
 items_printing : (alone : ℕ → Bool) → ((c : ℕ) → alone c ≡ true → is_printing c ≡ true) → (items : List Item) → AllByRecursion (IsItem alone) items
     → list_all is_printing (map byte_of items) ≡ true
 items_printing alone each [] h = refl
-items_printing alone each (Plain c ∷ items) h = both_true _ _ (each c h.0) (items_printing alone each items h.1)
-items_printing alone each (Escaped c ∷ items) h = both_true _ _ h.0 (items_printing alone each items h.1)
+items_printing alone each (Plain c ∷ items) h = and_from _ _ (each c h.0) (items_printing alone each items h.1)
+items_printing alone each (Escaped c ∷ items) h = and_from _ _ h.0 (items_printing alone each items h.1)
 
 layout_printing : (parts : List Part) → IsLayout parts → list_all (list_all is_printing) (flat_map part_words parts) ≡ true
 layout_printing [] h = refl
 layout_printing (Blank c ∷ parts) h = layout_printing parts h.1
-layout_printing (Bare first others ∷ parts) h = both_true _ _ (items_printing is_bare bare_printing (first ∷ others) h.0) (layout_printing parts h.2)
-layout_printing (Quoted items ∷ parts) h = both_true _ _ (items_printing is_inner inner_printing items h.0) (layout_printing parts h.2)
+layout_printing (Bare first others ∷ parts) h = and_from _ _ (items_printing is_bare bare_printing (first ∷ others) h.0) (layout_printing parts h.2)
+layout_printing (Quoted items ∷ parts) h = and_from _ _ (items_printing is_inner inner_printing items h.0) (layout_printing parts h.2)
 layout_printing (Equals ∷ parts) h = layout_printing parts h
 layout_printing (Comment text ∷ parts) h = ap (λ ps. list_all (list_all is_printing) (flat_map part_words ps)) h.1
 
@@ -70,19 +61,11 @@ printing_of line ws is = by_test (nat_lt FILE_LINE_MAX (length line)) is where
 
 -- Printing bytes are printable.
 pub printable : (w : List ℕ) → list_all is_printing w ≡ true → IsPrintable w
-printable [] h = tt
-printable (c ∷ cs) h = (left_true (is_printing c) (list_all is_printing cs) h, printable cs (right_true (is_printing c) (list_all is_printing cs) h))
-
-name_byte_printing : (c : ℕ) → is_name_byte c ≡ true → is_printing c ≡ true
-name_byte_printing c h = grind (arith, nat_tests)
-
-name_bytes_printable : (w : List ℕ) → list_all is_name_byte w ≡ true → IsPrintable w
-name_bytes_printable [] h = tt
-name_bytes_printable (c ∷ cs) h = (name_byte_printing c (left_true (is_name_byte c) (list_all is_name_byte cs) h), name_bytes_printable cs (right_true (is_name_byte c) (list_all is_name_byte cs) h))
+printable w h = all_printable is_printing (λ c is. is) w h
 
 -- Names and texts are printable.
 pub name_printable : (most : ℕ) (w : List ℕ) → is_name most w ≡ true → IsPrintable w
-name_printable most w h = name_bytes_printable w (right_true (nat_le 1 (length w) && nat_le (length w) most) (list_all is_name_byte w) h)
+name_printable most w h = all_printable is_name_byte (λ c is. grind (arith, nat_tests)) w (and_parts (nat_le 1 (length w) && nat_le (length w) most) (list_all is_name_byte w) h).1
 
 pub text_printable : (least most : ℕ) (w : List ℕ) → is_text least most w ≡ true → IsPrintable w
-text_printable least most w h = printable w (right_true (nat_le least (length w) && nat_le (length w) most) (list_all is_printing w) h)
+text_printable least most w h = printable w (and_parts (nat_le least (length w) && nat_le (length w) most) (list_all is_printing w) h).1

@@ -1,18 +1,18 @@
 -- The most bytes in a target.
-use Rattle.std.proofs.Common.{◌≡◌, ℕ, ◌+◌, ◌-◌, ◌<◌, ◌≤◌, Bool, true, false, cond, not, ◌||◌, ◌==◌, nat_lt, List, length, take, drop, Option, None, Some, Result, Ok, Err, refl, ap, arith, length-drop}
-use Rattle.std.specs.List.{list_all, list_any, position}
+use Rattle.std.proofs.Common.{◌≡◌, ℕ, ◌+◌, ◌-◌, ◌<◌, ◌≤◌, ◌==◌, List, length, take, drop, Option, None, Some, Result, Ok, Err, refl, ap, arith, length-drop}
+use Rattle.std.specs.List.{list_any, position}
 use Rattle.std.specs.Option.{option_map, option_map_or}
 use Rattle.std.specs.Prelude.{codes}
 use Rattle.std.proofs.lemmas.List.{length-take}
 use Rattle.std.proofs.lemmas.List.Quantifiers.{position-Some}
 use Rattle.std.proofs.lemmas.Bool.Decides.{nat_tests}
+use Rattle.std.proofs.lemmas.Bool.{cond_both}
 use Rattle.nut_conf.specs.Faults.{◌>>=◌}
-use Rattle.nut_words.specs.Name.{is_name_byte}
 use Rattle.nut_words.specs.declared.limits.TheConstants.{UPS_NAME_MAX}
 use Rattle.nut_conf.specs.Values.{name, number}
 use Rattle.nut_conf.specs.Target.{or_fault, host, located, target}
 use Rattle.nut_conf.specs.Upsmon.{monitored_target}
-use Rattle.nut_conf.specs.declared.fault.FaultKind.TheVariants.{BadName, PastLimit}
+use Rattle.nut_conf.specs.declared.fault.FaultKind.TheVariants.{BadName}
 use Rattle.nut_conf.specs.declared.target.NameFault.TheVariants.{BadUps, BadPort}
 use Rattle.nut_conf.specs.declared.limits.TheConstants.{HOST_MAX, TARGET_MAX}
 
@@ -28,11 +28,7 @@ no_fault f (Ok y) x is = let e : y ≡ x = cc in ap (λ z. Ok z) e
 no_fault f (Err e) x is = absurd (cc)
 
 name-short : (most : ℕ) (bytes n : List ℕ) → name most bytes ≡ Ok n → length bytes ≤ most
-name-short most bytes n is = by_tests ((length bytes == 0) || not (list_all is_name_byte bytes)) (nat_lt most (length bytes)) refl is where
-  by_tests : (a b : Bool) → nat_lt most (length bytes) ≡ b → cond a (Err BadName) (cond b (Err PastLimit) (Ok bytes)) ≡ Ok n → length bytes ≤ most
-  by_tests true b here is = absurd (cc)
-  by_tests false true here is = absurd (cc)
-  by_tests false false here is = grind (arith, nat_tests)
+name-short most bytes n is = grind (arith, nat_tests)
 
 number-short : (least most : ℕ) (bytes : List ℕ) (n : ℕ) → number least most bytes ≡ Ok n → length bytes ≤ 9
 number-short least most bytes n is = grind (arith, nat_tests)
@@ -77,7 +73,6 @@ target-short bytes t is = by_place (position (λ b. b == 64) bytes) refl is wher
 
 -- A target that names its host has at most 107 bytes.
 pub monitored-short : (bytes : List ℕ) (t : List ℕ × List ℕ × ℕ) → monitored_target bytes ≡ Ok t → length bytes ≤ TARGET_MAX
-monitored-short bytes t is = by_test (list_any (λ c. c == 64) bytes) is where
-  by_test : (b : Bool) → cond b (or_fault BadName (target bytes)) (Err BadName) ≡ Ok t → length bytes ≤ TARGET_MAX
-  by_test true is = target-short bytes t (no_fault BadName (target bytes) t is)
-  by_test false is = absurd (cc)
+monitored-short bytes t is =
+    cond_both (list_any (λ c. c == 64) bytes) (or_fault BadName (target bytes)) (Err BadName) (λ r. r ≡ Ok t → length bytes ≤ TARGET_MAX)
+    (λ _ e. target-short bytes t (no_fault BadName (target bytes) t e)) (λ _ e. absurd (cc)) is

@@ -1,6 +1,7 @@
 -- The power values of a configuration and those of its file.
-use Rattle.std.proofs.Common.{◌≡◌, ℕ, ◌+◌, List, [], ◌∷◌, map, nat_lt, cond, Bool, true, false, Ok, Err, refl, sym, ap, ◌∙◌}
+use Rattle.std.proofs.Common.{◌≡◌, ℕ, ◌+◌, List, [], ◌∷◌, map, nat_lt, cond, Ok, Err, refl, sym, ap, ◌∙◌}
 use Rattle.std.specs.Prelude.{sum_by, fold}
+use Rattle.std.proofs.lemmas.Bool.{cond_both}
 use Rattle.nut_conf.specs.Values.{Words}
 use Rattle.nut_conf.specs.Rows.{number_set}
 use Rattle.nut_conf.specs.Settings.{Number}
@@ -20,10 +21,8 @@ sum_by-monitors ms = sum-from 0 ms
 
 -- The number of a configuration is the one that is set, or the default.
 number_or-set : {least most default : ℕ} (n : NumberOr least most default) → number_or default (number_set n) ≡ n.value
-number_or-set {least} {most} {default} n = by n.is_set refl where
-  by : (b : Bool) → n.is_set ≡ b → number_or default (cond b (Number n.value ∷ []) []) ≡ n.value
-  by true is = refl
-  by false is = sym (n.unset is)
+number_or-set {default = default} n =
+    cond_both n.is_set (Number n.value ∷ []) [] (λ ds. number_or default ds ≡ n.value) (λ _. refl) (λ is. sym (n.unset is))
 
 -- The power values of the file suffice if those of the configuration do.
 pub supplied-conf : (c : UpsmonConf) (lines : List Words) → UpsmonHolds c lines

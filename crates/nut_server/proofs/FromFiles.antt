@@ -9,6 +9,7 @@ use Rattle.std.proofs.lemmas.Bool.Decides.{nat_tests}
 use Rattle.std.proofs.lemmas.List.Folds.{find_at}
 use Rattle.std.proofs.lemmas.Option.{slice_get-map, slice_get_past}
 use Rattle.std.proofs.lemmas.Slice.Eq.{bytes_eq-Decides}
+use Rattle.std.proofs.lemmas.Bool.{false_from_ne_true}
 use Rattle.nut_conf.specs.Sections.{is_named, names_in}
 use Rattle.nut_conf.specs.Ups.{shown, driver_of, desc_of}
 use Rattle.nut_conf.specs.Users as files
@@ -17,7 +18,6 @@ use Rattle.nut_conf.specs.declared.ups.Ups as the_ups
 use Rattle.nut_conf.specs.declared.users.User as the_user
 use Rattle.nut_conf.specs.declared.users.Commands.{Commands}
 use Rattle.nut_conf.specs.declared.users.Commands.TheVariants as commands
-use Rattle.nut_words.proofs.CutLemmas.{false-from_not_true}
 use Rattle.nut_words.specs.declared.limits.TheConstants.{UPS_NAME_MAX}
 use Rattle.nut_conf.proofs.NameLookup.{slice_get-names}
 use Rattle.nut_conf.proofs.SlotLemmas.{length-map}
@@ -28,7 +28,7 @@ bytes_eq-symm : (a b : List ℕ) → bytes_eq a b ≡ bytes_eq b a
 bytes_eq-symm a b = by_test (bytes_eq a b) refl where
   by_test : (t : Bool) → bytes_eq a b ≡ t → bytes_eq a b ≡ bytes_eq b a
   by_test true h = h ∙ sym ((bytes_eq-Decides b a).1 (sym ((bytes_eq-Decides a b).0 h)))
-  by_test false h = h ∙ sym (false-from_not_true (bytes_eq b a) (λ t.
+  by_test false h = h ∙ sym (false_from_ne_true (bytes_eq b a) (λ t.
       let again : bytes_eq a b ≡ true = (bytes_eq-Decides a b).1 (sym ((bytes_eq-Decides b a).0 t)) in
       absurd (cc)))
 
