@@ -2,6 +2,7 @@
 use Rattle.std.proofs.Common.{◌≡◌, ℕ, ◌≤◌, Bool, true, false, nat_le, nat_lt, List, [], ◌∷◌, ◌++◌, length, drop, Option, Some, None, is_some, Result, Ok, Err, if◌then◌else◌, refl, sym, subst, inl, inr, arith, length-append, length-drop, leb-true, ltb-true, ◌&&◌}
 use Rattle.std.specs.List.{list_all}
 use Rattle.std.specs.Prelude.{◌==◌}
+use Rattle.std.proofs.lemmas.Bool.{and_parts, cond_both}
 use Rattle.nut_words.specs.Cutter.{kept_of}
 use Rattle.nut_words.specs.Spelling.{is_printing}
 use Rattle.nut_words.specs.Lines.{LineText, Text, TooLong, as_line, joined, last_of, lines_after, parts, rest, rest_after, unfinished}
@@ -77,9 +78,8 @@ after query (Ok (Complete outcome)) waits few = record { query = omega arith; ro
 after query (Err fault) waits few = tt
 
 on_answer_within : (stage : Stage) (answer : Answer) → IsStageBounded stage → IsWithin (on_answer stage answer)
-on_answer_within stages.Idle answer h = tt
 on_answer_within (stages.Asked query) answer h = after query (progress_of query answer) h.query (few_progress query answer h.rows)
-on_answer_within (stages.Answered outcome) answer h = tt
+on_answer_within _ answer h = tt
 
 on_read_within : (stage : Stage) (read : Result Answer AnswerFault) → IsStageBounded stage → IsWithin (on_read stage read)
 on_read_within stage (Ok answer) h = on_answer_within stage answer h
@@ -90,19 +90,16 @@ on_line_within stage (Text text) h = on_read_within stage (answer_in text) h
 on_line_within stage TooLong h = tt
 
 left_within : (stage : Stage) → IsStageBounded stage → IsStageBounded (left_of stage)
-left_within stages.Idle h = h
 left_within (stages.Asked query) h = record { query = omega arith; rows = none }
-left_within (stages.Answered outcome) h = h
+left_within _ h = h
 
 moved_within : (e : Exchange) (to : Result Stage LinkFault) → IsStageBounded e.stage → IsWithin to → IsStageBounded (moved e to).stage
 moved_within e (Ok stage) h within = within
 moved_within e (Err fault) h within = left_within e.stage h
 
 heard_within : (line : LineText) (e : Exchange) → IsStageBounded e.stage → IsStageBounded (heard line e).stage
-heard_within line e h = go (is_some e.fault) where
-  go : (b : Bool) → IsStageBounded (if b then e else moved e (on_line e.stage line)).stage
-  go true = h
-  go false = moved_within e (on_line e.stage line) h (on_line_within e.stage line h)
+heard_within line e h =
+    cond_both (is_some e.fault) e (moved e (on_line e.stage line)) (λ to. IsStageBounded to.stage) (λ _. h) (λ _. moved_within e (on_line e.stage line) h (on_line_within e.stage line h))
 
 lines_within : (ls : List LineText) (e : Exchange) → IsStageBounded e.stage → IsStageBounded (lines_heard ls e).stage
 lines_within [] e h = h
@@ -112,10 +109,8 @@ nothing : 0 ≤ LINE_MAX
 nothing = omega arith
 
 kept_as_line : (text : List ℕ) → kept_of (as_line text) ≤ LINE_MAX
-kept_as_line text = go (nat_le (length text) LINE_MAX) refl where
-  go : (b : Bool) → nat_le (length text) LINE_MAX ≡ b → kept_of (if b then Text text else TooLong) ≤ LINE_MAX
-  go true e = leb-true (length text) LINE_MAX e
-  go false e = nothing
+kept_as_line text =
+    cond_both (nat_le (length text) LINE_MAX) (Text text) TooLong (λ line. kept_of line ≤ LINE_MAX) (leb-true (length text) LINE_MAX) (λ _. nothing)
 
 kept_joined : (old : LineText) (more : List ℕ) → kept_of (joined old more) ≤ LINE_MAX
 kept_joined (Text text) more = kept_as_line (text ++ more)
@@ -143,10 +138,6 @@ fed_within v w p done result feeds h = elim feeds.stands [
   }
 ]
 
-and_left : (a b : Bool) → (a && b) ≡ true → a ≡ true
-and_left true b e = refl
-and_left false b e = e
-
 kept_rest : (bytes : List ℕ) → kept_of (rest bytes) ≤ LINE_MAX
 kept_rest bytes = kept_as_line (last_of (parts bytes))
 
@@ -169,30 +160,22 @@ asked_within : (request : Request) (e : Exchange) → IsStageBounded e.stage →
 asked_within request e h = go e.fault (is_idle e.stage) (is_writable request) refl where
   go : (o : Option LinkFault) (idle writable : Bool) → is_writable request ≡ writable
       → IsStageBounded (if is_some (or_else o (if idle then (if writable then None else Some BadQuery) else Some OutOfOrder)) then e.stage else stages.Asked (query_of request))
-  go (Some fault) idle writable is = h
-  go None false writable is = h
-  go None true false is = h
   go None true true is =
       let text = message (request_parts request) in
-      record { query = omega (arith, length_line request, leb-true (length text) LINE_MAX (and_left (nat_le (length text) LINE_MAX) (list_all is_printing text) is)); rows = none }
+      record { query = omega (arith, length_line request, leb-true (length text) LINE_MAX (and_parts (nat_le (length text) LINE_MAX) (list_all is_printing text) is).0); rows = none }
+  go _ _ _ is = h
 
 taken_within : (n : ℕ) (e : Exchange) → IsStageBounded e.stage → IsStageBounded (taken n e).stage
-taken_within n e h = go (is_some (take_fault n e)) where
+taken_within n e h = cond_both (is_some (take_fault n e)) e.stage (stage_taken n e.stage) IsStageBounded (λ _. h) (λ _. drops e.stage h) where
   drops : (stage : Stage) → IsStageBounded stage → IsStageBounded (stage_taken n stage)
-  drops stages.Idle h = h
   drops (stages.Asked query) h = record { query = omega (arith, length-drop n query.waits, h.query); rows = h.rows }
-  drops (stages.Answered outcome) h = h
-
-  go : (b : Bool) → IsStageBounded (if b then e.stage else stage_taken n e.stage)
-  go true = h
-  go false = drops e.stage h
+  drops _ h = h
 
 taken_out_within : (e : Exchange) → IsStageBounded e.stage → IsStageBounded (taken_out e).stage
 taken_out_within e h = go e.stage h where
   go : (stage : Stage) → IsStageBounded stage → IsStageBounded (stage_without stage)
-  go stages.Idle h = h
-  go (stages.Asked query) h = h
   go (stages.Answered outcome) h = record { query = omega arith; rows = none }
+  go _ h = h
 
 pub bounds_stay : BoundsStay
 bounds_stay = record {

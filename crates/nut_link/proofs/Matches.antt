@@ -1,7 +1,7 @@
 -- Which lines match.
 use Rattle.std.proofs.Common.{◌≡◌, ℕ, ◌<◌, ◌||◌, ◌==◌, Bool, true, false, List, [], ◌∷◌, length, bytes_eq, decimal, refl, sym, ap, ◌∙◌, inl, inr, Result, arith}
 use Rattle.std.specs.Prelude.{nat_lt}
-use Rattle.std.proofs.lemmas.Bool.{false≢true}
+use Rattle.std.proofs.lemmas.Bool.{false≢true, eq-eqb, lt-ltb, or_left, or_right}
 use Rattle.std.proofs.lemmas.Bool.Decides.{nat_tests}
 use Rattle.std.proofs.lemmas.List.Folds.{list_any-append}
 use Rattle.std.proofs.lemmas.Slice.Eq.{bytes_eq-Decides}
@@ -26,23 +26,16 @@ use Rattle.nut_link.specs.declared.fault.LinkFault.{LinkFault}
 bytes_same : (x : List ℕ) → bytes_eq x x ≡ true
 bytes_same x = (bytes_eq-Decides x x).1 refl
 
-or_true : (b c : Bool) → c ≡ true → (b || c) ≡ true
-or_true true c e = refl
-or_true false c e = e
-
-first_true : (b c : Bool) → b ≡ true → (b || c) ≡ true
-first_true b c e = ap (λ b. b || c) e
-
 -- if no line may allocate, memory doesn't run out
 pub without_memory : (v w : LinkValue) (p : List ℕ) (done : ℕ) (result : Result (Unit {0}) LinkFault) → Feeds v p done result w → list_any may_take_memory (lines_after v.rest p) ≡ false → w ≡ fed p v
 without_memory v w p done result feeds none = elim feeds.stands [
   | inl said ↦ said.0
   | inr out ↦
-      let here : list_any may_take_memory (out.0.line ∷ out.0.later) ≡ true = first_true (may_take_memory out.0.line) (list_any may_take_memory out.0.later) out.0.stands.1 in
+      let here : list_any may_take_memory (out.0.line ∷ out.0.later) ≡ true = or_left (may_take_memory out.0.line) (list_any may_take_memory out.0.later) out.0.stands.1 in
       let some : list_any may_take_memory (lines_after v.rest p) ≡ true =
       ap (list_any may_take_memory) out.0.parted
       ∙ list_any-append may_take_memory out.0.earlier (out.0.line ∷ out.0.later)
-      ∙ or_true (list_any may_take_memory out.0.earlier) (list_any may_take_memory (out.0.line ∷ out.0.later)) here in
+      ∙ or_right (list_any may_take_memory out.0.earlier) (list_any may_take_memory (out.0.line ∷ out.0.later)) here in
       absurd (false≢true (sym none ∙ some))
 ]
 
@@ -54,19 +47,13 @@ begins_itself : (heading : List (List ℕ)) → begins heading heading ≡ true
 begins_itself [] = refl
 begins_itself (word ∷ words) = rw (bytes_same word, begins_itself words) refl
 
-same_length : (n : ℕ) → (n == n) ≡ true
-same_length n = grind (arith, nat_tests)
-
 heading_itself : (heading : List (List ℕ)) → is_heading heading heading ≡ true
-heading_itself heading = rw (same_length (length heading), begins_itself heading) refl
+heading_itself heading = rw (eq-eqb (length heading) (length heading) refl, begins_itself heading) refl
 
 types : (ups variable : List ℕ) (writable : Bool) (kind : VariableKind) →
     Answers (requests.GetType ups variable) (replies.Type ups variable writable kind) (outcomes.Said (type_words writable kind))
 types ups variable true kind = rw (bytes_same ups, bytes_same variable) refl
 types ups variable false kind = rw (bytes_same ups, bytes_same variable) refl
-
-has_room : (rows : List (List (List ℕ))) → length rows < ROWS_MAX → nat_lt (length rows) ROWS_MAX ≡ true
-has_room rows few = grind (arith, nat_tests)
 
 pub replies_match : RepliesMatch
 replies_match = record {
@@ -94,12 +81,12 @@ replies_match = record {
   network_version = refl;
   commands = refl;
   begins = λ query. rw (heading_itself (message_words (query_parts query))) refl;
-  of_ups = λ ups text rows few. rw (has_room rows few) refl;
-  of_var = λ ups variable text rows few. rw (bytes_same ups, has_room rows few) refl;
-  of_rw = λ ups variable text rows few. rw (bytes_same ups, has_room rows few) refl;
-  of_cmd = λ ups name rows few. rw (bytes_same ups, has_room rows few) refl;
-  of_enum = λ ups variable text rows few. rw (bytes_same ups, bytes_same variable, has_room rows few) refl;
-  of_range = λ ups variable minimum maximum rows few. rw (bytes_same ups, bytes_same variable, has_room rows few) refl;
-  of_client = λ ups address rows few. rw (bytes_same ups, has_room rows few) refl;
+  of_ups = λ ups text rows few. rw (lt-ltb (length rows) ROWS_MAX few) refl;
+  of_var = λ ups variable text rows few. rw (bytes_same ups, lt-ltb (length rows) ROWS_MAX few) refl;
+  of_rw = λ ups variable text rows few. rw (bytes_same ups, lt-ltb (length rows) ROWS_MAX few) refl;
+  of_cmd = λ ups name rows few. rw (bytes_same ups, lt-ltb (length rows) ROWS_MAX few) refl;
+  of_enum = λ ups variable text rows few. rw (bytes_same ups, bytes_same variable, lt-ltb (length rows) ROWS_MAX few) refl;
+  of_range = λ ups variable minimum maximum rows few. rw (bytes_same ups, bytes_same variable, lt-ltb (length rows) ROWS_MAX few) refl;
+  of_client = λ ups address rows few. rw (bytes_same ups, lt-ltb (length rows) ROWS_MAX few) refl;
   ends = λ query rows. rw (heading_itself (message_words (query_parts query))) refl;
 }

@@ -10,6 +10,7 @@ use Rattle.std.specs.Str.Parse.{digits_value as value}
 use Rattle.std.proofs.lemmas.Int.Digits.{digits_value-lt}
 use Rattle.std.proofs.Math.Nat.{pow-le-pow_right}
 use Rattle.std.proofs.lemmas.Str.Parse.{IsDigitsTest, FoldsDigits, numerals_by_fold, IsNumeralModel}
+use Rattle.std.proofs.lemmas.Bool.{and_from, and_parts, le-leb, leb-true, lt-ltb}
 use Rattle.nut_words.specs.Number.{digits_value, is_natural, natural}
 use Rattle.nut_proto.specs.Tracking.{IsTrackingNumber, tracking_number}
 
@@ -18,9 +19,6 @@ digit_parts c others e = grind (arith, nat_tests)
 
 digit_more : (c : ℕ) (others : Bool) → IsInRange 48 57 c → others ≡ true → (is_ascii_digit c && others) ≡ true
 digit_more c others k e = grind (arith, nat_tests)
-
-all_three : (a b c : Bool) → a ≡ true → b ≡ true → c ≡ true → (a && b && c) ≡ true
-all_three a b c p q r = rw (p, q, r) refl
 
 tells : IsDigitsTest (λ ds. list_all is_ascii_digit ds ≡ true)
 tells = record {
@@ -38,19 +36,10 @@ folds = record {
 pub model : IsNumeralModel (λ ds. list_all is_ascii_digit ds ≡ true) digits_value
 model = numerals_by_fold _ tells _ folds
 
-parts : (a b c : Bool) → (a && b && c) ≡ true → (b ≡ true) × (c ≡ true)
-parts true true true is = (refl, refl)
-parts true true false is = cc
-parts true false c is = cc
-parts false b c is = cc
-
-at_most : (n : ℕ) → nat_le n 9 ≡ true → n ≤ 9
-at_most n is = grind (arith, nat_tests)
-
 pub natural_parts : (text : List ℕ) → is_natural text ≡ true → (length text ≤ 9) × (list_all is_ascii_digit text ≡ true)
 natural_parts text is =
-    let are = parts (nat_lt 0 (length text)) (nat_le (length text) 9) (list_all is_ascii_digit text) is in
-    (at_most (length text) are.0, are.1)
+    let are = and_parts (nat_lt 0 (length text) && nat_le (length text) 9) (list_all is_ascii_digit text) is in
+    (leb-true _ _ (and_parts (nat_lt 0 (length text)) (nat_le (length text) 9) are.0).1, are.1)
 
 pub natural_below : (text : List ℕ) → is_natural text ≡ true → digits_value text < 10 ^ 9
 natural_below text is =
@@ -66,7 +55,7 @@ decimal_natural n small =
     let few : length (decimal n) ≤ 9 = length-decimal-le 9 n (omega arith) (omega (arith, small)) (omega (arith, small)) in
     let some : 0 < length (decimal n) = decimal_nonempty n (omega (arith, small)) in
     let all : list_all is_ascii_digit (decimal n) ≡ true = digits_decimal model n (omega (arith, small)) in
-    all_three (nat_lt 0 (length (decimal n))) (nat_le (length (decimal n)) 9) (list_all is_ascii_digit (decimal n)) (grind (arith, nat_tests)) (grind (arith, nat_tests)) all
+    and_from _ _ (and_from _ _ (lt-ltb _ _ some) (le-leb _ _ few)) all
 
 pub natural_back : (n : ℕ) → IsTrackingNumber n → natural (decimal n) ≡ Some n
 natural_back n h =

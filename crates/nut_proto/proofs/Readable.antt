@@ -33,35 +33,27 @@ of_none made is [] = is
 of_none made is (x ∷ xs) = tt
 
 of_one : (made : List ℕ → Request) → ((x : List ℕ) → IsReadable (made x)) → MakesReadable (one made)
-of_one made is [] = tt
 of_one made is (x ∷ []) = is x
-of_one made is (x ∷ y ∷ ys) = tt
+of_one made is _ = tt
 
 of_two : (made : List ℕ → List ℕ → Request) → ((x y : List ℕ) → IsReadable (made x y)) → MakesReadable (two made)
-of_two made is [] = tt
-of_two made is (x ∷ []) = tt
 of_two made is (x ∷ y ∷ []) = is x y
-of_two made is (x ∷ y ∷ z ∷ zs) = tt
+of_two made is _ = tt
 
 of_three : (made : List ℕ → List ℕ → List ℕ → Request) → ((x y z : List ℕ) → IsReadable (made x y z)) → MakesReadable (three made)
-of_three made is [] = tt
-of_three made is (x ∷ []) = tt
-of_three made is (x ∷ y ∷ []) = tt
 of_three made is (x ∷ y ∷ z ∷ []) = is x y z
-of_three made is (x ∷ y ∷ z ∷ w ∷ ws) = tt
+of_three made is _ = tt
 
 of_credential : (made : List ℕ → Request) → ((x : List ℕ) → IsTrue (is_credential x) → IsReadable (made x)) → MakesReadable (credential made)
-of_credential made is [] = tt
 of_credential made is (x ∷ []) = elim (cases_Bool (is_credential x)) [ inl e ↦ (let made_so = is x e in rw e made_so) | inr e ↦ rw e tt ]
-of_credential made is (x ∷ y ∷ ys) = tt
+of_credential made is _ = tt
 
 of_switched : (made : Bool → Request) → ((on : Bool) → IsReadable (made on)) → MakesReadable (switched made)
-of_switched made is [] = tt
 of_switched made is (x ∷ []) = by (switch x) where
   by : (o : Option Bool) → IsMade (option_map (λ on. made on) o)
   by None = tt
   by (Some on) = is on
-of_switched made is (x ∷ y ∷ ys) = tt
+of_switched made is _ = tt
 
 -- ---- numbers
 
@@ -94,12 +86,11 @@ number_within (digit ∷ digits) n is =
     ]
 
 of_number : MakesReadable (numbered (λ n. requests.GetTrackingOf n))
-of_number [] = tt
 of_number (x ∷ []) = by (tracking_number x) (λ n is. number_within x n is) where
   by : (o : Option ℕ) → ((n : ℕ) → o ≡ Some n → IsTrackingNumber n) → IsMade (option_map (λ n. requests.GetTrackingOf n) o)
   by None is = tt
   by (Some n) is = is n refl
-of_number (x ∷ y ∷ ys) = tt
+of_number _ = tt
 
 -- ---- all forms
 
@@ -115,11 +106,8 @@ of_about forms all (word ∷ words) = go forms all where
   go (form ∷ forms) all = elim (cases_Bool (is_named word form.0)) [ inl e ↦ rw e (all.0 words) | inr e ↦ rw e (go forms all.1) ]
 
 of_inst_cmd : MakesReadable inst_cmd
-of_inst_cmd [] = tt
-of_inst_cmd (ups ∷ []) = tt
-of_inst_cmd (ups ∷ command ∷ []) = tt
-of_inst_cmd (ups ∷ command ∷ parameter ∷ []) = tt
 of_inst_cmd (ups ∷ command ∷ parameter ∷ word ∷ words) = tt
+of_inst_cmd _ = tt
 
 of_get_tracking : MakesReadable get_tracking
 of_get_tracking [] = tt

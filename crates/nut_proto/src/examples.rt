@@ -16,6 +16,7 @@ ghost use Rattle.nut_proto.specs.declared.request.ListQuery.TheVariants as queri
 ghost use Rattle.nut_proto.specs.declared.request.Request.TheVariants as requests;
 
 /// States worked examples and does nothing when called: what some lines mean, and how some messages are written.
+#[tactic(auto, unfolding(nut_words::specs::Reader::read, crate::specs::Answers::answer_of, crate::specs::DriverAsks::ask_line, crate::specs::DriverAsks::ask_of, crate::specs::Forms::meaning, crate::specs::Keywords::command_of, crate::specs::Lines::line, crate::specs::Refusals::refusal_name, crate::specs::Replies::reply_line, crate::specs::Requests::begin_line, crate::specs::Requests::end_line, crate::specs::Requests::request_line))]
 pub fn worked_examples()
     // The case of command words doesn't matter; the case of names does.
     ensures mixed_case { meaning (codes "Get" ∷ codes "var" ∷ codes "Su700" ∷ codes "ups.Status" ∷ [])

@@ -2,9 +2,10 @@ use Rattle.std.proofs.Common.{◌≡◌, [], ◌∷◌, ◌++◌, length, refl, 
 use Rattle.std.specs.List.{flat_map}
 use Rattle.std.specs.Result.{OnOk, OnErr}
 use Rattle.std.proofs.lemmas.Result.{on_ok_weaker, on_err_weaker}
+use Rattle.nut_words.proofs.Written.{at_err}
 use Rattle.nut_words.specs.Out.{Fits, Exceeds}
 use Rattle.nut_proto.specs.inside.Written.{line_from}
-use Rattle.nut_proto.proofs.Room.{at_err, begins_with, begins_with_itself, behind, front_kept, no_room_for_line, no_room_for_words, whole_line, words_and_parts}
+use Rattle.nut_proto.proofs.Room.{begins_with, begins_with_itself, behind, front_kept, no_room_for_line, no_room_for_words, whole_line, words_and_parts}
 use Rattle.nut_proto.proofs.line.append_line.Given.{Over}
 use Rattle.nut_proto.proofs.line.append_line.Goals as goal
 

@@ -1,9 +1,10 @@
 use Rattle.std.proofs.Common.{[], ◌∷◌, length, refl, subst, ◌∙◌}
 use Rattle.std.specs.Result.{OnErr}
 use Rattle.std.proofs.lemmas.Result.{on_ok_weaker, on_err_weaker}
+use Rattle.nut_words.proofs.Written.{at_err}
 use Rattle.nut_words.specs.Out.{Exceeds}
 use Rattle.nut_proto.specs.Lines.{part_text}
-use Rattle.nut_proto.proofs.Room.{at_err, begins_with, begins_with_itself, no_room_for_mark, whole}
+use Rattle.nut_proto.proofs.Room.{begins_with, begins_with_itself, no_room_for_mark, whole}
 use Rattle.nut_proto.proofs.part.Part.put_behind.Goals as goal
 
 pub returns-in_err-push-clause-err : goal.returns-in_err-push-clause-err
