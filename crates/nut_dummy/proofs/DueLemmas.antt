@@ -3,6 +3,7 @@ use Rattle.std.proofs.Common.{◌≡◌, ℕ, zero, suc, ◌+◌, ◌*◌, ◌<�
 use Rattle.std.specs.Option.{option_or}
 use Rattle.std.proofs.Math.Nat.{mul-le-mul_left}
 use Rattle.std.proofs.lemmas.Bool.Decides.{nat_tests}
+use Rattle.std.proofs.lemmas.Bool.{and_from, and_left, and_right, cases_lt, ne_eqb}
 use Rattle.nut_dummy.specs.Script.{Step}
 use Rattle.nut_dummy.specs.Due.{is_due, newest, newest_up_to, latest}
 
@@ -29,41 +30,23 @@ newest_same test steps step fails = newest_more test steps step ∙ ap (λ b. op
 pub newest_new : (test : Step → Bool) (steps : List Step) (step : Step) → test step ≡ true → newest test (steps ++ step ∷ []) ≡ Some step.value
 newest_new test steps step passes = newest_more test steps step ∙ ap (λ b. option_or (cond b (Some step.value) None) (newest test steps)) passes
 
-both : (a b : Bool) → a ≡ true → b ≡ true → (a && b) ≡ true
-both true true p q = refl
-both true false p q = q
-both false b p q = p
-
-not_left : (a b : Bool) → a ≡ false → (a && b) ≡ false
-not_left true b p = absurd (cc)
-not_left false b p = refl
-
-not_right : (a b : Bool) → b ≡ false → (a && b) ≡ false
-not_right true b p = p
-not_right false b p = refl
-
 module _ (round after until : ℕ) where
   pub due : (k : ℕ) (step : Step) → after < step.at + k * round → step.at + k * round ≤ until → is_due round after until k step ≡ true
   due k step p q =
       let a : nat_lt after (step.at + k * round) ≡ true = grind (arith, nat_tests) in
       let b : nat_le (step.at + k * round) until ≡ true = grind (arith, nat_tests) in
-      both _ _ a b
+      and_from _ _ a b
 
   pub not_due : (k : ℕ) (step : Step) → (step.at + k * round ≤ until → step.at + k * round ≤ after) → is_due round after until k step ≡ false
-  not_due k step h = by_time (split until (step.at + k * round)) where
-    split : (a b : ℕ) → (b ≤ a) ⊎ (a < b)
-    split a b = elim (cases_le a b) [ inl h ↦ inl h | inr h ↦ inr h ] where
-      cases_le : (a b : ℕ) → (b ≤ a) ⊎ (a < b)
-      cases_le a b = grind arith
-
-    by_time : (step.at + k * round ≤ until) ⊎ (until < step.at + k * round) → is_due round after until k step ≡ false
-    by_time (inl in_time) =
+  not_due k step h = by_time (cases_lt until (step.at + k * round)) where
+    by_time : (until < step.at + k * round) ⊎ (step.at + k * round ≤ until) → is_due round after until k step ≡ false
+    by_time (inr in_time) =
         let early : step.at + k * round ≤ after = h in_time in
         let a : nat_lt after (step.at + k * round) ≡ false = grind (arith, nat_tests) in
-        not_left _ _ a
-    by_time (inr late) =
+        and_left _ _ a
+    by_time (inl late) =
         let b : nat_le (step.at + k * round) until ≡ false = grind (arith, nat_tests) in
-        not_right (nat_lt after (step.at + k * round)) _ b
+        and_right (nat_lt after (step.at + k * round)) _ b
 
   module _ (steps : List Step) where
     -- if none is due in any round, there is none
@@ -90,9 +73,6 @@ pub no_round : (round after until : ℕ) (steps : List Step) → round ≡ 0 →
 unfolding latest
 no_round round after until steps is = rw is refl
 
-some_round : (round : ℕ) → 0 < round → eqb round 0 ≡ false
-some_round round h = grind (arith, nat_tests)
-
 -- what is known after some steps: the best so far is the newest of its round, and no later round has one
 abbrev pub Known : (round after until : ℕ) (steps : List Step) → ℕ → Option (List ℕ) → Type 0
 Known round after until steps b best =
@@ -103,9 +83,9 @@ pub latest_known : (round after until : ℕ) (steps : List Step) (b : ℕ) (best
     → best ≡ latest round after until steps
 unfolding latest
 latest_known round after until steps b (Some value) h (is, later, reached, only) =
-    rw (some_round round h) (sym (last_up_to round after until steps until b value reached is later))
+    rw (ne_eqb round 0 (λ none. omega (arith, none))) (sym (last_up_to round after until steps until b value reached is later))
 latest_known round after until steps b None h (is, later, reached, only) =
-    rw (some_round round h) (sym (none_up_to round after until steps until (λ k. by_round k (cases k b)))) where
+    rw (ne_eqb round 0 (λ none. omega (arith, none))) (sym (none_up_to round after until steps until (λ k. by_round k (cases k b)))) where
       cases : (k b : ℕ) → (k ≡ 0) ⊎ (0 < k)
       cases k b = grind arith
 

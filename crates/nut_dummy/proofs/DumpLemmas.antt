@@ -3,17 +3,20 @@ use Rattle.std.proofs.Common.{◌≡◌, ℕ, ◌+◌, ◌*◌, ◌≤◌, ◌&&
 use Rattle.std.specs.List.{AllByRecursion, concat, flat_map, list_all}
 use Rattle.std.specs.Option.{option_map_or}
 use Rattle.std.proofs.lemmas.Bool.Decides.{nat_tests}
-use Rattle.std.proofs.lemmas.List.{append-nil, map-append}
+use Rattle.std.proofs.lemmas.List.{append-nil, map-append, nil_from_length}
+use Rattle.std.proofs.lemmas.Bool.{and_parts, leb-true, cond_both}
 use Rattle.nut_words.specs.Lines.{LineText, Text, as_line, lines, lines_after, rest, rest_after}
 use Rattle.nut_words.specs.Name.{is_name_byte}
 use Rattle.nut_words.specs.Quoting.{IsPrintable, escaped, quoted, stands_bare, word_text}
 use Rattle.nut_words.specs.Spelling.{is_printing}
 use Rattle.nut_words.proofs.StreamGrowth.{lines-append, rest-append}
-use Rattle.nut_words.proofs.WrittenLine.{line_printable, lines_of_printable, quoted_printable, rest_of_printable}
+use Rattle.nut_words.proofs.PlainLemmas.{all_printable}
+use Rattle.nut_words.proofs.WrittenLine.{all-append, line_printable, lines_of_printable, quoted_printable, rest_of_printable}
 use Rattle.nut_words.specs.declared.limits.TheConstants.{LINE_MAX, NAME_MAX, VALUE_MAX}
 use Rattle.nut_proto.specs.declared.driver_ask.DriverAsk.{DriverAsk}
 use Rattle.nut_proto.specs.declared.driver_ask.DriverAsk.TheVariants as asks
 use Rattle.nut_proto.specs.Lines.{line, message}
+use Rattle.nut_proto.proofs.Lengths.{length-quoted}
 use Rattle.nut_state.specs.Change.{Change, set_info}
 use Rattle.nut_state.specs.Step.{after, applied}
 use Rattle.nut_state.specs.Table.{Table, empty}
@@ -31,7 +34,7 @@ use Rattle.nut_dummy.specs.Telling.{Message, text, value_message, limits, limits
 use Rattle.nut_dummy.specs.Writable.{writable_of}
 use Rattle.nut_dummy.proofs.FilledLemmas.{followed, limiting, writable_named, changes_of, closing_changes, dump_fills}
 use Rattle.nut_dummy.proofs.HeardLemmas.{told_lines_are_heard}
-use Rattle.nut_dummy.proofs.LimitLemmas.{IsSound, IsValued, AreSound, and_left, and_right, driver_sound, heard_all_sound, answered_sound}
+use Rattle.nut_dummy.proofs.LimitLemmas.{IsSound, IsValued, AreSound, driver_sound, heard_all_sound, answered_sound}
 use Rattle.nut_dummy.proofs.TextLemmas.{text_nil, text_cons, text_append}
 
 -- ---- in pieces
@@ -93,68 +96,32 @@ one_line m printable short =
 
 -- ---- the line of a value
 
-printable_more : (xs ys : List ℕ) → IsPrintable xs → IsPrintable ys → IsPrintable (xs ++ ys)
-printable_more [] ys h k = k
-printable_more (x ∷ xs) ys h k = (h.0, printable_more xs ys h.1 k)
-
-name_byte_printing : (c : ℕ) → is_name_byte c ≡ true → is_printing c ≡ true
-name_byte_printing c h = grind (arith, nat_tests)
-
-name_bytes_printable : (name : List ℕ) → list_all is_name_byte name ≡ true → IsPrintable name
-name_bytes_printable [] h = tt
-name_bytes_printable (c ∷ cs) h = (name_byte_printing c (and_left _ _ h), name_bytes_printable cs (and_right (is_name_byte c) _ h))
-
-bytes_printable : (value : List ℕ) → list_all is_printing value ≡ true → IsPrintable value
-bytes_printable [] h = tt
-bytes_printable (c ∷ cs) h = (and_left _ _ h, bytes_printable cs (and_right (is_printing c) _ h))
-
 module _ (name value : List ℕ) (named_so : is_name name ≡ true) (valued : is_value value ≡ true) where
   name_printable : IsPrintable name
-  name_printable = name_bytes_printable name (and_right (nat_le 1 (length name) && nat_le (length name) NAME_MAX) (list_all is_name_byte name) named_so)
+  name_printable = all_printable is_name_byte (λ c is. grind (arith, nat_tests)) name (and_parts (nat_le 1 (length name) && nat_le (length name) NAME_MAX) (list_all is_name_byte name) named_so).1
 
   value_printable : IsPrintable value
-  value_printable = bytes_printable value (and_right (nat_le (length value) VALUE_MAX) (list_all is_printing value) valued)
+  value_printable = all_printable is_printing (λ c is. is) value (and_parts (nat_le (length value) VALUE_MAX) (list_all is_printing value) valued).1
 
   message_printable : IsPrintable (message (value_message name value))
   message_printable =
-      printable_more (codes "SETINFO ") _ (refl, (refl, (refl, (refl, (refl, (refl, (refl, (refl, tt))))))))
-      (printable_more (word_text name) _ (line_printable (name ∷ []) (name_printable, tt)) (refl, printable_more (quoted value) [] (quoted_printable value value_printable) tt))
-
-length-escape : (b : Bool) (c : ℕ) → length (cond b (92 ∷ c ∷ []) (c ∷ [])) ≤ 2
-length-escape true c = omega arith
-length-escape false c = omega arith
-
-length-escaped : (t : List ℕ) → length (flat_map escaped t) ≤ 2 * length t
-length-escaped [] = omega arith
-length-escaped (c ∷ cs) =
-    omega (arith, length-append (escaped c) (flat_map escaped cs), length-escape (c == 34 || c == 92 || c == 35) c, length-escaped cs)
-
-length-quoted : (t : List ℕ) → length (quoted t) ≤ 2 * length t + 2
-length-quoted t = omega (arith, length-append (flat_map escaped t) (34 ∷ []), length-escaped t)
+      all-append (codes "SETINFO ") _ (refl, (refl, (refl, (refl, (refl, (refl, (refl, (refl, tt))))))))
+      (all-append (word_text name) _ (line_printable (name ∷ []) (name_printable, tt)) (refl, all-append (quoted value) [] (quoted_printable value value_printable) tt))
 
 length-word : (t : List ℕ) → length (word_text t) ≤ 2 * length t + 2
-length-word t = by (stands_bare t) where
-  by : (b : Bool) → length (cond b t (quoted t)) ≤ 2 * length t + 2
-  by true = omega arith
-  by false = length-quoted t
-
-at_most : (a b : ℕ) → nat_le a b ≡ true → a ≤ b
-at_most a b h = grind (arith, nat_tests)
+length-word t = cond_both (stands_bare t) t (quoted t) (λ u. length u ≤ 2 * length t + 2) (λ _. omega arith) (λ _. length-quoted t)
 
 value_line : (name value : List ℕ) → is_name name ≡ true → is_value value ≡ true → AreLines (value_message name value ∷ [])
 value_line name value named_so valued =
-    let some_name : length name ≤ NAME_MAX = at_most _ _ (and_right (nat_le 1 (length name)) (nat_le (length name) NAME_MAX) (and_left _ _ named_so)) in
-    let some_value : length value ≤ VALUE_MAX = at_most _ _ (and_left _ _ valued) in
+    let some_name : length name ≤ NAME_MAX = leb-true _ _ (and_parts (nat_le 1 (length name)) (nat_le (length name) NAME_MAX) ((and_parts _ _ named_so).0)).1 in
+    let some_value : length value ≤ VALUE_MAX = leb-true _ _ (and_parts _ _ valued).0 in
     one_line (value_message name value) (message_printable name value named_so valued)
     (omega (arith, length-append (word_text name) (32 ∷ (quoted value ++ [])), length-append (quoted value) [], length-word name, length-quoted value))
 
 limits_lines : (w : Writable) → AreLines (limits_of w)
 unfolding text line
 limits_lines ChargeLow = (refl, refl)
-limits_lines RuntimeLow = (refl, refl)
-limits_lines Sensitivity = (refl, refl)
-limits_lines ShutdownDelay = (refl, refl)
-limits_lines Id = (refl, refl)
+limits_lines _ = (refl, refl)
 
 closing_lines : AreLines closing_messages
 unfolding text line
@@ -172,12 +139,11 @@ more_heard ms ns cs ds h k =
 table_follows : (ms : List Message) (changes : List Change) (t : Table) → AreHeard ms changes → table_after (map (λ m. Text (message m)) ms) t ≡ followed changes t
 unfolding applied
 table_follows [] [] t is = refl
-table_follows [] (change ∷ changes) t is = cc
-table_follows (m ∷ ms) [] t is = cc
 table_follows (m ∷ ms) (change ∷ changes) t is =
     let first : heard_in m ≡ Some change = cc in
     let later : AreHeard ms changes = cc in
     ap (λ o. table_after (map (λ m. Text (message m)) ms) (option_map_or (after t) o t)) first ∙ table_follows ms changes (after t change) later
+table_follows _ _ t is = cc
 
 -- ---- a variable in a dump
 
@@ -260,15 +226,11 @@ dump_is_the_table kind script_text script start h before line reads is =
 
 -- ---- at a call
 
-nothing_waits : (waits : List ℕ) → length waits ≤ 0 → waits ≡ []
-nothing_waits [] h = refl
-nothing_waits (c ∷ waits) h = absurd (omega arith)
-
 pub dumps_where_asked : (piece : List ℕ) (old new : Content) → length (waits_of old) ≤ 0 → new ≡ told_bytes piece old → DumpsWhereAsked piece old new
 dumps_where_asked piece old new none is kind script_text script start h line reads was brings asks_it =
     let sound : AreSound old.teller.variables = subst (λ (s : Content). AreSound s.teller.variables) (sym was) (driver_sound kind script_text script start h reads) in
     let owes : OwesDump old.teller (heard line old.teller) = line_owes old.teller line asks_it sound in
     let now : new.teller ≡ heard line old.teller = ap (λ (s : Content). s.teller) is ∙ ap (λ ls. heard_all ls old.teller) brings in
     let alone : owes.0 ≡ waits_of new =
-    ap (λ w. w ++ owes.0) (sym (nothing_waits (waits_of old) none)) ∙ sym owes.1 ∙ ap (λ (t : Teller). t.waits) (sym now) in
+    ap (λ w. w ++ owes.0) (sym (nil_from_length (waits_of old) (omega (arith, none)))) ∙ sym owes.1 ∙ ap (λ (t : Teller). t.waits) (sym now) in
     subst (λ (t : Teller). IsDump t.variables (waits_of new)) (sym now) (subst (IsDump (heard line old.teller).variables) alone owes.2)

@@ -8,6 +8,7 @@ use Rattle.std.specs.declared.cmp.Ordering.TheVariants.{Less}
 use Rattle.std.proofs.lemmas.Bool.Decides.{nat_tests}
 use Rattle.std.proofs.lemmas.List.{append-nil}
 use Rattle.std.proofs.lemmas.Slice.Eq.{bytes_eq-Decides}
+use Rattle.std.proofs.lemmas.Bool.{and_parts}
 use Rattle.nut_words.specs.declared.limits.TheConstants.{VALUE_MAX}
 use Rattle.nut_state.specs.declared.limits.TheConstants.{VARIABLES_MAX}
 use Rattle.nut_state.specs.declared.number.Range.{Range}
@@ -26,7 +27,7 @@ use Rattle.nut_dummy.specs.Heard.{attribute_changes}
 use Rattle.nut_dummy.specs.Table.{with_attributes, entry, entries, table_of}
 use Rattle.nut_dummy.specs.Teller.{Variable}
 use Rattle.nut_dummy.specs.Writable.{all_writable, attributes, name_of, attributes_of, number_up_to, text_of, writable_of}
-use Rattle.nut_dummy.proofs.LimitLemmas.{AreSound, IsSound, IsValued, and_left}
+use Rattle.nut_dummy.proofs.LimitLemmas.{AreSound, IsSound, IsValued}
 
 -- ---- a list with one more behind it
 
@@ -174,7 +175,7 @@ variable_last : (name : List ℕ) (value : Option (List ℕ)) (xs : List Entry) 
     → followed (changes_of name value) (filled xs) ≡ filled (xs ++ entries name value)
 variable_last name None xs named_so valued room low = ap filled (sym (append-nil xs))
 variable_last name (Some value) xs named_so valued room low =
-    let short : nat_le (length value) VALUE_MAX ≡ true = and_left _ _ valued in
+    let short : nat_le (length value) VALUE_MAX ≡ true = (and_parts _ _ valued).0 in
     let few : nat_lt (length xs) VARIABLES_MAX ≡ true = grind (arith, nat_tests) in
     ap (followed (limiting name (writable_of name))) (set_last name xs low value named_so short few) ∙ limiting_last name value xs low
 

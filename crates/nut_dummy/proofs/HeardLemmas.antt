@@ -38,10 +38,7 @@ value_heard name value n v = by_words (value_message name value) ((refl, (refl, 
 limits_heard : (w : Writable) → map heard_in (limits_of w) ≡ map (λ change. Some change) (attribute_changes (name_of w) (attributes w))
 unfolding heard asked verb_of read
 limits_heard ChargeLow = refl
-limits_heard RuntimeLow = refl
-limits_heard Sensitivity = refl
-limits_heard ShutdownDelay = refl
-limits_heard Id = refl
+limits_heard _ = refl
 
 closing_heard : map heard_in closing_messages ≡ map (λ change. Some change) (map (λ c. add_command (command_name c)) all_commands ++ data_ok ∷ dump_done ∷ [])
 unfolding heard asked verb_of read

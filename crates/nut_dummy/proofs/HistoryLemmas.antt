@@ -106,10 +106,7 @@ module _ (ts : List Timeline) where
 
 -- bytes that were taken had to wait
 taken_waits : (n : ℕ) (s : Content) → took_refusal n s ≡ None → n ≤ length s.teller.waits
-taken_waits n s h = by (nat_lt (length s.teller.waits) n) refl h where
-  by : (b : Bool) → nat_lt (length s.teller.waits) n ≡ b → cond b (Some faults.TooMuchTaken) None ≡ None → n ≤ length s.teller.waits
-  by true is h = absurd (cc)
-  by false is h = grind (arith, nat_tests)
+taken_waits n s h = grind (arith, nat_tests)
 
 -- bytes are heard only if there is a link
 heard_linked : (piece : List ℕ) (s : Content) → bytes_refusal piece s ≡ None → s.linked ≡ true

@@ -7,6 +7,7 @@ use Rattle.std.specs.Str.{bytes_eq}
 use Rattle.std.proofs.lemmas.Bool.Decides.{nat_tests}
 use Rattle.std.proofs.lemmas.List.{length-map}
 use Rattle.std.proofs.lemmas.List.Elements.{All-nil, All-cons, recursion_from_All}
+use Rattle.std.proofs.lemmas.Bool.{and_parts, cond_both}
 use Rattle.nut_words.specs.declared.words.WordFault.{WordFault}
 use Rattle.nut_words.specs.Lines.{LineText}
 use Rattle.nut_words.specs.Name.{is_name_byte}
@@ -38,14 +39,6 @@ use Rattle.nut_dummy.specs.Teller.{Change, Passing, Assigning, Doing, Teller, Va
 use Rattle.nut_dummy.specs.Writable.{attributes, fits, may_be, writable_of}
 
 -- ---- tests
-
-pub and_left : (a b : Bool) → (a && b) ≡ true → a ≡ true
-and_left true b h = refl
-and_left false b h = h
-
-pub and_right : (a b : Bool) → (a && b) ≡ true → b ≡ true
-and_right true b h = h
-and_right false b h = cc
 
 -- a test that refuses, before a result and behind it
 module _ {X E : Type 0} where
@@ -92,10 +85,7 @@ no_timer_setting kind (Some seconds) name value h = no_setting_in kind seconds n
 
 no_timed_setting : (kind : ScriptKind) (words : Result (List (List ℕ)) WordFault) (name value : List ℕ) → timed kind words ≡ Ok (Setting name value) → ⊥
 no_timed_setting kind (Ok (first ∷ second ∷ [])) name value h = no_timer_setting kind (natural second) name value (before _ _ _ _ h).1
-no_timed_setting kind (Ok []) name value h = cc
-no_timed_setting kind (Ok (first ∷ [])) name value h = cc
-no_timed_setting kind (Ok (first ∷ second ∷ third ∷ more)) name value h = cc
-no_timed_setting kind (Err fault) name value h = cc
+no_timed_setting kind _ name value h = cc
 
 parted_good : (kind : ScriptKind) (line : List ℕ) (at : Option ℕ) (name value : List ℕ) → parted kind line at ≡ Ok (Setting name value) → IsSetting name value
 parted_good kind line None name value h = absurd (no_timed_setting kind (spelled line) name value h)
@@ -165,7 +155,7 @@ taken_in_good s more (Ok (Setting name value)) proper is h =
     let own = proper name value refl in
     subst IsGoodScript same (record {
       good = with_step_good name (record { at = s.round; value = value }) s.variables own.0 own.1 h.good;
-      few = room_for name (record { name = name; steps = steps_of (timeline name s.variables) ++ (record { at = s.round; value = value }) ∷ [] }) s.variables SCRIPT_VARIABLES_MAX (and_right _ _ fits.0) h.few;
+      few = room_for name (record { name = name; steps = steps_of (timeline name s.variables) ++ (record { at = s.round; value = value }) ∷ [] }) s.variables SCRIPT_VARIABLES_MAX (and_parts _ _ fits.0).1 h.few;
     })
 
 with_line_good : (kind : ScriptKind) (s more : Script) (line : List ℕ) → with_line kind s line ≡ Ok more → IsGoodScript s → IsGoodScript more
@@ -194,16 +184,13 @@ script_good kind text script is =
 -- ---- the variables that commands set
 
 declared_good : (name : List ℕ) (variables : List Timeline) → is_name name ≡ true → AreGood variables → AreGood (declared name variables)
-declared_good name variables named_so h = by (is_some (timeline name variables)) where
-  by : (b : Bool) → AreGood (cond b variables (put name_of name (Some (record { name = name; steps = [] })) variables))
-  by true = h
-  by false = put_good (record { name = name; steps = [] }) variables (named_so, tt) h
+declared_good name variables named_so h =
+    cond_both (is_some (timeline name variables)) _ _ AreGood (λ _. h) (λ _. put_good (record { name = name; steps = [] }) variables (named_so, tt) h)
 
 declared_few : (name : List ℕ) (variables : List Timeline) → length (declared name variables) ≤ length variables + 1
-declared_few name variables = by (is_some (timeline name variables)) where
-  by : (b : Bool) → length (cond b variables (put name_of name (Some (record { name = name; steps = [] })) variables)) ≤ length variables + 1
-  by true = omega arith
-  by false = length-put name_of name (Some (record { name = name; steps = [] })) variables
+declared_few name variables =
+    cond_both (is_some (timeline name variables)) _ _ (λ more. length more ≤ length variables + 1)
+    (λ _. omega arith) (λ _. length-put name_of name (Some (record { name = name; steps = [] })) variables)
 
 all_declared_good : (names : List (List ℕ)) (variables : List Timeline) → AllByRecursion (λ name. is_name name ≡ true) names → AreGood variables
     → AreGood (all_declared names variables) × (length (all_declared names variables) ≤ length variables + length names)
@@ -234,10 +221,8 @@ or_valued (Some x) b h k = h
 
 newest_valued : (test : Step → Bool) (steps : List Step) → AreValues steps → IsValued (newest test steps)
 newest_valued test [] h = tt
-newest_valued test (step ∷ steps) h = or_valued (newest test steps) _ (newest_valued test steps h.1) (by (test step)) where
-  by : (b : Bool) → IsValued (cond b (Some step.value) None)
-  by true = h.0
-  by false = tt
+newest_valued test (step ∷ steps) h =
+    or_valued (newest test steps) _ (newest_valued test steps h.1) (cond_both (test step) (Some step.value) None IsValued (λ _. h.0) (λ _. tt))
 
 newest_up_to_valued : (round after until : ℕ) (steps : List Step) (k : ℕ) → AreValues steps → IsValued (newest_up_to round after until steps k)
 newest_up_to_valued round after until steps zero h = newest_valued (is_due round after until 0) steps h
@@ -246,34 +231,27 @@ newest_up_to_valued round after until steps (suc k) h =
 
 latest_valued : (round after until : ℕ) (steps : List Step) → AreValues steps → IsValued (latest round after until steps)
 unfolding latest
-latest_valued round after until steps h = by (round == 0) where
-  by : (b : Bool) → IsValued (cond b None (newest_up_to round after until steps until))
-  by true = tt
-  by false = newest_up_to_valued round after until steps until h
+latest_valued round after until steps h =
+    cond_both (round == 0) None (newest_up_to round after until steps until) IsValued (λ _. tt) (λ _. newest_up_to_valued round after until steps until h)
 
 may_be_valued : (name value : List ℕ) → may_be name value ≡ true → is_value value ≡ true
 may_be_valued name value h = by (writable_of name) h where
   by : (w : Option Writable) → option_map_or (λ w. fits (attributes w) value) w false ≡ true → is_value value ≡ true
   by None h = cc
-  by (Some w) h = and_left _ _ h
+  by (Some w) h = (and_parts _ _ h).0
 
 -- a change that sets a value
 abbrev IsProper : Change → Type 0
-IsProper (Passing round after until) = Unit {0}
-IsProper (Assigning name value) = Unit {0}
 IsProper (Doing name value) = is_value value ≡ true
+IsProper _ = Unit {0}
 
 after_valued : (change : Change) (own : List ℕ) (steps : List Step) (before : Option (List ℕ)) → IsProper change → AreValues steps → IsValued before
     → IsValued (value_after change own steps before)
 after_valued (Passing round after until) own steps before proper h k = or_valued (latest round after until steps) before (latest_valued round after until steps h) k
-after_valued (Assigning name value) own steps before proper h k = by (is_assigned name value own before) refl where
-  by : (b : Bool) → is_assigned name value own before ≡ b → IsValued (cond b (Some value) before)
-  by true is = may_be_valued own value (and_right (bytes_eq own name && is_some before) (may_be own value) is)
-  by false is = k
-after_valued (Doing name value) own steps before proper h k = by (bytes_eq own name) where
-  by : (b : Bool) → IsValued (cond b (Some value) before)
-  by true = proper
-  by false = k
+after_valued (Assigning name value) own steps before proper h k =
+    cond_both (is_assigned name value own before) (Some value) before IsValued
+    (λ is. may_be_valued own value (and_parts (bytes_eq own name && is_some before) (may_be own value) is).1) (λ _. k)
+after_valued (Doing name value) own steps before proper h k = cond_both (bytes_eq own name) (Some value) before IsValued (λ _. proper) (λ _. k)
 
 -- a function on variables that changes neither names nor soundness
 module _ (f : Variable → Variable) (same_name : (v : Variable) → (f v).name ≡ v.name) (same : (v : Variable) → IsSound v → IsSound (f v)) where
@@ -298,24 +276,17 @@ changed_sound number change t proper h =
 
 proper_command : (c : Command) → is_value (value_set c) ≡ true
 proper_command BeeperDisable = refl
-proper_command BeeperEnable = refl
-proper_command LoadOff = refl
-proper_command LoadOn = refl
-proper_command BatteryTestStart = refl
-proper_command BatteryTestStop = refl
-proper_command FailureStart = refl
-proper_command FailureStop = refl
+proper_command _ = refl
 
 commanded_sound : (number : Option ℕ) (command : Option Command) (t : Teller) → AreSound t.variables → AreSound (commanded number command t).variables
 commanded_sound number None t h = h
 commanded_sound number (Some c) t h = changed_sound number (Doing (variable_set c) (value_set c)) t (proper_command c) h
 
 pub answered_sound : (ask : Option DriverAsk) (t : Teller) → AreSound t.variables → AreSound (answered ask t).variables
-answered_sound None t h = h
-answered_sound (Some asks.Ping) t h = h
 answered_sound (Some asks.DumpAll) t h = kept dumped (λ v. refl) (λ v s. s) t.variables h
 answered_sound (Some (asks.Set name value number)) t h = changed_sound number (Assigning name value) t tt h
 answered_sound (Some (asks.InstCmd name parameter number)) t h = commanded_sound number (command_of name) t h
+answered_sound _ t h = h
 
 pub heard_all_sound : (lines : List LineText) (t : Teller) → AreSound t.variables → AreSound (heard_all lines t).variables
 heard_all_sound [] t h = h

@@ -46,17 +46,6 @@ longer waits more some =
 
 -- ---- what a result says
 
-pub on_err_map : {U E : Type 0} {A B : Type 0} (r : Result U E) → OnErr r A → (A → B) → OnErr r B
-on_err_map (Ok u) a f = tt
-on_err_map (Err e) a f = f a
-
-pub on_err : {U E : Type 0} {A : Type 0} (r : Result U E) → A → OnErr r A
-on_err (Ok u) a = tt
-on_err (Err e) a = a
-
-pub err_of : {U E : Type 0} (P : E → Type 0) (r : Result U E) (e : E) → r ≡ Err e → IfErr r P → P e
-err_of P r e is holds = subst (λ r. IfErr r P) is holds
-
 -- the element behind others
 seam_at : {A : Type 0} (xs : List A) (x : A) (ys : List A) → slice_get (xs ++ x ∷ ys) (length xs) ≡ Some x
 seam_at [] x ys = refl

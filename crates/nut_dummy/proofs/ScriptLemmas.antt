@@ -64,12 +64,7 @@ module _ (kind : ScriptKind) where
   pub read_lines-fault : (before : Script) (n : ℕ) (k : ScriptFaultKind) (line : List ℕ) (lines : List (List ℕ)) → Fails k (with_line kind before line)
       → IsFaultOf n k (read_lines kind before n (line ∷ lines))
   read_lines-fault before n kinds.Memory line lines h = tt
-  read_lines-fault before n kinds.BadLine line lines h = fault_at before n _ line lines h
-  read_lines-fault before n kinds.BadName line lines h = fault_at before n _ line lines h
-  read_lines-fault before n kinds.BadTimer line lines h = fault_at before n _ line lines h
-  read_lines-fault before n kinds.TimerInDev line lines h = fault_at before n _ line lines h
-  read_lines-fault before n kinds.PastLimit line lines h = fault_at before n _ line lines h
-  read_lines-fault before n kinds.NoTimer line lines h = fault_at before n _ line lines h
+  read_lines-fault before n _ line lines h = fault_at before n _ line lines h
 
   pub read_lines-done : (before : Script) (n : ℕ) → read_lines kind before n [] ≡ whole kind before
   unfolding read_lines

@@ -11,9 +11,8 @@ module _ {A : Type 0} (f : A → A) where
 
   -- the next element is still as it was
   pub swept-next : (n : ℕ) (xs : List A) (d : A) → get_or (swept n xs) n d ≡ get_or xs n d
-  swept-next zero xs d = refl
-  swept-next (suc n) [] d = refl
   swept-next (suc n) (x ∷ xs) d = swept-next n xs d
+  swept-next _ _ d = refl
 
   -- and is changed next
   pub swept-more : (n : ℕ) (xs : List A) (d v : A) → n < length xs → v ≡ f (get_or xs n d) → set (swept n xs) n v ≡ swept (suc n) xs
