@@ -58,9 +58,6 @@ FAULTS = [
     (b'\x80 a"b', "BadByte"),
 ]
 
-# words, and how each is written
-WORDS = [(b"VAR", b"VAR"), (b"a b", b'"a b"'), (b"", b'""'), (b'a"#\\', rb'"a\"\#\\"')]
-
 # lines of the greatest length and of one byte more, empty lines, a line, and an unfinished line; and how they are read
 STREAM = b"a" * LINE_MAX + b"\n" + b"b" * (LINE_MAX + 1) + b"\n\nVER\n\nGE"
 STREAM_LINES = [b"a" * LINE_MAX, None, b"", b"VER", b""]
@@ -97,9 +94,8 @@ class Tests:
         for (line, fault), it in zip(FAULTS, found):
             expect(it.decode(), fault, f"the fault of {line!r}")
 
-    def test_words_are_written(self):
-        found = self.stage.play([("words word", word) for word, _ in WORDS])
-        expect(found, [text for _, text in WORDS], "written words")
+    def test_a_line_is_written(self):
+        expect(self.stage.play([("words line",)]), [rb'VAR "a b" "" "a\"\#\\"%0A'], "a line of words")
 
     def fed(self, pieces):
         """Returns the lines that pieces of a new stream complete, and how much is kept then."""

@@ -4,7 +4,7 @@
 //! words split TEXT     prints the words that this line spells
 //! words feed TEXT      takes a piece of a stream; prints its complete lines and what is kept of the unfinished one
 //! words new            begins a new stream
-//! words word TEXT      prints this word as it is written
+//! words line           prints a line of four words as it is written: `VAR`, `a b`, an empty one, and `a"#\`
 //! ```
 //!
 //! Each word is followed by `|`, each line is in brackets, and a line that is too long is `[!]`.
@@ -12,7 +12,7 @@
 use crate::answer::Answer;
 use crate::stage::Stage;
 use crate::text::{Step, shown};
-use nut_words::{Line, LineCutter, Words, put_word, split};
+use nut_words::{Line, LineCutter, Words, put_line, split};
 use std::alloc::Global;
 
 /// Plays a step on a stream or a line, and writes the answer; `None` if it is no step.
@@ -25,17 +25,17 @@ pub fn play(stage: &mut Stage, step: Step<'_>) -> Option<()> {
             stage.cutter = LineCutter::new();
             out.put("ok");
         }
-        "word" => show_written(stage.alloc, step.bytes, out),
+        "line" => show_written(stage.alloc, out),
         _ => return None,
     }
     Some(())
 }
 
-/// Writes a word in the form in which it is read back.
-fn show_written(alloc: Global, word: &[u8], out: &mut Answer) {
-    let mut text = Vec::new(alloc);
-    match put_word(&mut text, word) {
-        Ok(()) => out.put_bytes(&text),
+/// Writes a line of words.
+fn show_written(alloc: Global, out: &mut Answer) {
+    let mut line = Vec::new(alloc);
+    match put_line(&mut line, &[b"VAR", b"a b", b"", b"a\"#\\"]) {
+        Ok(()) => out.put_bytes(&line),
         Err(_) => out.lack(),
     }
 }
