@@ -1,5 +1,5 @@
 -- A dump is its lines, and leads an empty table to the driver's own.
-use Rattle.std.proofs.Common.{◌≡◌, ℕ, ◌+◌, ◌*◌, ◌≤◌, ◌&&◌, ◌||◌, ◌==◌, Bool, true, false, cond, List, [], ◌∷◌, ◌++◌, Option, Some, None, length, map, nat_le, refl, sym, ap, subst, ◌∙◌, arith, append_assoc, length-append, codes, rules}
+use Rattle.std.proofs.Common.{◌≡◌, ℕ, ◌+◌, ◌*◌, ◌≤◌, ◌&&◌, true, List, [], ◌∷◌, ◌++◌, Option, Some, None, length, map, nat_le, refl, sym, ap, subst, ◌∙◌, arith, append_assoc, length-append, codes, rules}
 use Rattle.std.specs.List.{AllByRecursion, concat, flat_map, list_all}
 use Rattle.std.specs.Option.{option_map_or}
 use Rattle.std.proofs.lemmas.Bool.Decides.{nat_tests}
@@ -7,7 +7,7 @@ use Rattle.std.proofs.lemmas.List.{append-nil, map-append, nil_from_length}
 use Rattle.std.proofs.lemmas.Bool.{and_parts, leb-true, cond_both}
 use Rattle.nut_words.specs.Lines.{LineText, Text, as_line, lines, lines_after, rest, rest_after}
 use Rattle.nut_words.specs.Name.{is_name_byte}
-use Rattle.nut_words.specs.Quoting.{IsPrintable, escaped, quoted, stands_bare, word_text}
+use Rattle.nut_words.specs.Quoting.{IsPrintable, quoted, stands_bare, word_text}
 use Rattle.nut_words.specs.Spelling.{is_printing}
 use Rattle.nut_words.proofs.StreamGrowth.{lines-append, rest-append}
 use Rattle.nut_words.proofs.PlainLemmas.{all_printable}
@@ -22,7 +22,7 @@ use Rattle.nut_state.specs.Step.{after, applied}
 use Rattle.nut_state.specs.Table.{Table, empty}
 use Rattle.nut_state.specs.Text.{is_name}
 use Rattle.nut_dummy.specs.declared.writable.Writable.{Writable}
-use Rattle.nut_dummy.specs.declared.writable.Writable.TheVariants.{ChargeLow, RuntimeLow, Sensitivity, ShutdownDelay, Id}
+use Rattle.nut_dummy.specs.declared.writable.Writable.TheVariants.{ChargeLow}
 use Rattle.nut_dummy.specs.Dummy.{Content, told_bytes, waits_of}
 use Rattle.nut_dummy.specs.Dump.{Listener, table_after, after_piece, after_pieces, LeadTo, dump_messages, IsDump, OwesDump, DumpIsTheTable, DumpsWhereAsked}
 use Rattle.nut_dummy.specs.Heard.{heard_in}

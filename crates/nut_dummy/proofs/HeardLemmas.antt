@@ -19,7 +19,7 @@ use Rattle.nut_proto.proofs.Spelling.{digits_test, message_spelled}
 use Rattle.nut_state.specs.Change.{set_info, add_command, data_ok, dump_done, pong, tracking, asked, heard}
 use Rattle.nut_state.specs.Verb.{verb_of}
 use Rattle.nut_dummy.specs.declared.writable.Writable.{Writable}
-use Rattle.nut_dummy.specs.declared.writable.Writable.TheVariants.{ChargeLow, RuntimeLow, Sensitivity, ShutdownDelay, Id}
+use Rattle.nut_dummy.specs.declared.writable.Writable.TheVariants.{ChargeLow}
 use Rattle.nut_dummy.specs.Command.{command_name, all_commands}
 use Rattle.nut_dummy.specs.Telling.{Message, value_message, limits_of, closing_messages}
 use Rattle.nut_dummy.specs.Writable.{attributes, name_of}

@@ -22,7 +22,7 @@ use Rattle.nut_state.specs.Text.{is_name}
 use Rattle.nut_state.proofs.PutLemmas.{All-put, All-named, ascending-put, length-put, length-put_found}
 use Rattle.nut_state.specs.declared.limits.TheConstants.{VARIABLES_MAX}
 use Rattle.nut_dummy.specs.declared.command.Command.{Command}
-use Rattle.nut_dummy.specs.declared.command.Command.TheVariants.{BeeperDisable, BeeperEnable, LoadOff, LoadOn, BatteryTestStart, BatteryTestStop, FailureStart, FailureStop}
+use Rattle.nut_dummy.specs.declared.command.Command.TheVariants.{BeeperDisable}
 use Rattle.nut_dummy.specs.declared.fault.ScriptFaultKind.{ScriptFaultKind}
 use Rattle.nut_dummy.specs.declared.fault.ScriptFaultKind.TheVariants as kinds
 use Rattle.nut_dummy.specs.declared.item.ScriptKind.{ScriptKind}

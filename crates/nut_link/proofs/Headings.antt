@@ -1,5 +1,5 @@
 -- When words don't begin with a heading.
-use Rattle.std.proofs.Common.{◌≡◌, ℕ, ◌+◌, ◌<◌, ◌&&◌, Bool, true, false, List, [], ◌∷◌, length, drop, get_or, bytes_eq, refl, sym, ap, ap₂, ◌∙◌, arith, not}
+use Rattle.std.proofs.Common.{◌≡◌, ℕ, ◌+◌, ◌<◌, ◌&&◌, false, List, [], ◌∷◌, length, drop, get_or, bytes_eq, refl, sym, ap, ap₂, ◌∙◌, arith}
 use Rattle.std.proofs.lemmas.List.{drop_more}
 use Rattle.std.proofs.lemmas.Bool.{and_right}
 use Rattle.nut_link.specs.Matching.{begins}

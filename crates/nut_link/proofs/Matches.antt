@@ -1,8 +1,6 @@
 -- Which lines match.
-use Rattle.std.proofs.Common.{◌≡◌, ℕ, ◌<◌, ◌||◌, ◌==◌, Bool, true, false, List, [], ◌∷◌, length, bytes_eq, decimal, refl, sym, ap, ◌∙◌, inl, inr, Result, arith}
-use Rattle.std.specs.Prelude.{nat_lt}
+use Rattle.std.proofs.Common.{◌≡◌, ℕ, Bool, true, false, List, [], ◌∷◌, length, bytes_eq, decimal, refl, sym, ap, ◌∙◌, inl, inr, Result}
 use Rattle.std.proofs.lemmas.Bool.{false≢true, eq-eqb, lt-ltb, or_left, or_right}
-use Rattle.std.proofs.lemmas.Bool.Decides.{nat_tests}
 use Rattle.std.proofs.lemmas.List.Folds.{list_any-append}
 use Rattle.std.proofs.lemmas.Slice.Eq.{bytes_eq-Decides}
 use Rattle.std.specs.List.{list_any}
