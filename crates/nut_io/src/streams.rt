@@ -6,7 +6,6 @@ ghost use Rattle.std.specs.Io.{ReadsAtMost};
 ghost use Rattle.std.specs.IoError.{error_kind};
 
 use crate::Piece;
-use nut_words::PIECE_MAX;
 use std::io;
 use std::io::{ErrorKind, Read, Write};
 
@@ -23,20 +22,9 @@ pub fn read_piece<R: Read>(input: &mut R, piece: &mut Piece) -> io::Result<usize
     ensures err { OnErr result (Keeps (R.remaining input.old) (R.remaining input.new)) }
     ensures retried { IfErr result (λ e. error_kind e ≢ ErrorKind.Interrupted) }
 {
-    make_room(piece);
-    let n = read_some(input, piece.as_mut_slice())?;
-    piece.truncate(n);
+    let n = read_some(input, &mut piece.room)?;
+    piece.len = n;
     Ok(n)
-}
-
-/// What a piece is filled up with.
-static FILLING: [u8; PIECE_MAX] = [0; PIECE_MAX];
-
-/// Makes the piece as long as a piece can be. The bytes that it has stay.
-fn make_room(piece: &mut Piece)
-    ensures { length piece.new.items ≡ PIECE_MAX }
-{
-    let _ = piece.try_extend_from_slice(&FILLING[piece.len()..]);
 }
 
 /// Reads once into the room, and returns how many bytes came. A read that is interrupted is tried again.

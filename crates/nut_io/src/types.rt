@@ -1,11 +1,6 @@
 //! What a world answers, whether it is a server's or a monitor's.
 
-use arrayvec::ArrayVec;
-use nut_words::PIECE_MAX;
 use thiserror::Error;
-
-/// The bytes of one arrival: at most [`PIECE_MAX`].
-pub type Piece = ArrayVec<u8, PIECE_MAX>;
 
 /// The outcome of a write.
 #[derive(Clone, Copy, PartialEq, Eq)]

@@ -1,9 +1,7 @@
 -- What the lines of plain queries mean.
-use Rattle.std.proofs.Common.{◌≡◌, ℕ, ◌+◌, ◌-◌, ◌≤◌, Bool, true, false, List, [], ◌∷◌, ◌++◌, Ok, length, take, drop, codes, refl, sym, ap, subst, ◌∙◌, append_assoc, length-append, arith}
-use Rattle.std.specs.Prelude.{not}
-use Rattle.std.specs.List.{IsSplitAt}
+use Rattle.std.proofs.Common.{◌≡◌, ℕ, ◌+◌, ◌-◌, ◌≤◌, true, false, List, [], ◌∷◌, ◌++◌, Ok, length, take, drop, codes, Option, Some, None, Bor, refl, sym, ap, subst, ◌∙◌, append_assoc, length-append, arith}
+use Rattle.std.specs.Prelude.{IfSome, MatchOption}
 use Rattle.std.specs.Str.{bytes_eq}
-use Rattle.std.proofs.lemmas.Bool.{not-false}
 use Rattle.std.proofs.Math.Seq.{take-append_seam}
 use Rattle.std.proofs.lemmas.List.{append-nil, take-append-drop}
 use Rattle.std.proofs.lemmas.Slice.Eq.{bytes_eq-Decides}
@@ -25,10 +23,14 @@ use Rattle.nut_proto.proofs.RoundTrip.{requests_are_read}
 -- ---- what a line begins with
 
 -- What comes behind the words that a piece begins with.
-pub begins_with : (piece words front rest : List ℕ) {unlike : Bool} → IsSplitAt piece (length words) front rest → unlike ≡ not (bytes_eq front words) → unlike ≡ false → piece ≡ words ++ rest
-begins_with piece words front rest {unlike} split is alike =
-    let same : front ≡ words = (bytes_eq-Decides front words).0 (not-false _ (sym is ∙ alike)) in
-    sym (ap (λ w. w ++ rest) (sym same) ∙ ap (λ f. f ++ rest) split.1 ∙ ap (λ r. take (length words) piece ++ r) split.2 ∙ take-append-drop (length words) piece)
+pub begins_with : (piece words : List ℕ) (found : Option (Bor (List ℕ)))
+    → MatchOption found (bytes_eq (take (length words) piece) words ≡ false)
+    (λ rest. (bytes_eq (take (length words) piece) words ≡ true) × (rest.now ≡ drop (length words) piece) × (length rest.now + length words ≡ length piece))
+    → IfSome found (λ rest. piece ≡ words ++ rest.now)
+begins_with piece words None cases = tt
+begins_with piece words (Some rest) cases =
+    sym (take-append-drop (length words) piece) ∙ ap (λ front. front ++ drop (length words) piece) ((bytes_eq-Decides (take (length words) piece) words).0 cases.0)
+    ∙ ap (λ r. words ++ r) (sym cases.1)
 
 -- what the answer to GET VAR begins with
 pub get_var_front : (ups piece names rest : List ℕ) → piece ≡ codes "GET VAR " ++ names → names ≡ ups ++ 32 ∷ rest → stands_bare ups ≡ true

@@ -44,11 +44,7 @@ impl<'a> PlainQuery<'a> {
 fn behind<'a>(piece: &'a [u8], words: &[u8]) -> Option<&'a [u8]>
     ensures { IfSome result (λ rest. piece.now ≡ words.now ++ rest.now) }
 {
-    let (front, rest) = piece.split_at_checked(words.len())?;
-    if front != words {
-        return None;
-    }
-    Some(rest)
+    piece.strip_prefix(words)
 }
 
 /// Returns the query that the first line of a piece is, and the bytes behind that line, if the line is plain: the words of the

@@ -1,16 +1,19 @@
 -- Rows that end in a text that is kept with their variable.
-use Rattle.std.proofs.Common.{◌≡◌, ℕ, Bool, false, List, [], ◌∷◌, ◌++◌, Option, Some, codes, refl, sym, ap, ◌∙◌, append_assoc}
+use Rattle.std.proofs.Common.{◌≡◌, ℕ, Bool, false, List, [], ◌∷◌, ◌++◌, Option, Some, codes, flat_map, map, refl, sym, ap, ◌∙◌, append_assoc}
 use Rattle.std.specs.Prelude.{◌&&◌}
 use Rattle.std.specs.Str.{bytes_eq}
 use Rattle.std.proofs.lemmas.List.{append-nil}
+use Rattle.std.proofs.lemmas.List.Folds.{flat_map-map}
 use Rattle.nut_words.specs.Quoting.{quoted, word_text}
 use Rattle.nut_state.specs.Row.{row_end}
 use Rattle.nut_state.specs.Table.{Entry, variable}
 use Rattle.nut_proto.specs.declared.refusal.Refusal.TheVariants as refusals
 use Rattle.nut_proto.specs.declared.reply.Reply.TheVariants as replies
+use Rattle.nut_proto.specs.declared.request.ListQuery.TheVariants as queries
 use Rattle.nut_proto.specs.Lines.{line}
 use Rattle.nut_proto.specs.Replies.{reply_line}
-use Rattle.nut_server_spec.specs.Answer.{Line, described, on_variable, require, rw_row, shown, text_of, var_row}
+use Rattle.nut_proto.specs.Requests.{begin_line, end_line}
+use Rattle.nut_server_spec.specs.Answer.{Line, Listing, described, on_variable, require, rw_row, shown, text_of, var_row}
 use Rattle.nut_server_spec.specs.Configuration.{Ups}
 use Rattle.nut_server_spec.specs.Device.{Device}
 use Rattle.nut_server.specs.inside.Rows.{row_front}
@@ -72,3 +75,25 @@ kept_told ups name d v end is plain ends =
 
 pub not_forced : (result forced : Bool) → result ≡ false → result ≡ forced → false ≡ forced
 not_forced result forced is same = sym is ∙ same
+
+-- ---- a list
+
+begin_text : (ups : List ℕ) → begin_line (queries.Var ups) ≡ codes "BEGIN LIST VAR " ++ (word_text ups ++ 10 ∷ [])
+unfolding begin_line line
+begin_text ups = ap (λ bytes. codes "BEGIN LIST VAR " ++ (bytes ++ 10 ∷ [])) (append-nil (word_text ups))
+
+end_text : (ups : List ℕ) → end_line (queries.Var ups) ≡ codes "END LIST VAR " ++ (word_text ups ++ 10 ∷ [])
+unfolding end_line line
+end_text ups = ap (λ bytes. codes "END LIST VAR " ++ (bytes ++ 10 ∷ [])) (append-nil (word_text ups))
+
+-- The answer to LIST VAR in its parts.
+pub list_told : (ups : List ℕ) (d : Device) (before one two three : List ℕ) → one ≡ before ++ (codes "BEGIN LIST VAR " ++ (word_text ups ++ 10 ∷ []))
+    → two ≡ one ++ flat_map (λ v. reply_line (var_row ups d v)) d.table.variables → three ≡ two ++ (codes "END LIST VAR " ++ (word_text ups ++ 10 ∷ []))
+    → three ≡ before ++ text_of (Listing (queries.Var ups) (map (var_row ups d) d.table.variables))
+unfolding text_of
+list_told ups d before one two three first second third =
+    let begins = codes "BEGIN LIST VAR " ++ (word_text ups ++ 10 ∷ []) in
+    let rows = flat_map (λ v. reply_line (var_row ups d v)) d.table.variables in
+    let ends = codes "END LIST VAR " ++ (word_text ups ++ 10 ∷ []) in
+    rw (third, second, first, begin_text ups, end_text ups, flat_map-map)
+    (append_assoc (before ++ begins) rows ends ∙ append_assoc before begins (rows ++ ends))

@@ -205,8 +205,8 @@ impl Config {
         ensures { result ≡ number_of_ups name.now self.now.upses }
     {
         self.names_are_distinct();
-        if let Some(ups) = self.ups_at(likely)
-            && ups.name == name
+        if let Some(likely_name) = self.ups.name(likely)
+            && likely_name.as_bytes() == name
         {
             return Some(likely);
         }

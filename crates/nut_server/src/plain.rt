@@ -11,14 +11,13 @@ ghost use Rattle.nut_server.specs.inside.Answers.{answer_from};
 ghost use Rattle.nut_server.specs.inside.Effects.{Does};
 ghost use Rattle.nut_server.specs.inside.Rows.{row_front};
 
-use crate::answer::{Answer, Rows};
 use crate::config::Ups;
 use crate::device::Device;
 use crate::queries::variable_of;
-use crate::row::{front_of, put_front};
+use crate::row::{front_of, put_front, put_mark};
 use crate::scene::Scene;
-use crate::text::{put_answer, put_variable, shows_forced};
-use nut_proto::{ListQuery, PlainQuery, Refusal, Reply, Word};
+use crate::text::{put_variable, put_variables, shows_forced};
+use nut_proto::{PlainQuery, Refusal, Reply};
 use nut_words::put_quoted;
 use std::alloc::AllocError;
 
@@ -112,15 +111,17 @@ fn put_list(
     ensures { OnOk result (out.new.items ≡ out.old.items ++ text_of (answer_from device.entry (λ d. Listing (queries.Var ups.now) (map (var_row ups.now d) d.table.variables)))) }
 {
     match device {
-        Ok(device) => put_answer(
-            out,
-            &Answer::Listing(
-                ListQuery::Var {
-                    ups: Word::new(ups),
-                },
-                Rows::Variables(ups, device),
-            ),
-        ),
+        Ok(device) => put_listed(out, ups, device),
         Err(refusal) => put_refusal(out, refusal),
     }
+}
+
+/// Appends the variables of this UPS between the lines of their list.
+fn put_listed(out: &mut Vec<u8>, ups: &[u8], device: &Device) -> Result<(), AllocError>
+    ensures { OnOk result (out.new.items ≡ out.old.items ++ text_of (Listing (queries.Var ups.now) (map (var_row ups.now device.now.device) device.now.device.table.variables))) }
+{
+    put_mark(out, b"BEGIN LIST VAR ", ups)?;
+    put_variables(out, ups, device)?;
+    put_mark(out, b"END LIST VAR ", ups)?;
+    Ok(())
 }

@@ -1,7 +1,9 @@
 //! Writes the rows of variables. What a row begins with is the same for all rows of a list, and each variable keeps the text
 //! with which its row ends, so that most rows are two copies.
 
-ghost use Rattle.std.specs.Prelude.{◌≡◌, ◌++◌, OnOk, IfSome};
+ghost use Rattle.std.specs.Prelude.{◌≡◌, ◌∷◌, [], ◌++◌, OnOk, IfSome};
+ghost use Rattle.nut_words.specs.Bytes.{line_feed};
+ghost use Rattle.nut_words.specs.Quoting.{word_text};
 ghost use Rattle.nut_server.specs.inside.Rows.{row_front};
 
 use crate::limits::FRONT_MAX;
@@ -32,6 +34,17 @@ pub fn front_of(word: &[u8], ups: &[u8]) -> Front
         Ok(()) => Some(front),
         Err(Full) => None,
     }
+}
+
+/// Appends the line before or after the rows of a list of this UPS. `words` is what it begins with, as `BEGIN LIST VAR `. If
+/// memory cannot be allocated, `out` may hold a part of it.
+pub fn put_mark(out: &mut Vec<u8>, words: &[u8], ups: &[u8]) -> Result<(), AllocError>
+    ensures { OnOk result (out.new.items ≡ out.old.items ++ (words.now ++ (word_text ups.now ++ line_feed ∷ []))) }
+{
+    out.extend_from_slice(words)?;
+    put_word(out, ups)?;
+    out.push(b'\n')?;
+    Ok(())
 }
 
 /// Appends a row. If memory cannot be allocated, `out` may hold a part of it.

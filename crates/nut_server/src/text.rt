@@ -210,7 +210,8 @@ fn put_upses(out: &mut Vec<u8>, config: &Config) -> Result<(), AllocError>
     Ok(())
 }
 
-fn put_variables(out: &mut Vec<u8>, ups: &[u8], device: &Device) -> Result<(), AllocError>
+/// Appends the rows of LIST VAR.
+pub fn put_variables(out: &mut Vec<u8>, ups: &[u8], device: &Device) -> Result<(), AllocError>
     ensures { OnOk result (out.new.items ≡ out.old.items ++ flat_map (λ v. reply_line (var_row ups.now device.now.device v)) device.now.device.table.variables) }
 {
     let front = front_of(b"VAR", ups);

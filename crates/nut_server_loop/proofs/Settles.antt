@@ -1,6 +1,6 @@
 -- What a write and a close change: only the connection or the UPS, which then has less waiting for it or is gone.
-use Rattle.std.proofs.Common.{◌≡◌, ℕ, ◌<◌, ◌≤◌, true, List, [], length, drop, Option, Some, None, Result, refl, sym, ◌∙◌, ap, subst, arith, length-drop}
-use Rattle.std.specs.Prelude.{option_map}
+use Rattle.std.proofs.Common.{◌≡◌, ℕ, ◌<◌, ◌≤◌, true, false, List, [], ◌∷◌, length, drop, Option, Some, None, Result, refl, sym, ◌∙◌, ap, subst, arith, length-drop}
+use Rattle.std.specs.Prelude.{◌==◌, option_map}
 use Rattle.std.proofs.lemmas.Bool.{ne_eqb}
 use Rattle.nut_queue.specs.Front.{IsFrontPart}
 use Rattle.nut_server_spec.specs.declared.Refused.{Refused}
@@ -19,6 +19,14 @@ use Rattle.nut_server_loop.specs.Served.{Served, OnlyAt, OnlyAtDriver, history_o
 use Rattle.nut_server_loop.proofs.Steps.{Answered, Leads, length_of_front, moved, no_memory_took, no_memory_failed, no_memory_close, no_memory_drained, no_memory_down}
 use Rattle.nut_server_loop.proofs.Writes.{may_take, may_fail, may_close}
 use Rattle.nut_server_loop.proofs.Requests.{may_drain, may_go}
+
+some_in : (bytes : List ℕ) → (length bytes == 0) ≡ false → 0 < length bytes
+some_in [] none = absurd (cc)
+some_in (byte ∷ bytes) none = omega arith
+
+-- If what a connection shows isn't empty, bytes wait for it.
+pub waits_some : (shown waits : List ℕ) → shown ≡ waits → (length shown == 0) ≡ false → 0 < length waits
+waits_some shown waits same none = subst (λ bytes. 0 < length bytes) same (some_in shown none)
 
 -- the content after bytes were taken
 took_moved : {U : Type 0} (first : Configuration) (o : Option (List Entry)) (s s' : Content) (c : ℕ) (part : List ℕ) (w : Written) (n : ℕ) (r : Result U Refused)

@@ -304,19 +304,15 @@ fn flush<W: World>(server: &mut Server, world: &mut W, c: u64) -> Result<(), Fau
     ensures counted { W.fault_count world.new ≡ (if is_ok result then W.fault_count world.old else W.fault_count world.old + 1) }
     ensures reached { W.reached world.old world.new }
 {
-    while server.waits(c) > 0 {
-        if !write_once(server, world, c)? {
-            return Ok(());
-        }
-    }
+    while write_once(server, world, c)? {}
     Ok(())
 }
 
-/// Writes once to a connection and tells the server the outcome. Returns whether another write may follow.
+/// Writes to a connection once, if anything waits for it, and tells the server the outcome. Returns whether another write may
+/// follow.
 fn write_once<W: World>(server: &mut Server, world: &mut W, c: u64) -> Result<bool, Fault>
     ghost first: { Configuration }
     requires few { W.fault_count world.old < 2 ^ 64 - 1 }
-    requires some { 0 < length (waiting_of c server.old.sessions) }
     requires served { Served first (W.log world.old) server.old [] }
     ensures err { OnErr result ((owed : List Ended) × Served first (W.log world.new) server.new owed) }
     ensures ok { OnOk result (Served first (W.log world.new) server.new []) }
@@ -327,10 +323,14 @@ fn write_once<W: World>(server: &mut Server, world: &mut W, c: u64) -> Result<bo
     ensures counted { W.fault_count world.new ≡ (if is_ok result then W.fault_count world.old else W.fault_count world.old + 1) }
     ensures reached { W.reached world.old world.new }
 {
-    match world.write(c, server.waiting(c))? {
+    let waiting = server.waiting(c);
+    if waiting.is_empty() {
+        return Ok(false);
+    }
+    match world.write(c, waiting)? {
         Written::Took(n) => {
             let _ = server.arrive(Arrival::Took(c, n));
-            Ok(true)
+            Ok(server.waits(c) > 0)
         }
         Written::Later => Ok(false),
         Written::Failed => {

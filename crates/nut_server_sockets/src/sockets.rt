@@ -23,11 +23,13 @@ use crate::reloader::Reloader;
 use crate::report::{End, Report};
 use crate::source::Source;
 use crate::stall::Stall;
+use arrayvec::ArrayVec;
 use mio::{Events, Token};
 use nut_io::{Piece, Written};
 use nut_poll::{Heard, LookUps, Ready, Reports, Rounds, SOCKETS_MAX, may_be_read};
 use nut_server::{Config, Server, silence_before_ping};
 use nut_server_loop::Next;
+use nut_server_spec::ADDRESS_MAX;
 use std::alloc::Global;
 use std::io;
 use std::io::{ErrorKind, Write};
@@ -643,6 +645,8 @@ fn note(events: &Events, ready: &mut Ready, clients: &mut Clients, drivers: &mut
 
 /// Puts the address of a client, as the server knows it, into the piece.
 fn show_address(address: IpAddr, piece: &mut Piece) {
+    let mut shown = ArrayVec::<u8, ADDRESS_MAX>::new();
+    let _ = write!(shown, "{address}");
     piece.clear();
-    let _ = write!(piece, "{address}");
+    let _ = piece.try_extend_from_slice(shown.as_slice());
 }

@@ -1,5 +1,5 @@
 -- What a search by name, and an edit at its place, do to a list that ascends by name.
-use Rattle.std.proofs.Common.{◌≡◌, ℕ, zero, suc, ◌<◌, ◌≤◌, List, [], ◌∷◌, ◌++◌, Bool, Some, None, Ok, Err, Result, length, get_or, take, drop, map, refl, sym, ap, subst, ◌∙◌, arith, add-one}
+use Rattle.std.proofs.Common.{◌≡◌, ℕ, zero, suc, ◌<◌, ◌≤◌, List, [], ◌∷◌, ◌++◌, Bool, true, Some, None, Ok, Err, Result, length, get_or, take, drop, map, refl, sym, ap, subst, ◌∙◌, arith, add-one}
 use Rattle.std.specs.Prelude.{filter, MatchResult}
 use Rattle.std.specs.List.{find, AllByRecursion}
 use Rattle.std.specs.List.Sorted.{IsBinarySearchResult, IsSortedBy}
@@ -16,6 +16,12 @@ use Rattle.nut_state.specs.Sorted.{name_cmp, IsAscending, IsFound, IsFree, IsPla
 
 pub same_name : (a b : List ℕ) → name_cmp a b ≡ Equal → a ≡ b
 same_name a b e = slice_cmp-IsAntisymmetric nat_cmp-IsAntisymmetric a b e
+
+-- Names that were compared and found equal are the same.
+pub names_equal : (a b : List ℕ) (o : Ordering) → o ≡ name_cmp a b → is_eq o ≡ true → a ≡ b
+names_equal a b Less is equal = absurd (cc)
+names_equal a b Equal is equal = same_name a b (sym is)
+names_equal a b Greater is equal = absurd (cc)
 
 pub name_itself : (a : List ℕ) → name_cmp a a ≡ Equal
 name_itself a = tied_itself nat_list_cmp_total a

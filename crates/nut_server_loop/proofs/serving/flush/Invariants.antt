@@ -6,8 +6,8 @@ use Rattle.nut_server_loop.proofs.serving.flush.Given as goal
 abbrev pub ghost-write_once : goal.ghost-write_once
 ghost-write_once g a = g.first
 
-abbrev pub invariant-loop-server : goal.invariant-loop-server
-invariant-loop-server g l =
+abbrev pub invariant-loop : goal.invariant-loop
+invariant-loop g l =
     record {
       same_count : g.W.World.fault_count l.world ≡ g.W.World.fault_count l.fn.world;
       served : Served g.first (g.W.World.log l.world) l.server [];
@@ -16,5 +16,5 @@ invariant-loop-server g l =
       reached : g.W.World.reached l.fn.world l.world;
     }
 
-abbrev pub decreases-loop-server : goal.decreases-loop-server
-decreases-loop-server g l = length (waiting_of l.c l.server.sessions)
+abbrev pub decreases-loop : goal.decreases-loop
+decreases-loop g l = length (waiting_of l.c l.server.sessions)
