@@ -210,6 +210,7 @@ fn put_upses(out: &mut Vec<u8>, config: &Config) -> Result<(), AllocError>
     Ok(())
 }
 
+#[tactic(auto, using(std::proofs::lemmas::Grind::common_steps))]
 fn put_variables(out: &mut Vec<u8>, ups: &[u8], device: &Device) -> Result<(), AllocError>
     ensures { OnOk result (out.new.items ≡ out.old.items ++ flat_map (λ v. reply_line (var_row ups.now device.now.device v)) device.now.device.table.variables) }
 {
@@ -220,6 +221,7 @@ fn put_variables(out: &mut Vec<u8>, ups: &[u8], device: &Device) -> Result<(), A
     Ok(())
 }
 
+#[tactic(auto, using(std::proofs::lemmas::Grind::common_steps))]
 fn put_writables(out: &mut Vec<u8>, ups: &[u8], device: &Device) -> Result<(), AllocError>
     ensures { OnOk result (out.new.items ≡ out.old.items ++ flat_map (writable_text ups.now device.now.device) device.now.device.table.variables) }
 {
@@ -232,6 +234,7 @@ fn put_writables(out: &mut Vec<u8>, ups: &[u8], device: &Device) -> Result<(), A
     Ok(())
 }
 
+#[tactic(auto, using(std::proofs::lemmas::Grind::common_steps))]
 fn put_commands(out: &mut Vec<u8>, ups: &[u8], device: &Device) -> Result<(), AllocError>
     ensures { OnOk result (out.new.items ≡ out.old.items ++ flat_map (λ k. reply_line (replies.Cmd ups.now k)) device.now.device.table.commands) }
 {
@@ -241,6 +244,7 @@ fn put_commands(out: &mut Vec<u8>, ups: &[u8], device: &Device) -> Result<(), Al
     Ok(())
 }
 
+#[tactic(auto, using(std::proofs::lemmas::Grind::common_steps))]
 fn put_enums(
     out: &mut Vec<u8>,
     ups: &[u8],
@@ -255,6 +259,7 @@ fn put_enums(
     Ok(())
 }
 
+#[tactic(auto, using(std::proofs::lemmas::Grind::common_steps))]
 fn put_ranges(
     out: &mut Vec<u8>,
     ups: &[u8],
