@@ -151,8 +151,3 @@ pub is_there : (ds : List Supply) (u : ℕ) → (slice_index_or (map (λ d. d.de
 is_there [] u is = absurd (cc)
 is_there (d ∷ ds) zero is = omega arith
 is_there (d ∷ ds) (suc u) is = omega (arith, is_there ds u is)
-
-pub is_within : (ds : List Supply) (u : ℕ) → u < length (map (λ d. d.device) ds) → u < length ds
-is_within [] u lt = lt
-is_within (d ∷ ds) zero lt = omega arith
-is_within (d ∷ ds) (suc u) lt = omega (arith, is_within ds u (omega (arith, lt)))

@@ -20,7 +20,7 @@ use Rattle.nut_server.specs.inside.Inside.{numbers_of}
 use Rattle.nut_server.specs.inside.Place.{IsPlace, Stands}
 use Rattle.nut_server.specs.inside.Entries.{sessions_of, key_numbers, AreNamed, AreMarked, AreEntries}
 use Rattle.nut_server.specs.Settling.{is_unsettled, settles}
-use Rattle.nut_server.proofs.Orderly.{IsRising-without, IsRising-push, none_below}
+use Rattle.nut_server.proofs.Orderly.{IsRising-filter, IsRising-push, none_below}
 
 -- The slot of this key holds the connection k.
 abbrev pub IsNamed : Slab Session → Key → Type 0
@@ -388,7 +388,7 @@ entry_removed e e' ks at key c are view stands read done =
     let fewer : length e'.order.items + 1 ≡ length e.order.items = omega (arith, ap length done.keys, length-remove e.order.items at within) in
     record {
       entries = record {
-        rising = rising_of e'.slots e'.order.items (without c ks) named sessions (IsRising-without c ks rising);
+        rising = rising_of e'.slots e'.order.items (without c ks) named sessions (IsRising-filter _ ks rising);
         named = named;
         marked = subst (AreMarked e'.slots) (sym done.keys) both.2;
         unsettled = done.unsettled;

@@ -120,14 +120,6 @@ pub record IsAhead (c : ℕ) (piece left : List ℕ) (done : ℕ) (s now : Conte
   pub lost : (n m : ℕ) → m ≡ done + n → content_lost c left n now ≡ content_lost c piece m s
   pub memory : (n m : ℕ) → m ≡ done + n → RunsOut c left n now → RunsOut c piece m s
 
-pub at_first : (c : ℕ) (piece : List ℕ) (s : Content) → IsAhead c piece piece 0 s s
-at_first c piece s = record {
-  heard = refl;
-  feeds = omega arith;
-  lost = λ n m is. let same : n ≡ m = omega (arith, is) in ap (λ n. content_lost c piece n s) same;
-  memory = λ n m is out. let same : n ≡ m = omega (arith, is) in subst (λ n. RunsOut c piece n s) same out;
-}
-
 -- one line further
 pub goes_ahead : (c : ℕ) (piece left after : List ℕ) (done : ℕ) (s now new : Content) (k : Session) → session_of c now.sessions ≡ Some k → IsHeard c k left after now new
     → IsAhead c piece left done s now → IsAhead c piece after (done + 1) s new
@@ -150,11 +142,6 @@ stopped_ahead c piece left done s now new k found it ahead = (
 -- The bytes behind a line are fewer than those that it begins.
 pub left_shorter : (c : ℕ) (k : Session) (left after : List ℕ) (now new : Content) → IsHeard c k left after now new → length after < length left
 left_shorter c k left after now new it = omega (arith, ap length it.first.parted, length-append it.text (10 ∷ after))
-
--- No bytes are left.
-pub all_ahead : (c : ℕ) (piece left : List ℕ) (done : ℕ) (s now : Content) → IsAhead c piece left done s now → length left ≡ 0 → now ≡ bytes_heard c piece s
-all_ahead c piece [] done s now ahead none = ahead.heard
-all_ahead c piece (b ∷ left) done s now ahead none = absurd (omega (arith, none))
 
 -- There are no more line feeds than bytes.
 pub few_feeds : (piece : List ℕ) → line_feeds piece ≤ length piece

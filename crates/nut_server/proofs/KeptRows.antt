@@ -1,5 +1,5 @@
 -- Rows that end in a text that is kept with their variable.
-use Rattle.std.proofs.Common.{◌≡◌, ℕ, Bool, false, List, [], ◌∷◌, ◌++◌, Option, Some, codes, flat_map, map, refl, sym, ap, ◌∙◌, append_assoc}
+use Rattle.std.proofs.Common.{◌≡◌, ℕ, false, List, [], ◌∷◌, ◌++◌, Option, Some, codes, flat_map, map, refl, sym, ap, ◌∙◌, append_assoc}
 use Rattle.std.specs.Prelude.{◌&&◌}
 use Rattle.std.specs.Str.{bytes_eq}
 use Rattle.std.proofs.lemmas.List.{append-nil}
@@ -72,9 +72,6 @@ unfolding text_of
 kept_told ups name d v end is plain ends =
     ap (λ (o : Option Entry). text_of (require refusals.VarNotSupported o (λ v. Line (var_row ups d v)))) is
     ∙ ap (λ value. reply_line (replies.Var ups v.name value)) (as_it_is d v plain) ∙ var_text ups v.name v.value ∙ ap (λ e. row_front (codes "VAR") ups ++ e) (sym ends)
-
-pub not_forced : (result forced : Bool) → result ≡ false → result ≡ forced → false ≡ forced
-not_forced result forced is same = sym is ∙ same
 
 -- ---- a list
 

@@ -1,3 +1,4 @@
+mod Elements
 pub mod FromFiles
 pub mod Described
 pub mod RowTexts
@@ -5,7 +6,6 @@ pub mod KeptRows
 pub mod Asks
 pub mod Logins
 pub mod Results
-pub mod Swept
 pub mod Told
 pub mod Feeds
 pub mod Reloaded
@@ -33,7 +33,6 @@ pub mod OnlyNamed
 pub mod NothingWaits
 pub mod Seats
 pub mod Limited
-pub mod NamedApart
 mod FirstLines
 pub mod FatesMet
 pub mod Numbered

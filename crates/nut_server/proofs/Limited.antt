@@ -1,9 +1,9 @@
 -- A configuration that files set is within their limits, and what waits for a client is bounded.
-use Rattle.std.proofs.Common.{◌≡◌, ℕ, zero, suc, ◌≤◌, Bool, true, false, List, [], ◌∷◌, length, map, refl, sym, ◌∙◌, ap, subst, arith, Option, Some, None, Result, Ok, Err}
+use Rattle.std.proofs.Common.{◌≡◌, ℕ, zero, suc, ◌≤◌, List, [], ◌∷◌, length, map, sym, ◌∙◌, ap, subst, arith, Option, Some, None, Result, Ok, Err}
 use Rattle.std.specs.Prelude.{◌&&◌, nat_le, codes}
 use Rattle.std.specs.Option.{option_map_or}
 use Rattle.std.specs.List.{AllByRecursion, list_all}
-use Rattle.std.proofs.lemmas.Bool.{leb-true}
+use Rattle.std.proofs.lemmas.Bool.{and_parts, leb-true}
 use Rattle.std.proofs.lemmas.List.{length-map}
 use Rattle.nut_words.specs.Spelling.{is_printing}
 use Rattle.nut_words.specs.declared.limits.TheConstants.{NAME_MAX, UPS_NAME_MAX}
@@ -20,10 +20,10 @@ use Rattle.nut_conf.specs.declared.limits.TheConstants.{DESCRIPTION_MAX}
 use Rattle.nut_server_spec.specs.Content.{Session, Content}
 use Rattle.nut_server_spec.specs.Configuration.{Configuration}
 use Rattle.nut_server_spec.specs.declared.Place.{Place}
-use Rattle.nut_server_spec.specs.declared.Place.TheVariants.{Line, Report, NewUpses}
+use Rattle.nut_server_spec.specs.declared.Place.TheVariants.{Line, Report}
 use Rattle.nut_server_spec.specs.declared.Refused.{Refused}
-use Rattle.nut_server_spec.specs.declared.Refused.TheVariants.{NoSuchConnection, NotConnected, PieceTooLong, Busy, TooMuchTaken, BadAddress, Full, Memory}
-use Rattle.nut_server_spec.specs.Event.{Event, Moment, Open, Bytes, Took, Close, WriteFailed, DriverUp, DriverBytes, DriverTook, DriverDown, Reload}
+use Rattle.nut_server_spec.specs.declared.Refused.TheVariants.{Memory}
+use Rattle.nut_server_spec.specs.Event.{Event, Bytes, DriverBytes, Reload}
 use Rattle.nut_server_spec.specs.Acceptance.{session_of}
 use Rattle.nut_server_spec.specs.Outcome.{after, after_lack, after_refusal}
 use Rattle.nut_server_spec.specs.machine.MachineOutcome.{Answers, content_after}
@@ -32,14 +32,10 @@ use Rattle.nut_server.specs.Configured.{command_texts_of, configuration_of, ups_
 use Rattle.nut_server.specs.inside.Server.{IsTold}
 use Rattle.nut_server.proofs.Arrives.{stands_after}
 
-both : (a b : Bool) → (a && b) ≡ true → (a ≡ true) × (b ≡ true)
-both true b e = (refl, e)
-both false b e = absurd (cc)
-
 text_short : (t : Text 0 DESCRIPTION_MAX) → length t.bytes.items ≤ DESCRIPTION_MAX
 text_short t =
-    let sizes = both (nat_le 0 (length t.bytes.items) && nat_le (length t.bytes.items) DESCRIPTION_MAX) (list_all is_printing t.bytes.items) t.bounded in
-    leb-true (length t.bytes.items) DESCRIPTION_MAX (both (nat_le 0 (length t.bytes.items)) (nat_le (length t.bytes.items) DESCRIPTION_MAX) sizes.0).1
+    let sizes = and_parts (nat_le 0 (length t.bytes.items) && nat_le (length t.bytes.items) DESCRIPTION_MAX) (list_all is_printing t.bytes.items) t.bounded in
+    leb-true (length t.bytes.items) DESCRIPTION_MAX (and_parts (nat_le 0 (length t.bytes.items)) (nat_le (length t.bytes.items) DESCRIPTION_MAX) sizes.0).1
 
 description_short : (u : the_ups.Ups) → length (desc_of u) ≤ DESCRIPTION_MAX
 description_short u = by_text u.desc where
@@ -74,58 +70,23 @@ config_within ups users upsd descriptions = record {
 
 -- ---- the history of a server
 
-lack_within : (first : Configuration) (h : List Event) (e : Event) (place : Place) → AreWithin first h → AreWithin first (after_lack place e h)
-lack_within first h (Bytes d piece) (Line c zero) within = within
-lack_within first h (Bytes d piece) (Line c (suc k)) within = within
-lack_within first h (DriverBytes v piece) (Report u zero) within = within
-lack_within first h (DriverBytes v piece) (Report u (suc k)) within = within
-lack_within first h (Moment t) (Line c k) within = within
-lack_within first h (Moment t) (Report u k) within = within
-lack_within first h (Open address) (Line c k) within = within
-lack_within first h (Open address) (Report u k) within = within
-lack_within first h (Bytes d piece) (Report u k) within = within
-lack_within first h (Took d n) (Line c k) within = within
-lack_within first h (Took d n) (Report u k) within = within
-lack_within first h (Close d) (Line c k) within = within
-lack_within first h (Close d) (Report u k) within = within
-lack_within first h (WriteFailed d) (Line c k) within = within
-lack_within first h (WriteFailed d) (Report u k) within = within
-lack_within first h (DriverUp v) (Line c k) within = within
-lack_within first h (DriverUp v) (Report u k) within = within
-lack_within first h (DriverBytes v piece) (Line c k) within = within
-lack_within first h (DriverTook v n) (Line c k) within = within
-lack_within first h (DriverTook v n) (Report u k) within = within
-lack_within first h (DriverDown v) (Line c k) within = within
-lack_within first h (DriverDown v) (Report u k) within = within
-lack_within first h (Reload j) (Line c k) within = within
-lack_within first h (Reload j) (Report u k) within = within
-lack_within first h e NewUpses within = within
+lack_within : (first : Configuration) (h : List Event) (place : Place) (e : Event) → AreWithin first h → AreWithin first (after_lack place e h)
+lack_within first h (Line c zero) (Bytes d piece) within = within
+lack_within first h (Line c (suc k)) (Bytes d piece) within = within
+lack_within first h (Report u zero) (DriverBytes v piece) within = within
+lack_within first h (Report u (suc k)) (DriverBytes v piece) within = within
+lack_within first h place e within = within
 
 refused_within : (first : Configuration) (h : List Event) (e : Event) (r : Refused) → AreWithin first h → AreWithin first (after_refusal r e h)
-refused_within first h e (Memory place) within = lack_within first h e place within
-refused_within first h e NoSuchConnection within = within
-refused_within first h e NotConnected within = within
-refused_within first h e PieceTooLong within = within
-refused_within first h e Busy within = within
-refused_within first h e TooMuchTaken within = within
-refused_within first h e BadAddress within = within
-refused_within first h e Full within = within
+refused_within first h e (Memory place) within = lack_within first h place e within
+refused_within first h e r within = within
 
 -- The history after an answer is within the limits if the configuration that is then in force is.
 within_after : (s s' : Content) (e : Event) (r : Result (Unit {0}) Refused) → s' ≡ content_after r s e → IsWithin s'.configuration
     → (first : Configuration) (h : List Event) → AreWithin first h → AreWithin first (after r e h)
-within_after s s' (Moment t) (Ok u) is limits first h within = within
-within_after s s' (Open address) (Ok u) is limits first h within = within
-within_after s s' (Bytes c piece) (Ok u) is limits first h within = within
-within_after s s' (Took c n) (Ok u) is limits first h within = within
-within_after s s' (Close c) (Ok u) is limits first h within = within
-within_after s s' (WriteFailed c) (Ok u) is limits first h within = within
-within_after s s' (DriverUp v) (Ok u) is limits first h within = within
-within_after s s' (DriverBytes v piece) (Ok u) is limits first h within = within
-within_after s s' (DriverTook v n) (Ok u) is limits first h within = within
-within_after s s' (DriverDown v) (Ok u) is limits first h within = within
-within_after s s' (Reload j) (Ok u) is limits first h within = (subst (λ (x : Content). IsWithin x.configuration) is limits, within)
 within_after s s' e (Err r) is limits first h within = refused_within first h e r within
+within_after s s' (Reload j) (Ok u) is limits first h within = (subst (λ (x : Content). IsWithin x.configuration) is limits, within)
+within_after s s' e (Ok u) is limits first h within = within
 
 pub told_on : (s s' : Content) (e : Event) (r : Result (Unit {0}) Refused) → Answers s e r → s' ≡ content_after r s e → IsWithin s'.configuration
     → IsTold s → IsTold s'

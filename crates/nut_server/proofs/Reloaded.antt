@@ -1,46 +1,31 @@
 -- What a reload makes of the parts of a server.
-use Rattle.std.proofs.Common.{◌≡◌, ℕ, suc, ◌+◌, ◌-◌, ◌≤◌, Bool, true, false, not, List, [], ◌∷◌, ◌++◌, filter, length, length-append, map, refl, sym, ◌∙◌, ap, ap₂, arith, inl, inr, Result, Ok, Err, OnOk, OnErr}
-use Rattle.std.proofs.lemmas.Bool.{cases_Bool}
-use Rattle.std.proofs.lemmas.List.{length-map}
+use Rattle.std.proofs.Common.{◌≡◌, ℕ, suc, ◌+◌, ◌-◌, ◌≤◌, Bool, true, false, not, List, [], ◌∷◌, ◌++◌, filter, length, length-append, map, refl, sym, ◌∙◌, ap, ap₂, arith, add-one, Result, Ok, Err, OnOk, OnErr}
+use Rattle.std.proofs.lemmas.List.{append-nil, length-map}
+use Rattle.std.proofs.lemmas.List.Elements.{filter-append}
 use Rattle.nut_conf.specs.declared.limits.TheConstants.{UPSES_MAX}
 use Rattle.nut_server_spec.specs.Configuration.{Configuration}
 use Rattle.nut_server_spec.specs.Content.{Content, Session, Supply, numbering_of, unheard}
 use Rattle.nut_server_spec.specs.Numbering.{Fate, below, fate_of, is_to_cleared, renumbered}
-use Rattle.nut_server_spec.specs.laws.Laws.{IsUpTo}
 use Rattle.nut_server_spec.specs.machine.Machine.{changed_from, fated, reloaded, with_supplies}
 use Rattle.nut_server_spec.proofs.Places.{below-length}
 use Rattle.nut_server.specs.inside.Fates.{fate_in}
-use Rattle.nut_server.specs.inside.Inside.{numbers_of}
 use Rattle.nut_server.proofs.FatesMet.{changed_new, unheard_stays}
 
 pub changed_long : (change : ℕ → Supply → Supply) (k : ℕ) (ds : List Supply) → length (changed_from k change ds) ≡ length ds
 changed_long change k [] = refl
 changed_long change k (d ∷ ds) = ap suc (changed_long change (k + 1) ds)
 
-pub IsUpTo-filter : (p : Session → Bool) (n : ℕ) (ks : List Session) → IsUpTo n (numbers_of ks) → IsUpTo n (numbers_of (filter p ks))
-IsUpTo-filter p n [] up = tt
-IsUpTo-filter p n (k ∷ ks) up = elim (cases_Bool (p k)) [ inl e ↦ rw e (up.0, IsUpTo-filter p n ks up.1) | inr e ↦ rw e (IsUpTo-filter p n ks up.1) ]
-
-pub fewer_numbers : (p : Session → Bool) (ks : List Session) → length (numbers_of (filter p ks)) ≤ length (numbers_of ks)
-fewer_numbers p [] = omega arith
-fewer_numbers p (k ∷ ks) = elim (cases_Bool (p k)) [ inl e ↦ rw e (omega (arith, fewer_numbers p ks)) | inr e ↦ rw e (omega (arith, fewer_numbers p ks)) ]
-
 -- ---- the numbers that pass, one by one
 
 module _ (p : ℕ → Bool) where
-  filter_last : (x : ℕ) (xs : List ℕ) → p x ≡ true → filter p (xs ++ x ∷ []) ≡ filter p xs ++ x ∷ []
-  filter_last x [] passes = rw passes refl
-  filter_last x (y ∷ xs) passes = elim (cases_Bool (p y)) [ inl e ↦ rw e (ap (λ ys. y ∷ ys) (filter_last x xs passes)) | inr e ↦ rw e (filter_last x xs passes) ]
-
-  filter_not_last : (x : ℕ) (xs : List ℕ) → p x ≡ false → filter p (xs ++ x ∷ []) ≡ filter p xs
-  filter_not_last x [] fails = rw fails refl
-  filter_not_last x (y ∷ xs) fails = elim (cases_Bool (p y)) [ inl e ↦ rw e (ap (λ ys. y ∷ ys) (filter_not_last x xs fails)) | inr e ↦ rw e (filter_not_last x xs fails) ]
+  next_one : (n : ℕ) (ns : List ℕ) → ns ≡ filter p (below n) → filter p (below (n + 1)) ≡ ns ++ filter p (n ∷ [])
+  next_one n ns so_far = ap (λ m. filter p (below m)) (add-one n) ∙ filter-append p (below n) (n ∷ []) ∙ ap (λ ms. ms ++ filter p (n ∷ [])) (sym so_far)
 
   pub passes_next : (n : ℕ) (ns : List ℕ) → ns ≡ filter p (below n) → p n ≡ true → ns ++ n ∷ [] ≡ filter p (below (n + 1))
-  passes_next n ns so_far passes = ap (λ ms. ms ++ n ∷ []) so_far ∙ sym (filter_last n (below n) passes) ∙ ap (λ m. filter p (below m)) (let next : suc n ≡ n + 1 = omega arith in next)
+  passes_next n ns so_far passes = sym (next_one n ns so_far ∙ rw passes refl)
 
   pub fails_next : (n : ℕ) (ns : List ℕ) → ns ≡ filter p (below n) → p n ≡ false → ns ≡ filter p (below (n + 1))
-  fails_next n ns so_far fails = so_far ∙ sym (filter_not_last n (below n) fails) ∙ ap (λ m. filter p (below m)) (let next : suc n ≡ n + 1 = omega arith in next)
+  fails_next n ns so_far fails = sym (next_one n ns so_far ∙ rw fails (append-nil ns))
 
 -- ---- a server
 

@@ -5,6 +5,7 @@ use Rattle.std.specs.Option.{option_and_then, option_map_or}
 use Rattle.std.proofs.lemmas.Bool.{cases_Bool}
 use Rattle.std.proofs.lemmas.List.{append_assoc, length-drop}
 use Rattle.nut_server_spec.specs.Configuration.{Ups}
+use Rattle.nut_server.proofs.Elements.{drop_here, some_there}
 use Rattle.nut_server_spec.specs.Numbering.{Numbering, number_of, is_taken, first_free, least_free, kept_numbers, given_numbers}
 
 -- ---- the least free number
@@ -20,9 +21,6 @@ pub free_here : (n end : ℕ) (taken : List ℕ) → n < end → is_taken n take
 free_here n end taken lt is =
     let more : end - n ≡ suc (end - (n + 1)) = omega (arith, lt) in
     ap (λ k. first_free k n taken) more ∙ rw is refl
-
-pub free_end : (n end : ℕ) (taken : List ℕ) → end ≤ n → first_free (end - n) n taken ≡ n
-free_end n end taken le = let none : end - n ≡ zero = omega (arith, le) in ap (λ k. first_free k n taken) none
 
 -- ---- the order of the taken numbers makes no difference
 
@@ -67,11 +65,7 @@ same_given before (ups ∷ upses) a b alike =
 
 -- the UPS at a place, and those from there on
 there : {A : Type 0} (xs : List A) (i : ℕ) → i < length xs → (x : A) × (slice_get xs i ≡ Some x) × (drop i xs ≡ x ∷ drop (i + 1) xs)
-there [] i lt = absurd (omega arith)
-there (x ∷ xs) zero lt = (x, refl, refl)
-there (x ∷ xs) (suc i) lt =
-    let rest = there xs i (omega arith) in
-    (rest.0, rest.1, rest.2 ∙ ap (λ n. rest.0 ∷ drop n (x ∷ xs)) (let next : suc (i + 1) ≡ suc i + 1 = omega arith in next))
+there xs i lt = let it = some_there xs i lt in (it.0, it.1, drop_here xs i it.0 it.1)
 
 -- the number that the UPS at a place keeps
 abbrev pub kept_at : Numbering → List Ups → ℕ → Option ℕ

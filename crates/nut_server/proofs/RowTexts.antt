@@ -1,30 +1,29 @@
 -- The texts of rows, one after another.
-use Rattle.std.proofs.Common.{◌≡◌, ℕ, zero, suc, ◌+◌, ◌<◌, ◌≤◌, Bool, true, false, List, [], ◌∷◌, ◌++◌, length, map, flat_map, take, Some, None, refl, sym, ap, append_assoc, add-one, arith}
+use Rattle.std.proofs.Common.{◌≡◌, ◌∙◌, ℕ, ◌+◌, ◌<◌, Bool, true, false, List, [], ◌∷◌, ◌++◌, length, map, flat_map, take, Some, None, refl, sym, ap, append_assoc}
 use Rattle.std.specs.Prelude.{filter, slice_get, if◌then◌else◌}
-use Rattle.std.specs.Option.{option_map_or}
 use Rattle.std.proofs.lemmas.List.{append-nil}
-use Rattle.std.proofs.lemmas.List.Sums.{length-filter, count_by-le-length}
+use Rattle.std.proofs.lemmas.Grind.{flat_map-append}
 use Rattle.nut_state.specs.Table.{Entry}
 use Rattle.nut_proto.specs.declared.reply.Reply.{Reply}
 use Rattle.nut_proto.specs.declared.reply.Reply.TheVariants as replies
 use Rattle.nut_proto.specs.Replies.{reply_line}
-use Rattle.nut_server_spec.specs.Answer.{Guest, guests_of, is_logged_in, rw_row}
+use Rattle.nut_server_spec.specs.Answer.{guests_of, is_logged_in, rw_row}
 use Rattle.nut_server_spec.specs.Content.{Session}
 use Rattle.nut_server_spec.specs.Device.{Device}
 use Rattle.nut_server_spec.specs.machine.Machine.{guest_of}
 use Rattle.nut_server.specs.inside.Rows.{writable_text, client_text}
+use Rattle.nut_server.proofs.Elements.{some_there, take_next}
 
 -- the text of the first i rows and the next one
-pub one_more : {X A : Type 0} (f : X → List A) (xs : List X) (i : ℕ) (x : X) → slice_get xs i ≡ Some x →
-    flat_map f (take (suc i) xs) ≡ flat_map f (take i xs) ++ f x
-one_more f [] i x is = absurd (cc)
-one_more f (y ∷ xs) zero x is = rw append-nil (ap (λ o. option_map_or f o (f y)) is)
-one_more f (y ∷ xs) (suc i) x is = rw (one_more f xs i x is) (sym (append_assoc (f y) (flat_map f (take i xs)) (f x)))
+one_more : {X A : Type 0} (f : X → List A) (xs : List X) (i : ℕ) (x : X) → slice_get xs i ≡ Some x →
+    flat_map f (take (i + 1) xs) ≡ flat_map f (take i xs) ++ f x
+one_more f xs i x is =
+    ap (flat_map f) (take_next xs i x is) ∙ flat_map-append f (take i xs) (x ∷ []) ∙ ap (λ row. flat_map f (take i xs) ++ row) (append-nil (f x))
 
 -- the text with the next row appended
 pub row_behind : {X A : Type 0} (f : X → List A) (xs : List X) (i : ℕ) (x : X) (before now after : List A) → slice_get xs i ≡ Some x →
     now ≡ before ++ flat_map f (take i xs) → after ≡ now ++ f x → after ≡ before ++ flat_map f (take (i + 1) xs)
-row_behind f xs i x before now after is text row = rw (row, text, add-one, one_more f xs i x is) (append_assoc before (flat_map f (take i xs)) (f x))
+row_behind f xs i x before now after is text row = rw (row, text, one_more f xs i x is) (append_assoc before (flat_map f (take i xs)) (f x))
 
 -- a row, if the test holds, before others
 row_kept : {X : Type 0} (row : X → Reply) (b : Bool) (x : X) (xs : List X) (text : List ℕ) → text ≡ flat_map reply_line (map row xs) →
@@ -54,10 +53,4 @@ client_hidden ups u k text is = rw is (sym (append-nil _))
 
 -- There is an element at each place within a list.
 pub within_some : {X : Type 0} (xs : List X) (i : ℕ) → i < length xs → slice_get xs i ≡ None → ⊥
-within_some [] i lt is = absurd (omega arith)
-within_some (x ∷ xs) zero lt is = absurd (cc)
-within_some (x ∷ xs) (suc i) lt is = within_some xs i (omega arith) is
-
--- At most as many are logged in as are connected.
-pub guests_within : (u : ℕ) (guests : List Guest) → length (guests_of u guests) ≤ length guests
-guests_within u guests = rw (length-filter (λ g. is_logged_in u g.login) guests) (count_by-le-length (λ g. is_logged_in u g.login) guests)
+within_some xs i lt is = let never = sym is ∙ (some_there xs i lt).1 in cc

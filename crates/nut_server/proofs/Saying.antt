@@ -31,12 +31,6 @@ StandsStill now command =
 
 stands_still : (now : Numbering) (command : Command) → StandsStill now command
 stands_still now (Asks (requests.Username name)) = (λ k. refl, at_rest)
-stands_still now (Asks (requests.Password password)) = (λ k. refl, at_rest)
-stands_still now (Asks (requests.Login ups)) = (λ k. refl, at_rest)
-stands_still now (Asks (requests.Fsd ups)) = (λ k. refl, at_rest)
-stands_still now (Asks (requests.SetVar ups variable value)) = (λ k. refl, at_rest)
-stands_still now (Asks (requests.SetTracking on)) = (λ k. refl, at_rest)
-stands_still now (Asks (requests.InstCmd ups name parameter)) = (λ k. refl, at_rest)
 stands_still now command = (λ k. refl, at_rest)
 
 pub silent : (c : ℕ) (command : Command) (v : Content) → v ≡ answered_by c command Silence v

@@ -15,15 +15,11 @@ none_ended (t ∷ requests) = ap (λ ts. t ∷ ts) (none_ended requests)
 -- A line that is heard and tells of no request.
 pub of_heard : (o : Option Change) → answer o ≡ Heard → (is_some o ≡ true) × (option_map_or told_by o None ≡ None)
 of_heard None is = absurd (cc)
-of_heard (Some (tracking None status)) is = (refl, refl)
-of_heard (Some (tracking (Some number) None)) is = (refl, refl)
 of_heard (Some (tracking (Some number) (Some status))) is = absurd (cc)
 of_heard (Some change) is = (refl, refl)
 
 -- A line that isn't heard.
 pub of_ignored : (o : Option Change) → answer o ≡ Ignored → (is_some o ≡ false) × (option_map_or told_by o None ≡ None)
 of_ignored None is = (refl, refl)
-of_ignored (Some (tracking None status)) is = absurd (cc)
-of_ignored (Some (tracking (Some number) None)) is = absurd (cc)
 of_ignored (Some (tracking (Some number) (Some status))) is = absurd (cc)
 of_ignored (Some change) is = absurd (cc)

@@ -87,10 +87,7 @@ const UNAVAILABLE: &[u8] = b"Description unavailable";
 fn or_unavailable(text: Option<&[u8]>) -> &[u8]
     ensures { result.now ≡ told None (option_map (λ t. t.now) text.entry) }
 {
-    match text {
-        Some(text) => text,
-        None => UNAVAILABLE,
-    }
+    text.unwrap_or(UNAVAILABLE)
 }
 
 /// The configuration of a server: ups.conf(5), upsd.users(5), upsd.conf(5), and cmdvartab where there is that file.
@@ -136,6 +133,7 @@ impl Config {
     }
 
     /// Returns this configuration with these descriptions in place of any that it has.
+    #[tactic(auto, using(std::proofs::lemmas::Grind::common_steps))]
     pub fn with_descriptions(self, descriptions: Descriptions) -> Config
         ensures { result ≡ record self { variable_texts = rows_of descriptions.variables; command_texts = rows_of descriptions.commands } }
     {

@@ -63,6 +63,7 @@ impl Key {
 }
 
 /// Marks the key at this place as unsettled or settled, and updates the count of unsettled connections.
+#[tactic(auto, using(std::proofs::lemmas::Grind::common_steps))]
 fn mark(order: &mut Vec<Key>, count: &mut usize, at: usize, unsettled: bool)
     requires within { at < length order.old.items }
     requires counted { count.old ≡ count_by (λ key. key.unsettled) order.old.items }

@@ -194,10 +194,9 @@ impl Device {
     fn is_unpinged_for(&self, seconds: u64, time: u64) -> bool
         ensures { result ≡ option_map_or (is_past seconds time) self.now.device.pinged_at true }
     {
-        match self.reported.pinged_at {
-            Some(moment) => time.saturating_sub(moment) > seconds,
-            None => true,
-        }
+        self.reported
+            .pinged_at
+            .is_none_or(|moment| time.saturating_sub(moment) > seconds)
     }
 
     /// Whether the driver is to be sent PING at this time.

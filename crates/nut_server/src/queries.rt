@@ -32,6 +32,7 @@ pub fn variable_of<'a>(device: &'a Device, name: &[u8]) -> Result<&'a Variable, 
 /// # Errors
 ///
 /// `UnknownUps` if there is no such UPS; then `DriverNotConnected` or `DataStale` if its data can't be relied on.
+#[tactic(auto, using(std::proofs::lemmas::Grind::common_steps))]
 fn count_logins<'a>(scene: &'a Scene<'_>, ups: &'a [u8]) -> Result<Answer<'a>, Refusal>
     ensures answer { outcome result ≡ told scene.now (requests.GetNumLogins ups.now) }
     ensures quiet { IsTrue (grants_nothing (outcome result)) }

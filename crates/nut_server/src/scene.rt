@@ -68,6 +68,7 @@ impl<'a> Scene<'a> {
     }
 
     /// Returns the UPS with this number, or `DriverNotConnected` or `DataStale` if its data can't be relied on.
+    #[tactic(auto, using(std::proofs::lemmas::Grind::common_steps))]
     pub fn data_of(&self, u: usize) -> Result<&'a Device, Refusal>
         ensures { MatchResult result
             (λ d. (device_at self.now u ≡ d.now.device)

@@ -20,6 +20,7 @@ ghost use Rattle.nut_server.specs.Settling.{IsNextUnsettled, IsNextWaiting};
 use crate::address::address_of;
 use crate::arrival::Arrival;
 use crate::config::Config;
+use crate::connection::Connection;
 use crate::connections::Connections;
 use crate::deeds::{Deed, Deeds};
 use crate::device::Device;
@@ -139,6 +140,7 @@ impl Model for Server {
 }
 
 /// Returns `count` UPSes whose drivers were never connected.
+#[tactic(auto, using(std::proofs::lemmas::Grind::common_steps))]
 fn untold(alloc: Global, count: usize) -> Result<Vec<Device>, AllocError>
     ensures { IfOk result (λ devices. devices.items ≡ map (λ u. unheard) (below count)) }
 {
@@ -223,10 +225,8 @@ impl Server {
         ensures { IfOk result (λ server. server ≡ content config []) }
     {
         config.is_within_limits();
-        match Parts::new(alloc, config) {
-            Ok(parts) => Ok(Server { parts }),
-            Err(fault) => Err(fault),
-        }
+        let parts = Parts::new(alloc, config)?;
+        Ok(Server { parts })
     }
 
     /// Takes one arrival: `arrive` with its contract in terms of the machine, for proofs that have no history at hand.
@@ -393,20 +393,14 @@ impl Server {
         ensures value { result ≡ kept (session_of c self.now.sessions) }
         ensures within { result ≤ LINE_MAX }
     {
-        match self.parts.connections.get(c) {
-            Some(connection) => connection.kept(),
-            None => 0,
-        }
+        self.parts.connections.get(c).map_or(0, Connection::kept)
     }
 
     /// Whether the driver of a UPS is connected.
     pub fn is_connected(&self, u: usize) -> bool
         ensures { result ≡ is_connected (supply_of u self.now.supplies) }
     {
-        match self.parts.devices.get(u) {
-            Some(device) => device.is_connected(),
-            None => false,
-        }
+        self.parts.devices.get(u).is_some_and(Device::is_connected)
     }
 
     /// Whether the data of a UPS are stale. If its driver is connected, clients are then answered DATA-STALE. A place
@@ -427,19 +421,13 @@ impl Server {
     pub fn is_forced(&self, u: usize) -> bool
         ensures { result ≡ option_map_or (λ s. s.device.forced) (supply_of u self.now.supplies) false }
     {
-        match self.parts.devices.get(u) {
-            Some(device) => device.is_forced(),
-            None => false,
-        }
+        self.parts.devices.get(u).is_some_and(Device::is_forced)
     }
 
     /// Returns which variables the driver of a UPS has said something about that couldn't be read, if there is such a place:
     /// since the server was made, or since a reload gave the place another UPS or driver.
     pub fn unread(&self, u: usize) -> Option<&Unread> {
-        match self.parts.devices.get(u) {
-            Some(device) => Some(device.unread()),
-            None => None,
-        }
+        self.parts.devices.get(u).map(Device::unread)
     }
 
     /// How many deeds of clients there were: requests that were handed on to a driver, LOGIN, LOGOUT and FSD that were
@@ -458,10 +446,7 @@ impl Server {
         ensures value { result ≡ length (asks_of u self.now.supplies) }
         ensures within { result ≤ ASKS_MAX }
     {
-        match self.parts.devices.get(u) {
-            Some(device) => device.waits(),
-            None => 0,
-        }
+        self.parts.devices.get(u).map_or(0, Device::waits)
     }
 
     /// Returns a front part of the bytes that wait for the driver of a UPS. It is empty only if none wait.

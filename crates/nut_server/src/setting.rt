@@ -52,10 +52,7 @@ fn lists_number(number: i32, ranges: &[Range]) -> bool
 fn is_in_ranges(number: Option<i32>, ranges: &[Range]) -> bool
     ensures { result ≡ is_in_ranges number ranges.now }
 {
-    match number {
-        Some(number) => lists_number(number, ranges),
-        None => false,
-    }
+    number.is_some_and(|number| lists_number(number, ranges))
 }
 
 /// Returns why a variable doesn't allow a value that isn't too long, by the kind of the variable.

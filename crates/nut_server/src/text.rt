@@ -211,6 +211,7 @@ fn put_upses(out: &mut Vec<u8>, config: &Config) -> Result<(), AllocError>
 }
 
 /// Appends the rows of LIST VAR.
+#[tactic(auto, using(std::proofs::lemmas::Grind::common_steps))]
 pub fn put_variables(out: &mut Vec<u8>, ups: &[u8], device: &Device) -> Result<(), AllocError>
     ensures { OnOk result (out.new.items ≡ out.old.items ++ flat_map (λ v. reply_line (var_row ups.now device.now.device v)) device.now.device.table.variables) }
 {
@@ -221,6 +222,7 @@ pub fn put_variables(out: &mut Vec<u8>, ups: &[u8], device: &Device) -> Result<(
     Ok(())
 }
 
+#[tactic(auto, using(std::proofs::lemmas::Grind::common_steps))]
 fn put_writables(out: &mut Vec<u8>, ups: &[u8], device: &Device) -> Result<(), AllocError>
     ensures { OnOk result (out.new.items ≡ out.old.items ++ flat_map (writable_text ups.now device.now.device) device.now.device.table.variables) }
 {
@@ -233,6 +235,7 @@ fn put_writables(out: &mut Vec<u8>, ups: &[u8], device: &Device) -> Result<(), A
     Ok(())
 }
 
+#[tactic(auto, using(std::proofs::lemmas::Grind::common_steps))]
 fn put_commands(out: &mut Vec<u8>, ups: &[u8], device: &Device) -> Result<(), AllocError>
     ensures { OnOk result (out.new.items ≡ out.old.items ++ flat_map (λ k. reply_line (replies.Cmd ups.now k)) device.now.device.table.commands) }
 {
@@ -242,6 +245,7 @@ fn put_commands(out: &mut Vec<u8>, ups: &[u8], device: &Device) -> Result<(), Al
     Ok(())
 }
 
+#[tactic(auto, using(std::proofs::lemmas::Grind::common_steps))]
 fn put_enums(
     out: &mut Vec<u8>,
     ups: &[u8],
@@ -256,6 +260,7 @@ fn put_enums(
     Ok(())
 }
 
+#[tactic(auto, using(std::proofs::lemmas::Grind::common_steps))]
 fn put_ranges(
     out: &mut Vec<u8>,
     ups: &[u8],

@@ -5,6 +5,7 @@ use Rattle.std.specs.List.{AllByRecursion, flat_map, position_or_len}
 use Rattle.std.specs.Str.{bytes_eq}
 use Rattle.std.proofs.lemmas.Bool.{cases_Bool, ltb-true}
 use Rattle.std.proofs.lemmas.Fmt.{length-decimal-le}
+use Rattle.std.proofs.lemmas.List.Sums.{count_by-le-length, length-filter}
 use Rattle.std.proofs.lemmas.Map.Text.{is_eq-slice_cmp}
 use Rattle.std.proofs.lemmas.Slice.Eq.{bytes_eq-Decides}
 use Rattle.nut_conf.specs.declared.limits.TheConstants.{CONNECTIONS_MAX}
@@ -103,8 +104,7 @@ rows_short row [] all = omega arith
 rows_short row (x ∷ xs) all = omega (arith, length-append (reply_line (row x)) (flat_map reply_line (map row xs)), rows_short row xs all.1, all.0)
 
 pub fewer : {X : Type 0} (p : X → Bool) (xs : List X) → length (filter p xs) ≤ length xs
-fewer p [] = omega arith
-fewer p (x ∷ xs) = elim (cases_Bool (p x)) [ inl e ↦ rw e (omega (arith, fewer p xs)) | inr e ↦ rw e (omega (arith, fewer p xs)) ]
+fewer p xs = omega (arith, length-filter p xs, count_by-le-length p xs)
 
 fewer_both : {X : Type 0} (p q : X → Bool) (xs : List X) → length (filter p (filter q xs)) ≤ length (filter p xs)
 fewer_both p q [] = omega arith

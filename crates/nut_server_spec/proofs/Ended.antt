@@ -2,6 +2,7 @@
 use Rattle.std.proofs.Common.{◌≡◌, ℕ, zero, suc, ◌<◌, ◌&&◌, Bool, true, false, not, eqb, List, [], ◌∷◌, ◌++◌, filter, map, length, ◌⊎◌, refl, sym, ◌∙◌, ap, ap₂, subst, arith, inl, inr, Option, Some, None}
 use Rattle.std.specs.List.{AllByRecursion}
 use Rattle.std.proofs.lemmas.Bool.{and_parts, cases_Bool, eq-eqb, eqb-true, ne_eqb, not-true, true≢false}
+use Rattle.std.proofs.lemmas.List.{map-id}
 use Rattle.nut_proto.specs.declared.tracking.TrackingStatus.{TrackingStatus}
 use Rattle.nut_proto.specs.declared.tracking.TrackingStatus.TheVariants.{Pending}
 use Rattle.nut_server_spec.specs.Acceptance.{IsAccepted, close_refusal, down_refusal, is_connected, session_of, supply_of}
@@ -116,10 +117,7 @@ ended_are first h k =
     let p : ℕ → Bool = λ c. is_to_cleared (fate_of k.upses (numbering first t)) (login first c t) in
     ap (λ ks. map (λ j. j.number) ks) (sym (map-filter (session first h) p (λ j. is_to_cleared (fate_of k.upses (numbering first t)) j.login) (open_numbers t) (λ c. refl)))
     ∙ map-twice (session first h) (λ j. j.number) (filter p (open_numbers t))
-    ∙ map_itself (filter p (open_numbers t)) where
-      map_itself : (ns : List ℕ) → map (λ (n : ℕ). n) ns ≡ ns
-      map_itself [] = refl
-      map_itself (n ∷ ns) = ap (λ ms. n ∷ ms) (map_itself ns)
+    ∙ map-id (filter p (open_numbers t))
 
 all_pass : (p : ℕ → Bool) (ns : List ℕ) → AllByRecursion (λ n. p n ≡ true) (filter p ns)
 all_pass p [] = tt

@@ -17,7 +17,7 @@ use Rattle.nut_server_spec.specs.Numbering.{is_taken, Fate, Cleared, fate_of, by
 use Rattle.nut_server_spec.proofs.Numbers.{numbers_up_to}
 use Rattle.nut_server_spec.proofs.Reloads.{law-reload}
 use Rattle.nut_server_spec.proofs.Places.{found_at, below_counts}
-use Rattle.nut_server_spec.proofs.Law.{IsDriverCovered, law-moment, law-close, law-write_failed, law-took, law-driver_up, law-driver_took, law-driver_down}
+use Rattle.nut_server_spec.proofs.Law.{IsDriverCovered, law-moment, law-close, law-took, law-driver_up, law-driver_took, law-driver_down}
 use Rattle.nut_server_spec.proofs.Pieces.{IsCovered, AreDriversCovered, IsThere, law-bytes, law-driver_bytes, covered_bytes, drivers_bytes, request_grows}
 
 -- No session has a number that hasn't been given out.
@@ -219,7 +219,7 @@ keeps-content first h (Bytes c piece) accepted =
     law-bytes first h c piece (all_covered first h c accepted.0) (drivers_covered first h accepted.0) (is_there first h c piece (session_of c (content first h).sessions) refl accepted.1)
 keeps-content first h (Took c n) accepted = law-took first h c n
 keeps-content first h (Close c) accepted = law-close first h c
-keeps-content first h (WriteFailed c) accepted = law-write_failed first h c
+keeps-content first h (WriteFailed c) accepted = law-close first h c
 keeps-content first h (DriverUp u) accepted = law-driver_up first h u
 keeps-content first h (DriverBytes u piece) accepted = law-driver_bytes first h u piece (is_up first h u piece (supply_of u (content first h).supplies) refl accepted.1)
 keeps-content first h (DriverTook u n) accepted = law-driver_took first h u n

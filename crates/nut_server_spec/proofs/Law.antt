@@ -12,7 +12,7 @@ use Rattle.nut_proto.specs.declared.driver_ask.DriverAsk.TheVariants.{Ping}
 use Rattle.nut_proto.specs.DriverAsks.{ask_line}
 use Rattle.nut_server_spec.specs.Effect.{target, number_in, forced_then, request_of, at_target}
 use Rattle.nut_server_spec.specs.Tracking.{with_tracked}
-use Rattle.nut_server_spec.specs.Event.{Event, Moment, Took, Close, WriteFailed, DriverUp, DriverTook, DriverDown, Said, Reported, input, taken, driver_input}
+use Rattle.nut_server_spec.specs.Event.{Event, Moment, Took, Close, DriverUp, DriverTook, DriverDown, Said, Reported, input, taken, driver_input}
 use Rattle.nut_server_spec.specs.Answer.{Answer, text_of}
 use Rattle.nut_server_spec.specs.Trace.{Entry, configuration, numbers, numbering, places, clock, opened, open_numbers, address, user, password, login, logged_out, tracking, given, tracked, due, device, connected, forced, driver_due, driver_taken, driver_waits, ups_numbers, scene, with_request, request_for, ping, pinged_then, pinged_at}
 use Rattle.nut_server_spec.specs.Content.{Session, Supply, Content, past, content, session, supply, down}
@@ -126,9 +126,6 @@ map-without f c (n ∷ ns) numbered =
 
 pub law-close : (first : Configuration) (h : List Event) (c : ℕ) → content first (Close c ∷ h) ≡ advance (content first h) (Close c)
 law-close first h c = ap (λ sessions. with_sessions sessions (content first h)) (map-without (session first h) c (open_numbers (past first h)) (λ d. refl))
-
-pub law-write_failed : (first : Configuration) (h : List Event) (c : ℕ) → content first (WriteFailed c ∷ h) ≡ advance (content first h) (WriteFailed c)
-law-write_failed first h c = law-close first h c
 
 -- ---- a line of c is answered
 

@@ -6,7 +6,7 @@ use Rattle.std.proofs.lemmas.Bool.{cases_Bool, eqb-true}
 use Rattle.nut_words.specs.Lines.{LineText}
 use Rattle.nut_server_spec.specs.Configuration.{Configuration}
 use Rattle.nut_server_spec.specs.Event.{Event, Open, Bytes, Took, Close, WriteFailed, DriverUp, DriverBytes, DriverTook, DriverDown, Reload, Step, Said, Reported, with_lines, with_reports}
-use Rattle.nut_server_spec.specs.Trace.{configuration, connected, numbers, opened, open_numbers, trace}
+use Rattle.nut_server_spec.specs.Trace.{configuration, numbers, opened, open_numbers, trace}
 use Rattle.nut_server_spec.specs.Content.{Session, Content, past, content, session, numbering_of, down, fresh}
 use Rattle.nut_server_spec.specs.Acceptance.{refusal, session_of, supply_of, bytes_refusal, took_refusal, close_refusal, waiting_of, asks_of}
 use Rattle.nut_server_spec.specs.machine.Machine.{advance, bytes_reported, up, drained}
@@ -15,7 +15,7 @@ use Rattle.nut_server_spec.specs.Numbering.{fate_of, is_to_cleared}
 use Rattle.nut_server_spec.proofs.Law.{eqb_turn}
 use Rattle.nut_server_spec.proofs.Numbers.{numbers_up_to}
 use Rattle.nut_server_spec.proofs.Kept.{keeps-content, none_above}
-use Rattle.nut_server_spec.proofs.Sessions.{session_of-filter, session_of-update_other, session_of-without, session_of-without_other, session_of-push, session_of-push_other, bytes_heard-other, waiting_of-took}
+use Rattle.nut_server_spec.proofs.Sessions.{session_of-filter, session_of-update_other, session_of-without_other, session_of-push, session_of-push_other, bytes_heard-other, waiting_of-took}
 use Rattle.nut_server_spec.proofs.Supplies.{supply_of-update, supply_of-update_other, asks_of-drained}
 
 -- An event leaves the sessions of other connections as they are.
@@ -35,12 +35,6 @@ advance-other s e d differ stays = refl
 -- how each event changes its own connection
 pub advance-took : (s : Content) (c n : ℕ) → waiting_of c (advance s (Took c n)).sessions ≡ drop n (waiting_of c s.sessions)
 advance-took s c n = waiting_of-took c n s.sessions
-
-pub advance-close : (s : Content) (c : ℕ) → session_of c (advance s (Close c)).sessions ≡ None
-advance-close s c = session_of-without c s.sessions
-
-pub advance-write_failed : (s : Content) (c : ℕ) → session_of c (advance s (WriteFailed c)).sessions ≡ None
-advance-write_failed s c = session_of-without c s.sessions
 
 pub others-stay : OthersStay
 others-stay first h e d accepted differ stays =
@@ -136,7 +130,3 @@ numbers_lines first d (l ∷ ls) s = numbers_lines first d ls (Said d l ∷ s)
 pub numbers_reports : (first : Configuration) (u : ℕ) (ls : List LineText) (s : List Step) → numbers first (trace first (with_reports u ls s)) ≡ numbers first (trace first s)
 numbers_reports first u [] s = refl
 numbers_reports first u (l ∷ ls) s = numbers_reports first u ls (Reported u l ∷ s)
-
-pub connected_lines : (first : Configuration) (d u : ℕ) (ls : List LineText) (s : List Step) → connected u (trace first (with_lines d ls s)) ≡ connected u (trace first s)
-connected_lines first d u [] s = refl
-connected_lines first d u (l ∷ ls) s = connected_lines first d u ls (Said d l ∷ s)

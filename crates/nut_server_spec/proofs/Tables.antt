@@ -1,5 +1,5 @@
 -- A table that lines have filled is within its limits.
-use Rattle.std.proofs.Common.{◌≡◌, ℕ, zero, suc, ◌<◌, ◌≤◌, ◌^◌, Bool, true, List, [], ◌∷◌, ◌++◌, length, reverse, refl, sym, subst, ◌∙◌, ap, arith, inl, inr, Option, Some, None}
+use Rattle.std.proofs.Common.{◌≡◌, ℕ, zero, suc, ◌<◌, ◌≤◌, ◌^◌, Bool, true, List, [], ◌∷◌, ◌++◌, length, reverse, refl, sym, subst, ◌∙◌, ap, arith, rules, inl, inr, Option, Some, None}
 use Rattle.std.specs.Prelude.{ℤ, pos, neg_ℤ, ◌==◌, if◌then◌else◌, filter, find, not, int_le, option_map, is_some}
 use Rattle.std.specs.Int.Signed.{mag}
 use Rattle.std.specs.List.{AllByRecursion, list_any}
@@ -38,9 +38,6 @@ is_below text n is =
       | inr e ↦ absurd (let bad : None ≡ Some n = rw e at is in cc)
     ]
 
-mag_pos : (n : ℕ) → mag (pos n) ≤ n
-mag_pos n = omega arith
-
 mag_neg : (n : ℕ) → mag (neg_ℤ (pos n)) ≤ n
 mag_neg zero = omega arith
 mag_neg (suc n) = omega arith
@@ -54,7 +51,7 @@ whole_below [] z is = absurd (cc)
 whole_below (c ∷ cs) z is =
     elim (cases_Bool (c == 45)) [
       | inl e ↦ by_natural (natural cs) (λ n. neg_ℤ (pos n)) z mag_neg (is_below cs) (rw e at is)
-      | inr e ↦ by_natural (natural (c ∷ cs)) pos z mag_pos (is_below (c ∷ cs)) (rw e at is)
+      | inr e ↦ by_natural (natural (c ∷ cs)) pos z (λ n. omega arith) (is_below (c ∷ cs)) (rw e at is)
     ]
 
 -- Both numbers of a range have at most nine digits.
@@ -93,52 +90,7 @@ range_short ws name r is =
 
 -- what each verb asks for
 verbs_short : AllByRecursion (λ verb. (ws : List (List ℕ)) → AddsShort (asked_by verb ws)) all_verbs
-verbs_short = (
-  λ ws name r is. absurd (cc),
-  (
-    λ ws name r is. absurd (cc),
-    (
-      λ ws name r is. absurd (cc),
-      (
-        λ ws name r is. absurd (cc),
-        (
-          λ ws name r is. range_short ws name r is,
-          (
-            λ ws name r is. absurd (cc),
-            (
-              λ ws name r is. absurd (cc),
-              (
-                λ ws name r is. absurd (cc),
-                (
-                  λ ws name r is. absurd (cc),
-                  (
-                    λ ws name r is. absurd (cc),
-                    (
-                      λ ws name r is. absurd (cc),
-                      (
-                        λ ws name r is. absurd (cc),
-                        (
-                          λ ws name r is. absurd (cc),
-                          (
-                            λ ws name r is. absurd (cc),
-                            (
-                              λ ws name r is. absurd (cc),
-                              tt,
-                            ),
-                          ),
-                        ),
-                      ),
-                    ),
-                  ),
-                ),
-              ),
-            ),
-          ),
-        ),
-      ),
-    ),
-  ),
-)
+verbs_short = (search rules, (search rules, (search rules, (search rules, (range_short, (search rules, (search rules, (search rules, (search rules, (search rules, (search rules, (search rules, (search rules, (search rules, (search rules, tt)))))))))))))))
 
 found_passes : {X : Type 0} (P : X → Type 0) (p : X → Bool) (xs : List X) (x : X) → AllByRecursion P xs → find p xs ≡ Some x → P x
 found_passes P p [] x all is = absurd (cc)

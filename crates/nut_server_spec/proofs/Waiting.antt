@@ -27,8 +27,8 @@ use Rattle.nut_server_spec.specs.laws.Limits.{IsWithin, WaitsAreBounded, most_wa
 use Rattle.nut_server_spec.proofs.Alls.{all_append, all_filter, all_map}
 use Rattle.nut_server_spec.proofs.AnswerLengths.{IsFit, IsShortScene, answer_fit, fewer, fit_silence, IsReadableCommand, readable-command}
 use Rattle.nut_server_spec.proofs.Kept.{keeps-content, session_is}
-use Rattle.nut_server_spec.proofs.Others.{advance-other, advance-took, advance-close, advance-write_failed, opened-fresh, configuration_lines, configuration_reports}
-use Rattle.nut_server_spec.proofs.Sessions.{bytes_heard-keeps, session_of-update, session_of-filter}
+use Rattle.nut_server_spec.proofs.Others.{advance-other, advance-took, opened-fresh, configuration_lines, configuration_reports}
+use Rattle.nut_server_spec.proofs.Sessions.{bytes_heard-keeps, session_of-update, session_of-filter, session_of-without}
 use Rattle.nut_server_spec.proofs.Tables.{IsShortTable, table_short}
 use Rattle.nut_server_spec.specs.declared.limits.TheConstants.{ADDRESS_MAX, OPENED_MAX}
 use Rattle.nut_server_spec.specs.Numbering.{fate_of, is_to_cleared}
@@ -359,9 +359,9 @@ module _ (first : Configuration) (h : List Event) (d : ℕ) (short : IsShort (co
       let before : length (waiting_of c s.sessions) ≤ most_waits = waiting_bounded (session_of c s.sessions) (λ j found. bounded j (ap (λ m. session_of m s.sessions) (sym is) ∙ found)) in
       omega (arith, ap length left, length-drop n (waiting_of c s.sessions), before))
   bounded_advance (Close c) accepted = bounded_of (Close c) c refl refl (λ is k there.
-      absurd (let bad : None ≡ Some k = sym (advance-close (content first h) c) ∙ ap (λ m. session_of m (advance (content first h) (Close c)).sessions) is ∙ there in cc))
+      absurd (let bad : None ≡ Some k = sym (session_of-without c (content first h).sessions) ∙ ap (λ m. session_of m (advance (content first h) (Close c)).sessions) is ∙ there in cc))
   bounded_advance (WriteFailed c) accepted = bounded_of (WriteFailed c) c refl refl (λ is k there.
-      absurd (let bad : None ≡ Some k = sym (advance-write_failed (content first h) c) ∙ ap (λ m. session_of m (advance (content first h) (WriteFailed c)).sessions) is ∙ there in cc))
+      absurd (let bad : None ≡ Some k = sym (session_of-without c (content first h).sessions) ∙ ap (λ m. session_of m (advance (content first h) (WriteFailed c)).sessions) is ∙ there in cc))
   bounded_advance (Reload c) accepted = λ k there. was_open k there (session_of d (content first h).sessions) refl where
     q : Session → Bool
     q j = not (is_to_cleared (fate_of c.upses (numbering_of (content first h))) j.login)

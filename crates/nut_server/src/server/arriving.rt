@@ -23,6 +23,7 @@ fn tick_all(devices: &mut [Device], max_age: u64, time: u64)
 
 impl Parts {
     /// Notes that at least `t` seconds have passed since the start. Allocates no memory.
+    #[tactic(auto, using(std::proofs::lemmas::Grind::common_steps))]
     pub(super) fn moment(&mut self, t: u64)
         ensures { self.new ≡ advance self.old (Moment t) }
     {
@@ -53,6 +54,7 @@ impl Parts {
     }
 
     /// Handles a piece of a connection. If memory runs out in it, the connection is closed.
+    #[tactic(auto, using(std::proofs::lemmas::Grind::common_steps))]
     pub(super) fn bytes(&mut self, c: u64, piece: &[u8]) -> Result<(), Refused>
         ensures answered { Answers self.old (Bytes c piece.now) result }
         ensures content { self.new ≡ content_after result self.old (Bytes c piece.now) }

@@ -133,10 +133,7 @@ impl Server {
     pub fn ups_name(&self, u: usize) -> Option<&[u8]>
         ensures { option_map (λ name. name.now) result ≡ option_map (λ ups. ups.name) (ups_with u (numbering_of self.now)) }
     {
-        match self.parts.numbering().ups_with(u) {
-            Some(ups) => Some(ups.name),
-            None => None,
-        }
+        self.parts.numbering().ups_with(u).map(|ups| ups.name)
     }
 
     /// Returns what a reload of this configuration ends, if it comes now.

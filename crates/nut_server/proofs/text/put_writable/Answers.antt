@@ -1,13 +1,12 @@
-use Rattle.std.proofs.Common.{◌≡◌, codes, ◌∙◌}
-use Rattle.nut_server.specs.inside.Rows.{row_front}
-use Rattle.nut_server.proofs.KeptRows.{rw_kept, not_forced}
-use Rattle.nut_server.proofs.Results.{on_ok, some_of}
+use Rattle.std.proofs.Common.{sym, ◌∙◌}
+use Rattle.nut_server.proofs.KeptRows.{rw_kept}
+use Rattle.nut_server.proofs.Results.{on_ok}
 use Rattle.nut_server.proofs.text.put_writable.Goals as goal
 
 pub returns : goal.returns
 returns c =
     on_ok c.put_row.result _ _ (λ appended. rw_kept c.args.ups.now c.args.device.now.device c.args.variable.now c.as_slice.result.now c.in-Some-row_end.end.now c.args.out.now.items c.put_row.new.out.items
-    (not_forced _ _ c.if-not-shows_forced.true c.shows_forced.ensures)
-    (c.as_slice.ensures.value ∙ some_of c.args.front.now c.in-Some.front (λ front. front.items ≡ row_front (codes "RW") c.args.ups.now) c.in-Some.is c.requires)
+    (sym c.if-not-shows_forced.true ∙ c.shows_forced.ensures)
+    (c.as_slice.ensures.value ∙ (rw c.in-Some.is at c.requires))
     c.in-Some-row_end.ensures.text appended)
     c.put_row.ensures

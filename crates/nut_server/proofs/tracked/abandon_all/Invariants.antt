@@ -1,6 +1,6 @@
 use Rattle.std.proofs.Common.{◌≡◌}
 use Rattle.nut_server_spec.specs.Tracking.{abandoned}
-use Rattle.nut_server.proofs.Swept.{swept}
+use Rattle.nut_server.proofs.FatesMet.{swept}
 use Rattle.nut_server.proofs.tracked.abandon_all.Given as goal
 
 abbrev pub invariant-loop-request : goal.invariant-loop-request

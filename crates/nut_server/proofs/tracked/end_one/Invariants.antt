@@ -1,6 +1,6 @@
 use Rattle.std.proofs.Common.{◌≡◌, Some}
 use Rattle.nut_server_spec.specs.Tracking.{ended_by}
-use Rattle.nut_server.proofs.Swept.{swept}
+use Rattle.nut_server.proofs.FatesMet.{swept}
 use Rattle.nut_server.proofs.tracked.end_one.Given as goal
 
 abbrev pub invariant-loop-request : goal.invariant-loop-request

@@ -5,7 +5,6 @@ use Rattle.nut_server_spec.specs.machine.Machine.{bytes_reported}
 use Rattle.nut_server_spec.specs.Content.{down}
 use Rattle.nut_server.specs.contracts.device.Device.{the_view}
 use Rattle.nut_server.proofs.Reports.{report_heard, report_stopped}
-use Rattle.nut_server.proofs.Results.{err_of, ok_of}
 use Rattle.nut_server.proofs.device.Device.hear.Goals as goal
 
 pub returns-in-Ok-clause-ok : goal.returns-in-Ok-clause-ok
@@ -13,7 +12,7 @@ returns-in-Ok-clause-ok c =
     let h = c.hear_lines-done in
     let d = the_view c.self.inside in
     report_heard c.args.time c.self.invariant.0 c.args.piece.now d.rest h.new.cutter d.device h.new.hearer c.args.self.now c.self.invariant.1 c.self.view_is
-    (ok_of h.result.1 c.in-Ok.field-0 _ c.in-Ok.is h.ensures.rest) (ok_of h.result.1 c.in-Ok.field-0 _ c.in-Ok.is h.ensures.heard)
+    (rw c.in-Ok.is at h.ensures.rest) (rw c.in-Ok.is at h.ensures.heard)
 
 -- where it stopped
 stopped : (c : goal.After-down) → (c.hear_lines-done.result.0 < line_feeds c.args.piece.now)
@@ -22,7 +21,7 @@ stopped : (c : goal.After-down) → (c.hear_lines-done.result.0 < line_feeds c.a
 stopped c =
     let h = c.hear_lines-done in
     let d = the_view c.self.inside in
-    report_stopped c.args.time c.self.invariant.0 c.args.piece.now d.rest h.new.cutter d.device h.new.hearer c.args.self.now h.result.0 c.self.invariant.1 c.self.view_is (err_of h.result.1 c.in-Err.field-0 _ c.in-Err.is h.ensures.stops)
+    report_stopped c.args.time c.self.invariant.0 c.args.piece.now d.rest h.new.cutter d.device h.new.hearer c.args.self.now h.result.0 c.self.invariant.1 c.self.view_is (rw c.in-Err.is at h.ensures.stops)
 
 pub returns-in-Err-clause-lost : goal.returns-in-Err-clause-lost
 returns-in-Err-clause-lost c = c.down.ensures ∙ (stopped c).1

@@ -1,7 +1,9 @@
-use Rattle.std.proofs.Common.{◌≡◌, ◌∙◌, ap, sym, subst, map, true}
+use Rattle.std.proofs.Common.{arith, ◌≡◌, ◌∙◌, ap, sym, subst, map, true}
+use Rattle.std.proofs.lemmas.List.{length-map}
+use Rattle.nut_server_spec.specs.Content.{Supply}
 use Rattle.nut_server.specs.inside.Effects.{IsPossible, forced, requesting}
 use Rattle.nut_server.proofs.Acting.{update_at_written, device_there, requesting_connected}
-use Rattle.nut_server.proofs.Deciding.{is_there, is_within}
+use Rattle.nut_server.proofs.Deciding.{is_there}
 use Rattle.nut_server.proofs.effect.Effect.act.Goals as goal
 
 pub returns-in-Force-clause-value : goal.returns-in-Force-clause-value
@@ -9,7 +11,7 @@ returns-in-Force-clause-value c =
     let ds = c.args.devices.now.items in
     let u = c.in-Force.u in
     let possible = subst (λ e. IsPossible (map (λ d. d.device) ds) e c.args.line.now) c.in-Force.is c.requires in
-    rw c.in-Force.is (update_at_written u forced ds c.index_mut.result.now c.force.new.self (is_within ds u possible) c.index_mut.ensures.value c.force.ensures)
+    rw c.in-Force.is (update_at_written u forced ds c.index_mut.result.now c.force.new.self (omega (arith, possible, length-map ds (λ (d : Supply). d.device))) c.index_mut.ensures.value c.force.ensures)
 
 pub returns-in-Ask-clause-value : goal.returns-in-Ask-clause-value
 returns-in-Ask-clause-value c =

@@ -2,7 +2,6 @@ use Rattle.std.proofs.Common.{◌≡◌, Some, ap, sym, ◌∙◌, slice_get}
 use Rattle.nut_proto.specs.PlainQueries.{request_of}
 use Rattle.std.proofs.lemmas.Result.{err_from_is_err_and}
 use Rattle.nut_server.proofs.PlainLines.{plain_heard, plain_missed}
-use Rattle.nut_server.proofs.Results.{match_at_err}
 use Rattle.nut_server.proofs.server.Parts.hear_first.Goals as goal
 
 pub returns-in_err-hear_query : goal.returns-in_err-hear_query
@@ -11,7 +10,7 @@ returns-in_err-hear_query c = record {
       let found : Some c.at-client.result.now ≡ Some k = sym c.at-client.ensures ∙ ap (λ s. slice_get s.sessions c.args.at) c.self.view_is ∙ there in
       let same : c.at-client.result.now ≡ k = cc in
       let fault = err_from_is_err_and c.from_residual.result c.from_residual.ensures.1 in
-      match_at_err c.from_residual.result fault.0 _ _ fault.1
+      rw fault.1
       (plain_missed k c.args.bytes.now c.in-Some.after.now c.args.self.now _ (request_of c.in-Some.query) c.in-Some.ensures.told
       (ap (λ k. k.rest) (sym same) ∙ c.is_at_start.ensures.0 c.if-not-is_at_start.false)
       (ap (λ k. k.logged_out) (sym same) ∙ sym c.has_logged_out.ensures ∙ c.if-not-has_logged_out.true)

@@ -1,4 +1,4 @@
-use Rattle.std.proofs.Common.{◌≡◌, ◌≤◌, ◌<◌, ℕ, Bool, ◌∙◌, ap, arith, length, not, subst, sym}
+use Rattle.std.proofs.Common.{filter, ◌≡◌, ◌≤◌, ◌<◌, ℕ, Bool, ◌∙◌, ap, arith, length, not, subst, sym}
 use Rattle.std.specs.List.{AllByRecursion}
 use Rattle.std.specs.Vec.{with_items}
 use Rattle.std.proofs.lemmas.List.{with_items_is}
@@ -10,7 +10,10 @@ use Rattle.nut_server_spec.specs.machine.Machine.{fated}
 use Rattle.nut_server_spec.proofs.Numbering.{renumbered_below}
 use Rattle.nut_server.specs.contracts.server.Parts.{the_view}
 use Rattle.nut_server.specs.inside.Inside.{numbers_of}
-use Rattle.nut_server.proofs.Reloaded.{IsUpTo-filter, changed_long, fewer_numbers, put_in}
+use Rattle.nut_server.proofs.Arrives.{numbers-length}
+use Rattle.nut_server_spec.proofs.AnswerLengths.{fewer}
+use Rattle.nut_server.proofs.Orderly.{IsUpTo-filter}
+use Rattle.nut_server.proofs.Reloaded.{changed_long, put_in}
 use Rattle.nut_server.proofs.server.Parts.put_in_force.Goals as goal
 
 pub invariant_of-self : goal.invariant_of-self
@@ -35,7 +38,7 @@ invariant_of-self c =
     record {
       up_to = subst (λ ks. IsUpTo old.opened (numbers_of ks)) (sym c.close_cleared.ensures) (IsUpTo-filter stays old.opened old.connections c.self.invariant.up_to);
       few = c.self.invariant.few;
-      within = omega (arith, ap (λ ks. length (numbers_of ks)) c.close_cleared.ensures, fewer_numbers stays old.connections, c.self.invariant.within);
+      within = omega (arith, ap (λ ks. length (numbers_of ks)) c.close_cleared.ensures, numbers-length (filter stays old.connections), numbers-length old.connections, fewer stays old.connections, c.self.invariant.within);
       limits = subst IsWithin (sym c.replace.ensures.after) c.is_within_limits.ensures;
       placed = subst (λ m. AllByRecursion (λ n. n < m) c.renumbered-numbers.result.items) (sym same) (subst (λ ns. AllByRecursion (λ n. n < length old.devices.items) ns) (sym numbers) placed);
       places = omega (arith, same, c.self.invariant.places);
