@@ -24,11 +24,11 @@ use Rattle.nut_monitor_spec.specs.Trace as monitor
 use Rattle.nut_monitor_spec.proofs.Kept as monitor_kept
 use Rattle.nut_monitor_spec.proofs.Lists.{get_at}
 use Rattle.nut_fleet.specs.Schedule.{Step, ServerClock, MonitorClock, Up, Driver, Down, Link, Out, Reach, Back, Land, CutServer, CutMonitor, Other}
-use Rattle.nut_fleet.specs.World.{Setup, World, Deed, Skip, Tell, Inform, Join, monitor_of, seen, served, known, is_open, is_linked, to_server, to_monitor, server_waits, monitor_waits, tell, inform, carried, counted, moved, address_of, has_link, is_fit, deed, deed_of, all_taken, informed, for_monitor, after, world}
+use Rattle.nut_fleet.specs.World.{Setup, World, Deed, Skip, Tell, Inform, Join, monitor_of, seen, served, known, is_open, is_linked, to_server, to_monitor, server_waits, monitor_waits, tell, inform, carried, counted, moved, address_of, has_link, is_fit, deed_of, all_taken, informed, for_monitor, after, world, deed}
 use Rattle.nut_fleet.specs.Fleet.{IsSetup}
 use Rattle.nut_fleet.specs.Log.{Noticed, turned, news, news_of}
 use Rattle.nut_fleet.specs.Moves.{reached, sent_off, landed, put_in, makes, ContentsTell}
-use Rattle.nut_fleet.specs.Seen.{Ends, Fleet, Stands, open_seen, linked_seen, tell_seen, inform_seen, deed_by, KeepsLink, Keeps}
+use Rattle.nut_fleet.specs.Seen.{Ends, Fleet, Stands, open_seen, linked_seen, KeepsLink, Keeps, tell_seen, inform_seen, deed_by}
 use Rattle.nut_fleet.specs.machine.Going.{what_counts, told_on, hushed, informed_on, with_ends, put_on, ends_reached, ends_back, ends_out, ends_landed, ends_made, moved_by, moved_on, heard_news, news_by, news_seen, FleetsGoOn}
 use Rattle.nut_fleet.proofs.Sound.{Sound, IsLawful}
 use Rattle.nut_fleet.proofs.Steps.{for-own, for-other, line-within, zero-closed, is_none-true, some-there}
@@ -471,9 +471,8 @@ module _ (setup : Setup) (earlier : List Step) (s : Sound setup earlier (world s
 
   if-same : (a b : Bool) (x y : List ℕ) → a ≡ b → (b ≡ true → x ≡ y) → (if a then x else []) ≡ (if b then y else [])
   if-same true true x y e same = same refl
-  if-same true false x y e same = cc
-  if-same false true x y e same = cc
   if-same false false x y e same = refl
+  if-same _ _ x y e same = cc
 
   pub counts-so : Stands setup w (what_counts f)
   counts-so = record {
@@ -488,8 +487,7 @@ module _ (setup : Setup) (earlier : List Step) (s : Sound setup earlier (world s
 module _ (setup : Setup) (w : World) (tells : ContentsTell setup w) (f : Fleet) (stands : Stands setup w (what_counts f)) where
   if-true : (a b : Bool) (x y : List ℕ) → a ≡ b → b ≡ true → (if a then x else []) ≡ (if b then y else []) → x ≡ y
   if-true true true x y e up same = same
-  if-true true false x y e up same = cc
-  if-true false b x y e up same = cc
+  if-true _ _ x y e up same = cc
 
   pub kept-so : Keeps setup w f
   kept-so = record {

@@ -1,5 +1,5 @@
 -- A reload in a schedule leaves a fleet's server its UPSes, with their drivers and numbers, its users and its MAXAGE.
-use Rattle.std.proofs.Common.{◌≡◌, ℕ, zero, suc, ◌+◌, ◌<◌, ◌++◌, ◌&&◌, ◌||◌, true, not, min, max, eqb, ltb, List, [], ◌∷◌, length, take, refl, sym, ◌∙◌, ap, subst, arith, Option, Some, None, is_none}
+use Rattle.std.proofs.Common.{◌≡◌, ℕ, zero, suc, ◌+◌, ◌<◌, not, max, eqb, ltb, List, [], ◌∷◌, length, refl, sym, ◌∙◌, ap, subst, arith, Option, Some, None, ◌++◌, ◌&&◌, ◌||◌, true, min, take, is_none}
 use Rattle.std.specs.Prelude.{if◌then◌else◌, option_map, position, slice_get}
 use Rattle.std.specs.List.{position_or_len}
 use Rattle.std.specs.Option.{option_and_then}
@@ -9,10 +9,9 @@ use Rattle.std.proofs.lemmas.List.{map-id}
 use Rattle.std.proofs.lemmas.List.Quantifiers.{position-Some}
 use Rattle.std.proofs.lemmas.Slice.Eq.{bytes_eq-Decides}
 use Rattle.nut_words.specs.Lines.{LineText}
-use Rattle.nut_words.specs.declared.limits.TheConstants.{PIECE_MAX}
 use Rattle.nut_server_spec.specs.Configuration.{Configuration, Ups, number_of_ups}
 use Rattle.nut_server_spec.specs.Content.{past}
-use Rattle.nut_server_spec.specs.Event.{Step, Clock, Opened, Said, Gone, Up, Reported, Drained, Down, Reloaded, steps, with_lines, with_reports, brought, input, driver_input}
+use Rattle.nut_server_spec.specs.Event.{Step, Said, Reported, Reloaded, steps, with_lines, with_reports, brought, input, driver_input}
 use Rattle.nut_server_spec.specs.Event as arrivals
 use Rattle.nut_server_spec.specs.Acceptance as server_tests
 use Rattle.nut_server_spec.specs.Numbering.{Kept, Numbering, below, fate_between, first_numbers, number_of, renumbered, ups_with, with_numbers}
@@ -21,8 +20,9 @@ use Rattle.nut_server_spec.proofs.Places.{IsCount, below-length, below_counts, g
 use Rattle.nut_monitor_spec.specs.Event as events
 use Rattle.nut_monitor_spec.specs.Acceptance as monitor_tests
 use Rattle.nut_fleet.specs.Schedule as schedules
-use Rattle.nut_fleet.specs.World.{Setup, World, Tell, Inform, Join, served, known, is_open, is_linked, to_server, to_monitor, server_waits, monitor_waits, tell, inform, carried, counted, moved, address_of, deed_of, described, heeded, is_fit, is_other, kept_from, may_tell, after, world}
+use Rattle.nut_fleet.specs.World.{Setup, World, counted, described, kept_from, world, Tell, Inform, Join, served, known, is_open, is_linked, to_server, to_monitor, server_waits, monitor_waits, tell, inform, carried, moved, address_of, deed_of, heeded, is_fit, is_other, may_tell, after}
 use Rattle.nut_fleet.proofs.Deeds.{IsFair, each-deed}
+use Rattle.nut_words.specs.declared.limits.TheConstants.{PIECE_MAX}
 
 -- ---- a server whose reloads keep its UPSes
 
@@ -54,15 +54,13 @@ IsAsMade first t = AreFirst first (configuration first t) (numbers first t) (pla
 -- ---- UPSes with other descriptions
 
 described-length : (upses new : List Ups) → length (described upses new) ≡ length upses
-described-length [] new = refl
-described-length (x ∷ upses) [] = refl
 described-length (x ∷ upses) (y ∷ new) = ap suc (described-length upses new)
+described-length _ _ = refl
 
 described-place : (name : List ℕ) (upses new : List Ups) →
     position_or_len (λ (x : Ups). bytes_eq x.name name) (described upses new) ≡ position_or_len (λ (x : Ups). bytes_eq x.name name) upses
-described-place name [] new = refl
-described-place name (x ∷ upses) [] = refl
 described-place name (x ∷ upses) (y ∷ new) = ap (λ n. if not (bytes_eq x.name name) then 1 + n else 0) (described-place name upses new)
+described-place name _ _ = refl
 
 described-number : (name : List ℕ) (upses new : List Ups) → number_of_ups name (described upses new) ≡ number_of_ups name upses
 described-number name upses new =
@@ -70,10 +68,9 @@ described-number name upses new =
     ∙ ap (λ m. if ltb (position_or_len (λ (x : Ups). bytes_eq x.name name) upses) m then Some (position_or_len (λ (x : Ups). bytes_eq x.name name) upses) else None) (described-length upses new)
 
 described-alike : (u : ℕ) (upses new : List Ups) → shape (slice_get (described upses new) u) ≡ shape (slice_get upses u)
-described-alike u [] new = refl
-described-alike u (x ∷ upses) [] = refl
-described-alike zero (x ∷ upses) (y ∷ new) = refl
 described-alike (suc u) (x ∷ upses) (y ∷ new) = described-alike u upses new
+described-alike zero (x ∷ upses) (y ∷ new) = refl
+described-alike u _ _ = refl
 
 kept-first : (first new : Configuration) (given : List ℕ) (count : ℕ) → given ≡ first_numbers first.upses → count ≡ length first.upses → AreFirst first (kept_from first new) given count
 kept-first first new given count numbered counted = record {
@@ -88,14 +85,6 @@ kept-first first new given count numbered counted = record {
 
 pub as-made : (first : Configuration) (s : List Step) → KeepsRoom first s → IsAsMade first (trace first s)
 as-made first [] kept = record { users = refl; max_age = refl; as_many = refl; named = λ name. refl; alike = λ u. refl; numbered = refl; counted = refl }
-as-made first (Clock t ∷ s) kept = as-made first s kept
-as-made first (Opened address ∷ s) kept = as-made first s kept
-as-made first (Said c line ∷ s) kept = as-made first s kept
-as-made first (Gone c ∷ s) kept = as-made first s kept
-as-made first (Up u ∷ s) kept = as-made first s kept
-as-made first (Reported u line ∷ s) kept = as-made first s kept
-as-made first (Drained u n ∷ s) kept = as-made first s kept
-as-made first (Down u ∷ s) kept = as-made first s kept
 as-made first (Reloaded k ∷ s) kept =
     let before = as-made first s kept.3 in
     let count = before.counted in
@@ -103,6 +92,7 @@ as-made first (Reloaded k ∷ s) kept =
     subst (λ (x : Configuration). AreFirst first x (renumbered k.upses (numbering first (trace first s))) (max (places first (trace first s)) (length k.upses))) (sym kept.1)
     (kept-first first kept.0 (renumbered k.upses (numbering first (trace first s))) (max (places first (trace first s)) (length k.upses)) (kept.2 ∙ before.numbered)
     (omega (arith, count, many)))
+as-made first (_ ∷ s) kept = as-made first s kept
 
 -- ---- the numbers of its UPSes
 
@@ -130,13 +120,6 @@ number-stays first t name made =
 
 -- ---- what becomes of its UPSes
 
-position-here : (w n : ℕ) (ns : List ℕ) → n ≡ w → position (λ m. eqb m w) (n ∷ ns) ≡ Some 0
-position-here w n ns same = rw (eq-eqb n w same, lt-ltb 0 (suc (length ns)) (omega arith)) refl
-
-position-next : (w n : ℕ) (ns : List ℕ) (u : ℕ) → (n ≡ w → ⊥) → position_or_len (λ m. eqb m w) ns ≡ u → u < length ns → position (λ m. eqb m w) (n ∷ ns) ≡ Some (suc u)
-position-next w n ns u differ at less =
-    rw (ne_eqb n w differ) (rw at (rw (lt-ltb (1 + u) (suc (length ns)) (omega (arith, less))) (ap (λ x. Some x) (let e : 1 + u ≡ suc u = omega arith in e))))
-
 -- among numbers that count up, each has its place
 place-counted : (u w k : ℕ) (ns : List ℕ) → IsCount k ns → w ≡ u + k → u < length ns → position_or_len (λ m. eqb m w) ns ≡ u
 place-counted u w k [] counts is less = absurd (omega (arith, less))
@@ -162,13 +145,12 @@ get-some (x ∷ upses) zero less = (x, refl)
 get-some (x ∷ upses) (suc u) less = get-some upses u (omega (arith, less))
 
 fate-kept : (o other : Option Ups) (x : Ups) → shape o ≡ shape (Some x) → shape other ≡ shape (Some x) → fate_between o other ≡ Kept
-fate-kept None other x old new = cc
-fate-kept (Some y) None x old new = cc
 fate-kept (Some y) (Some z) x old new =
     let both : (let p : List ℕ × List ℕ = (y.name, y.driver) in p) ≡ (let p : List ℕ × List ℕ = (z.name, z.driver) in p) = cc in
     let name : y.name ≡ z.name = ap (λ (p : List ℕ × List ℕ). p.0) both in
     let driver : y.driver ≡ z.driver = ap (λ (p : List ℕ × List ℕ). p.1) both in
     rw ((bytes_eq-Decides y.name z.name).1 name, (bytes_eq-Decides y.driver z.driver).1 driver) refl
+fate-kept _ _ x old new = cc
 
 pub stays-kept : (first : Configuration) (s : List Step) (k : Configuration) (u : ℕ) → KeepsRoom first (Reloaded k ∷ s) → u < length first.upses → fate_at first (trace first s) (Reloaded k) u ≡ Kept
 stays-kept first s k u kept less =

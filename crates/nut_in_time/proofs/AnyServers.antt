@@ -7,11 +7,11 @@ use Rattle.nut_monitor_spec.specs.Event.{Event}
 use Rattle.nut_monitor_spec.specs.Trace.{Entry, begun, clock, critical, entry_of, has_begun, is_any, is_over_at, is_short, linked, phase, status, trace}
 use Rattle.nut_in_time.specs.AnyServers.{Always, EachGiven, IsEven, IsTold, MachinesStopAsTold}
 use Rattle.nut_in_time.specs.Pace.{Pace, IsPolled, IsPrompt, Says}
-use Rattle.nut_in_time.specs.InTime.{BeginsBy, IsKnown, has_fsd, is_low, secondary_by, seen_by, to_halted, turn}
-use Rattle.nut_in_time.proofs.Beginning.{Urgent, fsd-critical, lasts-know, low-critical, urgent-begin, urgent-next}
-use Rattle.nut_in_time.proofs.Calming.{Secondaries, calm-at, calm-first, late-begun, secondaries-next, seen-first}
+use Rattle.nut_in_time.specs.InTime.{BeginsBy, has_fsd, is_low, secondary_by, seen_by, to_halted, turn}
+use Rattle.nut_in_time.proofs.Beginning.{fsd-critical, lasts-know, low-critical, begins-by}
+use Rattle.nut_in_time.proofs.Calming.{seen-first, late-by}
 use Rattle.nut_in_time.proofs.Ending.{EndsInTime, earliest-sooner, earliest-stays, ends-next, halted-then}
-use Rattle.nut_in_time.proofs.Lasting.{AllGood, Chosen, Lasts}
+use Rattle.nut_in_time.proofs.Lasting.{AllGood, Chosen, Lasts, Along}
 use Rattle.nut_in_time.proofs.Starting.{old-first}
 
 pub always-now : (configuration : Configuration) (Holds : List Entry → Type 0) (first newest : List Event) → Always configuration Holds first newest →
@@ -48,15 +48,13 @@ module _ (configuration : Configuration) (pace : Pace) (Words : List (List ℕ) 
       let now = always-now configuration (λ past. (linked i past ≡ true) × IsPrompt pace i past) first newest (keeps i less is) in
       record { accepted = accepted; there = now.0; prompt = now.1; given = says i less is }
 
-  -- event by event
-  since : (P : List Event → Type 0) → P first → ((told : List Event) (event : Event) → AllGood configuration (length first) pace Words low told →
-      AllGood configuration (length first) pace Words low (event ∷ told) → clock (trace configuration (event ∷ told)) ≤ clock (trace configuration told) + suc pace.skip → P told → P (event ∷ told)) →
-      (newest : List Event) → IsAccepted configuration (newest ++ first) → IsEven configuration pace first newest → Keeps newest → Given newest → P (newest ++ first)
-  since P base on [] accepted even keeps says = base
-  since P base on (event ∷ newest) accepted even keeps says =
+  since : (newest : List Event) → IsAccepted configuration (newest ++ first) → IsEven configuration pace first newest → Keeps newest → Given newest →
+      Along configuration (length first) pace Words low first (newest ++ first)
+  since [] accepted even keeps says P base on = base
+  since (event ∷ newest) accepted even keeps says P base on =
       let keeps' : Keeps newest = λ i less is. (keeps i less is).1 in
       let says' : Given newest = λ i less is. (says i less is).1 in
-      on (newest ++ first) event (good newest accepted.0 keeps' says') (good (event ∷ newest) accepted keeps says) even.0 (since P base on newest accepted.0 even.1 keeps' says')
+      on (newest ++ first) event (good newest accepted.0 keeps' says') (good (event ∷ newest) accepted keeps says) even.0 (since newest accepted.0 even.1 keeps' says' P base on)
 
   -- at the beginning
   lasts-at : (turn : ℕ) → AllGood configuration (length first) pace Words low first → Chosen configuration low (λ i. IsPolled i (trace configuration first)) →
@@ -90,6 +88,9 @@ module _ (configuration : Configuration) (pace : Pace) (Words : List (List ℕ) 
   lasts-first : (turn : ℕ) → Lasts configuration (length first) (clock (trace configuration first)) turn pace Words low first
   lasts-first turn = lasts-at configuration pace Words low first turn good-first (λ i less l. (is.lines i less l).0)
 
+  along : Along configuration (length first) pace Words low first (newest ++ first)
+  along = since configuration pace Words low first newest is.accepted is.even all-keep all-given
+
   -- the shutdown continues to Halted
   halts : (latest : ℕ) → clock (trace configuration first) ≤ latest → (later : List Event) → has_begun configuration (trace configuration (newest ++ first)) ≡ true →
       clock (begun configuration (trace configuration (newest ++ first))) ≤ latest → IsEven configuration pace (newest ++ first) later →
@@ -111,49 +112,9 @@ module _ (configuration : Configuration) (pace : Pace) (Words : List (List ℕ) 
       let n0 = length first in
       let t0 = clock (trace configuration first) in
       let most = turn configuration pace in
-      let State = Lasts configuration n0 t0 most pace Words low in
-      let knows = lasts-know configuration n0 t0 most pace Words low (omega arith) (omega arith) in
-      let sooner = earliest-sooner (is_short configuration) (trace configuration first) in
-      let p : Urgent configuration n0 t0 most pace Words low is.needs urgent State knows (newest ++ first) =
-      since configuration pace Words low first (Urgent configuration n0 t0 most pace Words low is.needs urgent State knows)
-      (record { state = lasts-first most; began = λ any. omega (arith, sooner) })
-      (urgent-next configuration n0 t0 most pace Words low is.needs urgent State knows) newest is.accepted is.even all-keep all-given in
-      record {
-        begins = urgent-begin configuration n0 t0 most pace Words low is.needs urgent State knows (newest ++ first) good-now p;
-        began = λ any. let le = p.began any in omega (arith, le);
-      }
-
--- in any case, on a low battery
-slowly : (configuration : Configuration) (pace : Pace) (low : ℕ → Bool) (first newest : List Event) (is : IsTold configuration pace is_low low first newest) (known : Bool) →
-    Chosen configuration low (λ i. IsKnown known (trace configuration first) i) →
-    BeginsBy configuration (secondary_by configuration pace known (clock (trace configuration first))) (secondary_by configuration pace known (clock (trace configuration first)) + suc pace.skip)
-    (trace configuration (newest ++ first))
-slowly configuration pace low first newest is known has_status =
-    let n0 = length first in
-    let t0 = clock (trace configuration first) in
-    let most = turn configuration pace in
-    let latest_by = secondary_by configuration pace known t0 in
-    let turned : configuration.poll_freq + pace.skip ≤ most = omega arith in
-    let soon : pace.delay ≤ most = omega arith in
-    let seen_first = seen-first configuration pace known t0 in
-    let calm_first = calm-first configuration pace known t0 in
-    let sooner = earliest-sooner (is_short configuration) (trace configuration first) in
-    let P = Secondaries configuration n0 t0 most latest_by pace low known turned soon is.needs.one is.needs.there is.needs.passes is.needs.short seen_first calm_first in
-    let p : P (newest ++ first) =
-    since configuration pace is_low low first P
-    (record {
-      lasts = lasts-first configuration pace is_low low first newest is most;
-      calms = λ not_begun i less l. calm-at configuration i n0 most pace known (trace configuration first) (has_status i less l);
-      began = λ any. omega (arith, sooner, seen_first);
-    })
-    (secondaries-next configuration n0 t0 most latest_by pace low known turned soon is.needs.one is.needs.there is.needs.passes is.needs.short seen_first calm_first)
-    newest is.accepted is.even (all-keep configuration pace is_low low first newest is) (all-given configuration pace is_low low first newest is) in
-    record {
-      begins =
-          late-begun configuration n0 t0 most latest_by pace low known turned soon is.needs.one is.needs.there is.needs.passes is.needs.short seen_first calm_first
-          (newest ++ first) (good-now configuration pace is_low low first newest is) p;
-      began = p.began;
-    }
+      let b = begins-by configuration n0 t0 most pace Words low is.needs urgent (Lasts configuration n0 t0 most pace Words low) (lasts-know configuration n0 t0 most pace Words low (omega arith) (omega arith))
+      first (newest ++ first) (omega arith) (lasts-first most) good-now along in
+      record { begins = b.begins; began = λ any. let le = b.began any in omega (arith, le) }
 
 pub machines-stop : (configuration : Configuration) (pace : Pace) (low : ℕ → Bool) → MachinesStopAsTold configuration pace low
 machines-stop configuration pace low = record {
@@ -161,7 +122,8 @@ machines-stop configuration pace low = record {
       let b = at-once configuration pace is_low low first newest is (λ past i less l says. low-critical configuration i past says (inl (primary i less l))) in
       (b, λ began even late. halts configuration pace is_low low first newest is (seen_by configuration pace (clock (trace configuration first)) + 0) (omega arith) later began (b.began began) even late);
   secondaries = λ known first newest later is has_status.
-      let b = slowly configuration pace low first newest is known has_status in
+      let b = late-by configuration pace known low first (newest ++ first) is.needs (lasts-first configuration pace is_low low first newest is (turn configuration pace)) has_status
+      (good-now configuration pace is_low low first newest is) (along configuration pace is_low low first newest is) in
       let seen = seen-first configuration pace known (clock (trace configuration first)) in (
         b,
         λ began even late.

@@ -1,7 +1,7 @@
 -- Lines that give no reason for a shutdown, by what is known of them.
 use Rattle.std.proofs.Common.{◌≡◌, ◌⊎◌, ℕ, suc, ◌+◌, ◌<◌, ◌≤◌, ◌&&◌, inl, inr, List, ◌∷◌, length, Bool, true, false, not, Option, Some, None, is_some, refl, sym, ◌∙◌, ap, subst, arith}
 use Rattle.std.specs.Prelude.{nat_lt}
-use Rattle.std.proofs.lemmas.Bool.{cases_Bool, and_parts, eq-eqb, lt-ltb, ltb-false, ltb-true, not-true}
+use Rattle.std.proofs.lemmas.Bool.{cases_Bool, and_parts, eq-eqb, lt-ltb, ltb-true, not-true}
 use Rattle.nut_monitor_spec.specs.Configuration.{Configuration}
 use Rattle.nut_monitor_spec.specs.Decision.{power_where}
 use Rattle.nut_monitor_spec.specs.Event.{Event}
@@ -12,17 +12,16 @@ use Rattle.nut_fleet.specs.World.{Setup, monitor_of, line_of, world}
 use Rattle.nut_fleet.specs.Fleet.{IsSetup, IsReason, Cause}
 use Rattle.nut_fleet.proofs.Entries.{entry-answer, is_made}
 use Rattle.nut_fleet.proofs.Fronts.{fronts-compare}
-use Rattle.nut_fleet.proofs.Shutdowns.{shutdowns-have_causes}
+use Rattle.nut_fleet.proofs.Shutdowns.{shutdowns-have_causes, power-more}
 use Rattle.nut_fleet.proofs.Sound.{IsLawful}
 use Rattle.nut_in_time.specs.Pace.{Pace, IsPrompt, Says, seen_at, shown_at}
 use Rattle.nut_in_time.specs.InTime.{turn, seen_by, is_low, has_fsd}
 use Rattle.nut_in_time.specs.InVain.{is_bearable, NoneBeginsLater, NoneBeginsAnyMore, WasBorne, NoneBegins}
 use Rattle.nut_in_time.proofs.Asking.{wait-comes, rest-stays, waits-on, waits-outstanding, not-made}
 use Rattle.nut_in_time.proofs.Climbing.{each-event}
-use Rattle.nut_in_time.proofs.Ending.{clock-entry, clock-grows, earliest-sooner, earliest-stays, earliest-now, false-if}
+use Rattle.nut_in_time.proofs.Ending.{clock-entry, clock-grows, earliest-sooner, false-if, at-most, begun-by}
 use Rattle.nut_in_time.proofs.Polling.{IsGiven, Current, late-next, status-unread, status-read}
 use Rattle.nut_in_time.proofs.Lasting.{Chosen, AllGood, Lasts, lasts-next, lasts-first, event-by-event}
-use Rattle.nut_in_time.proofs.Beginning.{power-less}
 use Rattle.nut_in_time.proofs.RoomSteps.{begins-later}
 
 -- ---- an event of a monitor that is up to date
@@ -98,25 +97,15 @@ module _ (configuration : Configuration) (n0 t0 turn : ℕ) (pace : Pace) (Words
       let entry = entry_of configuration past event in
       record {
         lasts = lasts-next configuration n0 t0 turn pace Words fine turned soon told event before now steady p.lasts;
-        began = λ any late. elim (cases_Bool (has_begun configuration past)) [
-          | inl was ↦
-              let same = earliest-stays (is_short configuration) entry past was in
-              let at = ap clock same in
-              let all = p.began was (omega (arith, at, late)) in
-              subst (λ front. Chosen configuration fine (λ i. Bears configuration i n0 t0 turn pace Words front)) (sym same) all
-          | inr was_not ↦
-              let same : begun configuration (entry ∷ past) ≡ entry ∷ past = (earliest-now (is_short configuration) entry past was_not any).0 in
-              let at : clock (begun configuration (entry ∷ past)) ≡ clock (entry ∷ past) = ap clock same in
-              let late' : t0 + turn + pace.delay < clock (entry ∷ past) = omega (arith, at, late) in
-              let all : Chosen configuration fine (λ i. Bears configuration i n0 t0 turn pace Words (entry ∷ past)) = (λ i within is.
-              let b = before i within is in
-              let g = now i within is in
-              let made = not-made configuration told event i within g.accepted.1 b.there in
-              bears-next configuration i n0 t0 turn pace Words past event made steady g.prompt
-              (subst (λ o. IsGiven i n0 Words o) (entry-answer configuration past event) g.given.0)
-              (late-next configuration i n0 t0 turn pace Words past event turned made steady b.prompt (p.lasts.polls was_not i within is) g.prompt late')) in
-              subst (λ front. Chosen configuration fine (λ i. Bears configuration i n0 t0 turn pace Words front)) (sym same) all
-        ];
+        began = begun-by configuration entry past
+            (λ front. t0 + turn + pace.delay < clock front → Chosen configuration fine (λ i. Bears configuration i n0 t0 turn pace Words front)) p.began
+            (λ was_not late i within is.
+            let b = before i within is in
+            let g = now i within is in
+            let made = not-made configuration told event i within g.accepted.1 b.there in
+            bears-next configuration i n0 t0 turn pace Words past event made steady g.prompt
+            (subst (λ o. IsGiven i n0 Words o) (entry-answer configuration past event) g.given.0)
+            (late-next configuration i n0 t0 turn pace Words past event turned made steady b.prompt (p.lasts.polls was_not i within is) g.prompt late));
       }
 
 -- ---- what is no cause
@@ -153,7 +142,7 @@ no-causes setup law fine_setup schedule m fine enough over none =
     let count = length config.lines in
     let few = shutdowns-have_causes setup law fine_setup schedule m (among count fine) over
     (λ i is cause. let parts = and_parts (fine i) (nat_lt i count) is in none i (ltb-true i count parts.1) parts.0 cause) in
-    let more = power-less fine (among count fine) config.lines (λ i within is. rw (is, lt-ltb i count within) refl) in
+    let more = power-more fine (among count fine) config.lines (λ i within is. rw (is, lt-ltb i count within) refl) in
     omega (arith, enough, few, more)
 
 module _ (setup : Setup) (law : IsLawful setup.server) (fine_setup : IsSetup setup) (schedule : List Step) where
@@ -168,21 +157,16 @@ module _ (setup : Setup) (law : IsLawful setup.server) (fine_setup : IsSetup set
       let soon : pace.delay ≤ most = omega arith in
       let sooner = earliest-sooner (is_short config) (seen_at setup m start) in
       let p : Borne config n0 t0 most pace is_bearable fine turned soon ((world setup schedule).monitor m) =
-      event-by-event setup law fine_setup pace m start schedule b.front is_bearable fine b.lines
-      (Borne config n0 t0 most pace is_bearable fine turned soon) b.steady
+      event-by-event setup law fine_setup pace m start schedule b.front is_bearable fine b.lines b.steady
+      (Borne config n0 t0 most pace is_bearable fine turned soon)
       (record { lasts = lasts-first setup law fine_setup pace m start schedule b.front is_bearable fine b.lines most; began = λ any late. absurd (omega (arith, sooner, late)) })
       (borne-next config n0 t0 most pace is_bearable fine turned soon) in
-      elim (cases_Bool (nat_lt (seen_by config pace t0) (clock (begun config past)))) [
-        | inl late ↦
-            let all = p.began over (ltb-true (seen_by config pace t0) (clock (begun config past)) late) in
-            absurd (no-causes setup law fine_setup schedule m fine b.enough over (λ i within is cause.
-            let bears = all i within is in
-            let young = bears.young in
-            let patient = b.patient in
-            no-reason setup m i (clock (begun config past)) _ (polled i (begun config past)) cause.words (says-words (status i (begun config past)) cause.words bears.says cause.status_is)
-            (omega (arith, young, patient)) cause.reason))
-        | inr early ↦ ltb-false (seen_by config pace t0) (clock (begun config past)) early
-      ]
+      at-most (clock (begun config past)) (seen_by config pace t0) (λ late. no-causes setup law fine_setup schedule m fine b.enough over (λ i within is cause.
+      let bears = p.began over late i within is in
+      let young = bears.young in
+      let patient = b.patient in
+      no-reason setup m i (clock (begun config past)) _ (polled i (begun config past)) cause.words (says-words (status i (begun config past)) cause.words bears.says cause.status_is)
+      (omega (arith, young, patient)) cause.reason))
 
   pub none-begins_any_more : NoneBeginsAnyMore setup schedule
   none-begins_any_more pace m fine start middle b within late not_begun = false-if (has_begun (monitor_of setup m) (seen_at setup m schedule)) (λ over.
@@ -224,10 +208,7 @@ module _ (setup : Setup) (law : IsLawful setup.server) (fine_setup : IsSetup set
         record {
           since = omega (arith, time, grows, since);
           last = last;
-          began = λ any. elim (cases_Bool (has_begun config past)) [
-            | inl was ↦ subst Lasting (sym (earliest-stays (is_short config) entry past was)) (k.began was)
-            | inr was_not ↦ subst Lasting (sym (earliest-now (is_short config) entry past was_not any).0) last
-          ];
+          began = begun-by config entry past Lasting k.began (λ was_not. last);
         }
 
     kept : IsFront start schedule → seen_by (monitor_of setup m) pace 0 ≤ (monitor_of setup m).dead_time → Kept ((world setup start).monitor m) →

@@ -1,7 +1,7 @@
 -- Machines that hear nothing of their UPSes any more.
 use Rattle.std.proofs.Common.{codes, ◌≡◌, ℕ, suc, ◌+◌, ◌<◌, ◌≤◌, ◌&&◌, ◌||◌, ◌==◌, inl, inr, List, [], ◌∷◌, length, Bool, true, false, not, take, Option, Some, None, is_some, refl, sym, ◌∙◌, ap, subst, arith}
-use Rattle.std.specs.Prelude.{nat_lt, option_map}
-use Rattle.std.proofs.lemmas.Bool.{cases_Bool, and_parts, eqb-true, lt-ltb, ltb-false, ltb-true, not-true}
+use Rattle.std.specs.Prelude.{option_map}
+use Rattle.std.proofs.lemmas.Bool.{cases_Bool, and_parts, eqb-true, ltb-true, not-true}
 use Rattle.nut_words.specs.Lines.{LineText}
 use Rattle.nut_monitor_spec.specs.declared.MonitorFault.TheVariants.{WrongLinkState}
 use Rattle.nut_monitor_spec.specs.Acceptance.{IsAccepted, Accepts, bytes_refusal, watch_at}
@@ -23,12 +23,13 @@ use Rattle.nut_in_time.specs.Pace.{Pace, IsSteady, Says, seen_at}
 use Rattle.nut_in_time.specs.InTime.{BeginsBy, has_fsd}
 use Rattle.nut_in_time.specs.CutOff.{CutOffStop, HearsNothing, NoneBeginsOnLine, NothingIsHeard, is_on_battery, is_on_line}
 use Rattle.nut_in_time.proofs.Asking.{to-is}
-use Rattle.nut_in_time.proofs.Beginning.{low-begun, power-less}
+use Rattle.nut_in_time.proofs.Beginning.{low-begun, critical-for}
 use Rattle.nut_in_time.proofs.Climbing.{front-of, each-event_with}
-use Rattle.nut_in_time.proofs.Ending.{earliest-now, earliest-sooner, earliest-stays, halted-by_then, or-right, each-steady, false-if}
+use Rattle.nut_in_time.proofs.Ending.{earliest-now, earliest-sooner, halted-by_then, each-steady, false-if, at-most, begun-by, if-not}
 use Rattle.nut_in_time.proofs.Lasting.{Chosen}
 use Rattle.nut_in_time.proofs.Polling.{status-unread}
 use Rattle.nut_fleet.proofs.Entries.{entry-linked}
+use Rattle.nut_fleet.proofs.Shutdowns.{power-more}
 
 -- ---- an event that brings no status
 
@@ -40,23 +41,9 @@ same-unread configuration i past event unread =
 -- ---- on battery
 
 -- a UPS on battery is critical once DEADTIME is over
-dead-true : (fsd low gone battery : Bool) → battery ≡ true → gone ≡ true → (fsd || (low || (battery && gone))) ≡ true
-dead-true fsd low gone battery a b = rw (a, b) (or-both fsd low)
-  where
-    or-both : (x y : Bool) → (x || (y || true)) ≡ true
-    or-both true y = refl
-    or-both false y = or-right y
-
 dead-critical : (configuration : Configuration) (i : ℕ) (past : List Entry) → Says is_on_battery (status i past) →
     polled i past + configuration.dead_time < clock past → critical configuration i past ≡ true
-dead-critical configuration i past says late =
-    let line = line_in configuration.lines i in
-    let words = says.0 in
-    ap (λ o. is_critical configuration line (clock past) (calm i past) (polled i past) (option_map flags_of o)) says.1
-    ∙ dead-true (has (codes "FSD") words)
-    ((has (codes "OB") words && (has (codes "LB") words && not (has (codes "CAL") words))) && (line.primary || is_past configuration.host_sync (clock past) (calm i past)))
-    (is_past configuration.dead_time (clock past) (polled i past)) (has (codes "OB") words) says.2
-    (lt-ltb (polled i past + configuration.dead_time) (clock past) late)
+dead-critical configuration i past says late = critical-for configuration i past says.0 says.1 (inr (inr (says.2, late)))
 
 any-status : (i : ℕ) (past : List Entry) → Says is_on_battery (status i past) → is_any past ≡ true
 any-status i [] says = let bad : None ≡ Some says.0 = says.1 in cc
@@ -110,20 +97,11 @@ module _ (setup : Setup) (m : ℕ) (cut : ℕ → Bool) (start schedule : List S
 
     gone-next : (pace : Pace) (told : List Event) (event : Event) → Quiet told → Quiet (event ∷ told) →
         clock (trace (monitor_of setup m) (event ∷ told)) ≤ clock (trace (monitor_of setup m) told) + suc pace.skip → InTime pace told → InTime pace (event ∷ told)
-    gone-next pace told event before now steady p any =
+    gone-next pace told event before now steady p =
         let past = trace config told in
-        let entry = entry_of config past event in
-        elim (cases_Bool (has_begun config past)) [
-          | inl was ↦ let at = ap clock (earliest-stays (is_short config) entry past was) in let le = p was in omega (arith, at, le)
-          | inr was_not ↦
-              let at : clock (begun config (entry ∷ past)) ≡ clock (entry ∷ past) = ap clock (earliest-now (is_short config) entry past was_not any).0 in
-              elim (cases_Bool (nat_lt (last + config.dead_time) (clock past))) [
-                | inl late ↦
-                    let began = gone-begun told before (ltb-true (last + config.dead_time) (clock past) late) in
-                    let bad : false ≡ true = sym was_not ∙ began in cc
-                | inr early ↦ let le = ltb-false (last + config.dead_time) (clock past) early in omega (arith, at, le, steady)
-              ]
-        ]
+        begun-by config (entry_of config past event) past (λ front. clock front ≤ last + config.dead_time + suc pace.skip) p (λ was_not.
+        let le = at-most (clock past) (last + config.dead_time) (λ late. let bad : false ≡ true = sym was_not ∙ gone-begun told before late in cc) in
+        omega (arith, le, steady))
 
   -- ---- on line power
 
@@ -153,7 +131,7 @@ module _ (setup : Setup) (m : ℕ) (cut : ℕ → Bool) (start schedule : List S
         let next = entry_of config past event ∷ past in
         let short = ltb-true (supply config next) config.min_supplies ((earliest-now (is_short config) (entry_of config past event) past not_begun any).1) in
         let less : power_where cut config.lines ≤ supply config next =
-        power-less cut (λ i. not (critical config i next)) config.lines (λ i within is. let f = tame-line (event ∷ told) now i within is in rw f refl) in
+        power-more cut (λ i. not (critical config i next)) config.lines (λ i within is. let f = tame-line (event ∷ told) now i within is in rw f refl) in
         absurd (omega (arith, short, less, enough)))
 
 -- ---- as laws
@@ -174,7 +152,7 @@ cut_off-stop setup schedule pace m cut last start middle within c steady =
       begins,
       λ over again late.
           let began : has_begun (monitor_of setup m) (seen_at setup m middle) ≡ true =
-          elim (cases_Bool (has_begun (monitor_of setup m) (seen_at setup m middle))) [ inl t ↦ t | inr f ↦ begins.begins (over f) ] in
+          if-not (has_begun (monitor_of setup m) (seen_at setup m middle)) (λ f. begins.begins (over f)) in
           halted-by_then setup schedule pace m start middle (last + (monitor_of setup m).dead_time + suc pace.skip) c.front within (omega (arith, young)) began
           (begins.began began) steady late,
     )

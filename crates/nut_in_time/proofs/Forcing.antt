@@ -1,5 +1,5 @@
 -- A primary whose shutdown has begun puts FSD once the status that it waits for has come.
-use Rattle.std.proofs.Common.{◌≡◌, ◌⊎◌, ℕ, suc, ◌+◌, ◌<◌, ◌≤◌, ◌||◌, ◌&&◌, inl, inr, List, ◌∷◌, length, Bool, true, false, not, Option, Some, None, refl, sym, ◌∙◌, ap, subst, arith}
+use Rattle.std.proofs.Common.{◌≡◌, ◌⊎◌, ℕ, suc, ◌+◌, ◌<◌, ◌≤◌, ◌||◌, ◌&&◌, inl, inr, List, ◌∷◌, length, Bool, true, false, not, Option, Some, None, sym, ◌∙◌, ap, arith}
 use Rattle.std.specs.Prelude.{option_map}
 use Rattle.std.proofs.lemmas.Bool.{cases_Bool, ltb-false, ltb-true}
 use Rattle.nut_monitor_spec.specs.declared.Query.TheVariants.{Status, Fsd}
@@ -8,13 +8,13 @@ use Rattle.nut_monitor_spec.specs.Configuration.{Configuration, Line, line_in}
 use Rattle.nut_monitor_spec.specs.Decision.{is_alone, is_critical, is_past}
 use Rattle.nut_monitor_spec.specs.Event.{Event}
 use Rattle.nut_monitor_spec.specs.Query.{flags_of}
-use Rattle.nut_monitor_spec.specs.Trace.{Asked, Answer, Entry, clock, clock_after, linked, at_status, calm, critical, newest_answer, polled, status, status_of_answer, forced, logins, begun, has_begun, is_short, has_ended, answer_of, came, entry_of}
+use Rattle.nut_monitor_spec.specs.Trace.{Asked, Answer, Entry, clock, clock_after, linked, at_status, calm, critical, newest_answer, polled, status, status_of_answer, forced, logins, has_begun, answer_of, came, entry_of}
 use Rattle.nut_fleet.proofs.Entries.{is_made}
 use Rattle.nut_in_time.specs.Pace.{Pace, IsPrompt}
-use Rattle.nut_in_time.proofs.Asking.{Waits, Rests, answer-is, wait-comes, rest-stays, waits-on, waits-outstanding}
-use Rattle.nut_in_time.proofs.Ending.{clock-entry, any-stays, earliest-now, earliest-stays, ended-begun, false-if}
+use Rattle.nut_in_time.proofs.Asking.{Waits, Rests, wait-comes, rest-stays, waits-on, read-soon}
+use Rattle.nut_in_time.proofs.Ending.{clock-entry}
 use Rattle.nut_in_time.proofs.Polling.{Polls, Current, status-unread}
-use Rattle.nut_in_time.proofs.Putting.{fsd-now, fsd-put, stays-forcing}
+use Rattle.nut_in_time.proofs.Awaiting.{FsdWaits, StatusWaits, fsd-first, fsd-next, status-first, status-next}
 
 -- ---- a primary's UPS becomes critical though no status was read
 
@@ -24,10 +24,8 @@ IsGone configuration i past = polled i past + configuration.dead_time < clock pa
 
 only-gone : (fsd low on_battery before after : Bool) → (fsd || ((low && true) || (on_battery && before))) ≡ false →
     (fsd || ((low && true) || (on_battery && after))) ≡ true → (before ≡ false) × (after ≡ true)
-only-gone true low on_battery before after a b = cc
-only-gone false true on_battery before after a b = cc
 only-gone false false true before after a b = (a, b)
-only-gone false false false before after a b = cc
+only-gone _ _ _ before after a b = cc
 
 gone-flags : (configuration : Configuration) (line : Line) (time time' calm calm' polled : ℕ) (flags : Option StatusFlags) → line.primary ≡ true →
     is_critical configuration line time calm polled flags ≡ false → is_critical configuration line time' calm' polled flags ≡ true →
@@ -59,30 +57,20 @@ gone-now configuration i past event primary same tame now =
 -- ---- from its last status query to its FSD
 
 module _ (configuration : Configuration) (i n0 t0 turn : ℕ) (pace : Pace) (Words : List (List ℕ) → Bool) where
-  -- The shutdown has begun since DEADTIME was over, and a status query that was put by t0 + `turn` waits for its answer.
-  pub record Waiting (past : List Entry) : Type 0 where
-    pub began : has_begun configuration past ≡ true
-    pub not_ended : has_ended configuration past ≡ false
-    pub last : Asked
-    pub is_status : last.query ≡ Status
-    pub early : last.moment ≤ t0 + turn
-    pub before : last.moment < clock (begun configuration past)
-    pub gone : IsGone configuration i (begun configuration past)
-    pub waits : Waits i past last
+  -- The status query was put by t0 + `turn`, before the shutdown began, and that was since DEADTIME was over.
+  abbrev pub Early : Asked → List Entry → Type 0
+  Early last front = (last.moment ≤ t0 + turn) × (last.moment < clock front) × IsGone configuration i front
 
-  -- FSD waits for its answer. It was put as the shutdown began, or, if that was since DEADTIME was over, within `delay`.
-  pub record Asking (past : List Entry) : Type 0 where
-    pub began : has_begun configuration past ≡ true
-    pub last : Asked
-    pub is_fsd : last.query ≡ Fsd
-    pub after : n0 < last.event
-    pub soon : last.moment ≤ t0 + turn + pace.delay
-    pub promptly : (last.moment ≤ clock (begun configuration past))
-        ⊎ (IsGone configuration i (begun configuration past) × (last.moment < clock (begun configuration past) + pace.delay))
-    pub waits : Waits i past last
+  -- FSD was put as the shutdown began, or, if that was since DEADTIME was over, within `delay`.
+  abbrev pub Soon : Asked → List Entry → Type 0
+  Soon asked front = (asked.moment ≤ t0 + turn + pace.delay)
+      × ((asked.moment ≤ clock front) ⊎ (IsGone configuration i front × (asked.moment < clock front + pace.delay)))
 
   abbrev pub Track : List Entry → Type 0
-  Track past = (has_begun configuration past ≡ false) ⊎ Waiting past ⊎ Asking past
+  Track past = (has_begun configuration past ≡ false) ⊎ StatusWaits configuration i n0 Early Soon past ⊎ FsdWaits configuration i n0 Early Soon past
+
+  turns : (last asked : Asked) (front : List Entry) → last.moment ≤ clock front → Early last front → asked.moment ≤ last.moment + pace.delay → Soon asked front
+  turns last asked front before is le = let early = is.0 in let lt = is.1 in (omega (arith, early, le), inr (is.2, omega (arith, lt, le)))
 
   module _ (past : List Entry) (event : Event) (within : i < length configuration.lines) (primary : (line_in configuration.lines i).primary ≡ true)
       (turned : configuration.poll_freq + pace.skip ≤ turn) (long : pace.delay ≤ configuration.host_sync)
@@ -104,62 +92,27 @@ module _ (configuration : Configuration) (i n0 t0 turn : ℕ) (pace : Pace) (Wor
     time : clock (entry_of configuration past event ∷ past) ≡ clock_after event (clock past)
     time = clock-entry configuration past event
 
-    abbrev fsd : Asked
-    fsd = fsd-now past event
-
-    stays-in : has_ended configuration past ≡ false → clock next ≤ clock (begun configuration next) + configuration.host_sync → has_ended configuration next ≡ false
-    stays-in = stays-forcing configuration i past event within primary made there not_alone not_forced
-
-    puts-fsd : (last : Asked) → last.query ≡ Status → Rests i midway last → has_begun configuration next ≡ true → has_ended configuration past ≡ false →
-        clock next ≤ clock (begun configuration next) + configuration.host_sync → Waits i next fsd
-    puts-fsd = fsd-put configuration i past event within primary made there not_alone not_forced
-
-    not-over : has_begun configuration past ≡ false → has_ended configuration past ≡ false
-    not-over not_begun = false-if (has_ended configuration past) (λ t. let bad : false ≡ true = sym not_begun ∙ ended-begun configuration past t in cc)
-
     -- FSD is put on a link that rests, in the second in which the shutdown begins
     at-once : (last : Asked) → last.query ≡ Status → Rests i midway last → has_begun configuration past ≡ false → has_begun configuration next ≡ true →
         clock_after event (clock past) ≤ t0 + turn + pace.delay → Track next
     at-once last is_status r not_begun began early =
-        let at : clock (begun configuration next) ≡ clock next =
-        ap clock (earliest-now (is_short configuration) (entry_of configuration past event) past not_begun began).0 in
         let now = time in
-        inr (inr (record {
-          began = began;
-          last = fsd;
-          is_fsd = refl;
-          after = omega (arith, since);
-          soon = early;
-          promptly = inl (omega (arith, now, at));
-          waits = puts-fsd last is_status r began (not-over not_begun) (omega (arith, at));
-        }))
+        inr (inr (fsd-first configuration i n0 Early Soon pace turns past event within primary long made there since prompt prompt_next not_alone not_forced not_read
+        last is_status r (early, inl (omega (arith, now))) not_begun began))
 
     -- The shutdown begins while a status query waits: its answer comes just then, or DEADTIME is over.
     begins-waiting : (last : Asked) → last.query ≡ Status → last.moment ≤ t0 + turn → last.moment ≤ clock past → Waits i past last →
         has_begun configuration past ≡ false → has_begun configuration next ≡ true → Track next
-    begins-waiting last is_status early known w not_begun began =
-        let same = (earliest-now (is_short configuration) (entry_of configuration past event) past not_begun began).0 in
-        let at : clock (begun configuration next) ≡ clock next = ap clock same in
-        elim (wait-comes configuration i past event last made w) [
-          | inl on ↦
-              let gone = gone-now configuration i past event primary (status-unread configuration i n0 t0 turn pace Words past event on.1) (tame not_begun) (wild not_begun began) in
-              let moved = gone.0 in
-              inr (inl (record {
-                began = began;
-                not_ended = stays-in (not-over not_begun) (omega (arith, at));
-                last = last;
-                is_status = is_status;
-                early = early;
-                before = omega (arith, at, moved, known);
-                gone = subst (IsGone configuration i) (sym same) gone.1;
-                waits = waits-on configuration i past event last on.0;
-              }))
-          | inr come ↦
-              let read = come.1 in
-              let still : clock_after event (clock past) ≡ clock past = (answer-is configuration past event read.0 read.1).1 (clock past) in
-              let in_time : clock past ≤ last.moment + pace.delay = prompt last (waits-outstanding i past last w) in
-              at-once last is_status come.0 not_begun began (omega (arith, still, in_time, early))
-        ]
+    begins-waiting last is_status early known w not_begun began = elim (wait-comes configuration i past event last made w) [
+      | inl on ↦
+          let gone = gone-now configuration i past event primary (status-unread configuration i n0 t0 turn pace Words past event on.1) (tame not_begun) (wild not_begun began) in
+          let moved = gone.0 in
+          inr (inl (status-first configuration i n0 Early Soon pace turns past event within primary long made there since prompt prompt_next not_alone not_forced not_read
+          last is_status (omega (arith, moved, known)) (early, omega (arith, moved, known), gone.1) (waits-on configuration i past event last on.0) not_begun began))
+      | inr come ↦
+          let in_time = read-soon configuration i past event pace last prompt w come.1 in
+          at-once last is_status come.0 not_begun began (omega (arith, in_time, early))
+    ]
 
     -- the shutdown begins
     begins-next : has_begun configuration past ≡ false → has_begun configuration next ≡ true → (Current configuration i n0 t0 turn pace Words past → ⊥) →
@@ -187,62 +140,6 @@ module _ (configuration : Configuration) (i n0 t0 turn : ℕ) (pace : Pace) (Wor
       | inl t ↦ let p = polls not_begun in begins-next not_begun t p.0 p.1
     ]
     track-next polls (inr (inl w)) =
-        let entry = entry_of configuration past event in
-        let same = earliest-stays (is_short configuration) entry past w.began in
-        let at = ap clock same in
-        let began = any-stays (is_short configuration) entry past w.began in
-        let gone : IsGone configuration i (begun configuration next) = subst (IsGone configuration i) (sym same) w.gone in
-        let before = w.before in
-        elim (wait-comes configuration i past event w.last made w.waits) [
-          | inl on ↦
-              let w' = waits-on configuration i past event w.last on.0 in
-              let in_time = prompt_next w.last (waits-outstanding i next w.last w') in
-              inr (inl (record {
-                began = began;
-                not_ended = stays-in w.not_ended (omega (arith, in_time, before, at, long));
-                last = w.last;
-                is_status = w.is_status;
-                early = w.early;
-                before = omega (arith, before, at);
-                gone = gone;
-                waits = w';
-              }))
-          | inr come ↦
-              let read = come.1 in
-              let still : clock_after event (clock past) ≡ clock past = (answer-is configuration past event read.0 read.1).1 (clock past) in
-              let in_time : clock past ≤ w.last.moment + pace.delay = prompt w.last (waits-outstanding i past w.last w.waits) in
-              let early = w.early in
-              let now = time in
-              inr (inr (record {
-                began = began;
-                last = fsd;
-                is_fsd = refl;
-                after = omega (arith, since);
-                soon = omega (arith, still, in_time, early);
-                promptly = inr (gone, omega (arith, still, in_time, before, at));
-                waits = puts-fsd w.last w.is_status come.0 began w.not_ended (omega (arith, now, still, in_time, before, at, long));
-              }))
-        ]
+        inr (status-next configuration i n0 Early Soon pace turns past event within primary long made there since prompt prompt_next not_alone not_forced not_read w)
     track-next polls (inr (inr a)) =
-        let entry = entry_of configuration past event in
-        let same = earliest-stays (is_short configuration) entry past a.began in
-        let at = ap clock same in
-        elim (wait-comes configuration i past event a.last made a.waits) [
-          | inl on ↦ inr (inr (record {
-            began = any-stays (is_short configuration) entry past a.began;
-            last = a.last;
-            is_fsd = a.is_fsd;
-            after = a.after;
-            soon = a.soon;
-            promptly = elim a.promptly [
-              | inl le ↦ inl (omega (arith, le, at))
-              | inr late ↦ let lt = late.1 in inr (subst (IsGone configuration i) (sym same) late.0, omega (arith, lt, at))
-            ];
-            waits = waits-on configuration i past event a.last on.0;
-          }))
-          | inr come ↦
-              let read = come.1 in
-              let number : read.0.asked.event ≡ a.last.event = ap (λ (x : Asked). x.event) read.3 in
-              let after = a.after in
-              absurd (not_read read.0 read.1 read.2 (ap (λ (x : Asked). x.query) read.3 ∙ a.is_fsd) (omega (arith, number, after)))
-        ]
+        inr (inr (fsd-next configuration i n0 Early Soon pace turns past event within primary long made there since prompt prompt_next not_alone not_forced not_read a))

@@ -7,7 +7,7 @@ use Rattle.nut_proto.specs.declared.refusal.Refusal.TheVariants as refusals
 use Rattle.nut_proto.specs.declared.reply.Reply.TheVariants as replies
 use Rattle.nut_server_spec.specs.Configuration.{Configuration, User, number_of_ups, user_named, has_password}
 use Rattle.nut_server_spec.specs.Command.{Asks, command_of}
-use Rattle.nut_server_spec.specs.Event.{Event, Bytes, DriverBytes, Step, Clock, Opened, Said, Gone, Up, Reported, Drained, Down, steps, with_lines, with_reports, brought, input, driver_input, Reloaded}
+use Rattle.nut_server_spec.specs.Event.{Event, Bytes, DriverBytes, Step, Said, Reported, steps, with_lines, with_reports, brought, input, driver_input, Reloaded}
 use Rattle.nut_server_spec.specs.Content.{past}
 use Rattle.nut_server_spec.specs.Answer.{Answer, Line as OneLine, Scene, Caller, refused, require, check, once, with_right, has_right, may_be_primary, may_force, ups_number}
 use Rattle.nut_server_spec.specs.Effect.{user_then, password_then, forced_then, at_target, target}
@@ -130,14 +130,8 @@ entitled first line c (Said d text ∷ s) none spoken own h =
           let h' : Exists (IsGrant line Primary) (exchanges c t) = rw is at h in
           rw is (entitled first line c s none spoken own' h')
     ]
-entitled first line c (Clock t ∷ s) none spoken own h = entitled first line c s none spoken own h
-entitled first line c (Opened address ∷ s) none spoken own h = entitled first line c s none spoken own h
-entitled first line c (Gone d ∷ s) none spoken own h = entitled first line c s none spoken own h
-entitled first line c (Up u ∷ s) none spoken own h = entitled first line c s none spoken own h
-entitled first line c (Reported u text ∷ s) none spoken own h = entitled first line c s none spoken own h
-entitled first line c (Drained u n ∷ s) none spoken own h = entitled first line c s none spoken own h
-entitled first line c (Down u ∷ s) none spoken own h = entitled first line c s none spoken own h
 entitled first line c (Reloaded k ∷ s) none spoken own h = entitled first line c s none.3 spoken own h
+entitled first line c (_ ∷ s) none spoken own h = entitled first line c s none spoken own h
 
 -- ---- its FSD is accepted
 

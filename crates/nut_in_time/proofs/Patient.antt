@@ -61,8 +61,8 @@ module _ (setup : Setup) (pace : Pace) (p : ℕ) (start e : List Step) (since : 
       lines-watched setup pace p (λ words. true) is.early e front steady one needed (watched-both keeps shown) in
       let sooner = earliest-sooner (is_short config) (seen_at setup p is.early) in
       let b : Borne config n0 t0 most pace (λ words. true) every turned soon ((world setup e).monitor p) =
-      event-by-event setup law fine pace p is.early e front (λ words. true) every lines
-      (Borne config n0 t0 most pace (λ words. true) every turned soon) steady
+      event-by-event setup law fine pace p is.early e front (λ words. true) every lines steady
+      (Borne config n0 t0 most pace (λ words. true) every turned soon)
       (record { lasts = lasts-first setup law fine pace p is.early e front (λ words. true) every lines most; began = λ any late. absurd (omega (arith, sooner, late)) })
       (borne-next config n0 t0 most pace (λ words. true) every turned soon) in
       let long = is.long in

@@ -1,47 +1,26 @@
 -- A primary in Forcing puts FSD on a link that rests.
-use Rattle.std.proofs.Common.{◌≡◌, ◌⊎◌, ℕ, zero, suc, ◌+◌, ◌<◌, ◌≤◌, ◌||◌, ◌&&◌, inl, inr, List, [], ◌∷◌, length, Bool, true, false, not, Option, Some, is_some, is_none, refl, sym, ◌∙◌, ap, arith}
+use Rattle.std.proofs.Common.{◌≡◌, ℕ, suc, ◌+◌, ◌<◌, ◌≤◌, ◌&&◌, inl, inr, List, [], ◌∷◌, length, Bool, true, false, Option, Some, is_some, is_none, refl, sym, ◌∙◌, ap, arith}
 use Rattle.std.specs.Prelude.{if◌then◌else◌}
-use Rattle.std.proofs.lemmas.Bool.{cases_Bool, and_parts, or_cases, ltb-true, not-true}
+use Rattle.std.proofs.lemmas.Bool.{cases_Bool}
 use Rattle.nut_monitor_spec.specs.declared.LastQuery.{LastQuery}
 use Rattle.nut_monitor_spec.specs.declared.Phase.{Phase}
 use Rattle.nut_monitor_spec.specs.declared.Phase.TheVariants.{Watching, Forcing}
 use Rattle.nut_monitor_spec.specs.declared.Query.TheVariants.{Status, Fsd}
 use Rattle.nut_monitor_spec.specs.Configuration.{Configuration, Line, line_in}
-use Rattle.nut_monitor_spec.specs.Decision.{each_primary, is_alone, is_over_by, is_past, next_query, phase_at}
+use Rattle.nut_monitor_spec.specs.Decision.{is_alone, next_query, phase_at}
 use Rattle.nut_monitor_spec.specs.Event.{Event}
 use Rattle.nut_monitor_spec.specs.Trace.{Asked, Entry, clock, clock_after, moment_of, linked, is_any, may_ask, last_in, last_query, forced, logins, alone, phase, begun, has_begun, ended, has_ended, is_over_at, came, query_put, entry_of}
 use Rattle.nut_fleet.proofs.Entries.{entry-linked, is_made}
+use Rattle.nut_fleet.proofs.Shutdowns.{empty-any}
+use Rattle.nut_fleet.proofs.Primaries.{each_primary-at, over-cases}
 use Rattle.nut_in_time.proofs.Asking.{Waits, Rests, rests-none, phase-came, next-queries, next-answers}
-use Rattle.nut_in_time.proofs.Ending.{clock-entry, earliest-now, empty-any}
+use Rattle.nut_in_time.proofs.Ending.{clock-entry, earliest-now, false-if}
 
--- ---- a primary leaves Forcing
-
-pub each-primary : (test : ℕ → Bool) (lines : List Line) (i : ℕ) → each_primary test lines ≡ true → i < length lines → (line_in lines i).primary ≡ true → test i ≡ true
-each-primary test [] i e less primary = absurd (omega (arith, less))
-each-primary test (line ∷ lines) zero e less primary =
-    let both = and_parts (not line.primary || test 0) (each_primary (λ i. test (suc i)) lines) e in
-    elim (or_cases (not line.primary) (test 0) both.0) [
-      | inl n ↦ let f : line.primary ≡ false = not-true line.primary n in let bad : true ≡ false = sym primary ∙ f in cc
-      | inr t ↦ t
-    ]
-each-primary test (line ∷ lines) (suc i) e less primary =
-    let both = and_parts (not line.primary || test 0) (each_primary (λ i. test (suc i)) lines) e in
-    each-primary (λ i. test (suc i)) lines i both.1 (omega (arith, less)) primary
-
-over-cases : (configuration : Configuration) (time : ℕ) (b : Bool) (front : List Entry) → is_over_by configuration time b (moment_of front) ≡ true →
-    (b ≡ true) ⊎ (clock front + configuration.host_sync < time)
-over-cases configuration time b [] e = cc
-over-cases configuration time b (entry ∷ past) e =
-    elim (or_cases b (is_past configuration.host_sync time (clock (entry ∷ past))) e) [
-      | inl counts ↦ inl counts
-      | inr waited ↦ inr (ltb-true (clock (entry ∷ past) + configuration.host_sync) time waited)
-    ]
+-- ---- in Forcing
 
 forcing-by : (front : List Entry) → is_any front ≡ true → (let p : Phase = if is_some (moment_of front) then Forcing else Watching in p) ≡ Forcing
 forcing-by [] any = cc
 forcing-by (x ∷ front) any = refl
-
--- ---- in Forcing
 
 -- the FSD that is put at the end of an event
 abbrev pub fsd-now : List Entry → Event → Asked
@@ -62,15 +41,12 @@ module _ (configuration : Configuration) (i : ℕ) (past : List Entry) (event : 
 
   -- it doesn't leave Forcing yet
   pub stays-forcing : has_ended configuration past ≡ false → clock next ≤ clock (begun configuration next) + configuration.host_sync → has_ended configuration next ≡ false
-  stays-forcing not_ended soon = elim (cases_Bool (has_ended configuration next)) [
-    | inr f ↦ f
-    | inl t ↦
-        let over = (earliest-now (is_over_at configuration) (entry_of configuration past event) past not_ended t).1 in
-        elim (over-cases configuration (clock next) (alone configuration next) (begun configuration next) over) [
-          | inl counts ↦ absurd (not_alone (each-primary (λ j. is_alone (logins j next)) configuration.lines i counts within primary))
-          | inr waited ↦ absurd (omega (arith, soon, waited))
-        ]
-  ]
+  stays-forcing not_ended soon = false-if (has_ended configuration next) (λ t.
+      let over = (earliest-now (is_over_at configuration) (entry_of configuration past event) past not_ended t).1 in
+      elim (over-cases configuration (clock next) (alone configuration next) (begun configuration next) over) [
+        | inl counts ↦ not_alone (each_primary-at (λ j. is_alone (logins j next)) configuration.lines i counts within primary)
+        | inr waited ↦ omega (arith, soon, waited)
+      ])
 
   is-forcing : has_begun configuration next ≡ true → has_ended configuration next ≡ false → phase configuration next ≡ Forcing
   is-forcing began not_ended =

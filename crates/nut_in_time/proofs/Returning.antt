@@ -1,6 +1,5 @@
 -- Machines whose links come back: each link is opened first, and then its UPS's status is asked for.
 use Rattle.std.proofs.Common.{◌≡◌, ◌⊎◌, ℕ, suc, ◌+◌, ◌*◌, ◌<◌, ◌≤◌, inl, inr, List, ◌∷◌, length, Bool, true, false, refl, subst, arith}
-use Rattle.std.proofs.lemmas.Bool.{cases_Bool}
 use Rattle.nut_monitor_spec.specs.Configuration.{Configuration, line_in}
 use Rattle.nut_monitor_spec.specs.declared.Query.TheVariants.{Status}
 use Rattle.nut_monitor_spec.specs.Event.{Event}
@@ -15,10 +14,10 @@ use Rattle.nut_fleet.proofs.Worlds.{sound}
 use Rattle.nut_in_time.specs.Pace.{Pace, IsPrompt, Says, seen_at}
 use Rattle.nut_in_time.specs.InTime.{BeginsBy, has_fsd, is_low, turn}
 use Rattle.nut_in_time.specs.Returning.{ReturningForcedStop, ReturningPrimariesStop, StopsLater, turn_again}
-use Rattle.nut_in_time.proofs.Asking.{answer-is, not-made, wait-comes, waits-on, waits-outstanding}
+use Rattle.nut_in_time.proofs.Asking.{not-made, waits-soon}
 use Rattle.nut_in_time.proofs.Beginning.{Knows, begin-as, fsd-critical, low-critical}
 use Rattle.nut_in_time.proofs.Climbing.{front-of}
-use Rattle.nut_in_time.proofs.Ending.{clock-entry, halted-by_then}
+use Rattle.nut_in_time.proofs.Ending.{clock-entry, halted-by_then, if-not}
 use Rattle.nut_in_time.proofs.Lasting.{Chosen, begun-before}
 use Rattle.nut_in_time.proofs.Opening.{Opens, full, opened-polled, opens-early, opens-next, state-first, times, times-four, times-three}
 use Rattle.nut_in_time.proofs.Polling.{Current, IsGiven, Polls, late-next, late-now, polls-next}
@@ -74,20 +73,10 @@ module _ (configuration : Configuration) (i n0 t0 turn : ℕ) (pace : Pace) (Wor
         t0 + turn + pace.delay < clock next → Current configuration i n0 t0 turn pace Words past
     comes-late made steady prompt (inr polls) prompt_next late = late-next configuration i n0 t0 turn pace Words past event turned made steady prompt polls prompt_next late
     comes-late made steady prompt (inl opens) prompt_next late =
-        let le = early past prompt opens in
-        let now = clock-entry configuration past event in
-        elim (wait-comes configuration i past event opens.last made opens.waits) [
-          | inl on ↦
-              let waits = waits-on configuration i past event opens.last on.0 in
-              let bound = opens.soon in
-              let most = four-open (line_in configuration.lines i).primary pace.delay in
-              let in_time = prompt_next opens.last (waits-outstanding i next opens.last waits) in
-              absurd (omega (arith, bound, most, opening, in_time, late))
-          | inr came ↦
-              let read = came.1 in
-              let still : clock_after event (clock past) ≡ clock past = (answer-is configuration past event read.0 read.1).1 (clock past) in
-              absurd (omega (arith, le, now, still, late))
-        ]
+        let in_time = waits-soon configuration i past event pace opens.last made opens.waits prompt prompt_next in
+        let bound = opens.soon in
+        let most = four-open (line_in configuration.lines i).primary pace.delay in
+        absurd (omega (arith, bound, most, opening, in_time, late))
 
   comes-now : (past : List Entry) → IsPrompt pace i past → Here past → t0 + turn + pace.delay < clock past → Current configuration i n0 t0 turn pace Words past
   comes-now past prompt (inr polls) late = late-now configuration i n0 t0 turn pace Words past turned polls prompt late
@@ -139,7 +128,7 @@ stops-later setup law fine pace m Words low start middle schedule urgent within 
       begins,
       λ over.
           let began : has_begun config (seen_at setup m middle) ≡ true =
-          elim (cases_Bool (has_begun config (seen_at setup m middle))) [ inl t ↦ t | inr f ↦ begins.begins (over f) ] in
+          if-not (has_begun config (seen_at setup m middle)) (λ f. begins.begins (over f)) in
           halted-by_then setup schedule pace m start middle late returns.front within (omega arith) began (begins.began began),
     )
   where

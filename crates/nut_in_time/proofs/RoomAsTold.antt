@@ -1,30 +1,30 @@
 -- A primary forces the shutdown of UPSes that may be at several servers, and the machines that need them stop before it.
-use Rattle.std.proofs.Common.{◌≡◌, ℕ, suc, ◌+◌, ◌<◌, ◌≤◌, ◌||◌, ◌==◌, inl, inr, List, [], ◌∷◌, ◌++◌, length, Bool, true, false, Option, Some, None, is_some, refl, sym, ◌∙◌, ap, subst, arith}
+use Rattle.std.proofs.Common.{◌≡◌, ℕ, suc, ◌+◌, ◌<◌, ◌≤◌, ◌||◌, inl, inr, List, [], ◌∷◌, ◌++◌, length, Bool, true, false, Option, Some, None, is_some, refl, sym, ◌∙◌, ap, subst, arith, ◌⊎◌}
 use Rattle.std.specs.List.{AllByRecursion}
-use Rattle.std.proofs.lemmas.Bool.{and_parts, cases_Bool, eq-eqb, eqb-true, ltb-true}
-use Rattle.nut_link.specs.declared.outcome.Outcome.{Outcome}
+use Rattle.std.proofs.lemmas.Bool.{cases_Bool, eq-eqb}
 use Rattle.nut_monitor_spec.specs.declared.Query.{Query}
 use Rattle.nut_monitor_spec.specs.declared.Query.TheVariants.{NumLogins}
 use Rattle.nut_monitor_spec.specs.Acceptance.{IsAccepted}
 use Rattle.nut_monitor_spec.specs.Configuration.{Configuration, has_primary, line_in}
-use Rattle.nut_monitor_spec.specs.Decision.{is_alone, is_over_by}
+use Rattle.nut_monitor_spec.specs.Decision.{is_alone}
 use Rattle.nut_monitor_spec.specs.Event.{Event}
 use Rattle.nut_monitor_spec.specs.Query.{is_forced, logins_in}
-use Rattle.nut_monitor_spec.specs.Trace.{Answer, Asked, Entry, alone, answers, asked_in, begun, came, clock, clock_after, ended, entry_of, forced, gives, has_begun, has_ended, is_over_at, linked, logins, moment_of, outstanding, phase, queries, query_put, since_linked, trace}
+use Rattle.nut_monitor_spec.specs.Trace.{Answer, Asked, Entry, alone, answers, asked_in, begun, came, clock, clock_after, ended, entry_of, forced, gives, has_begun, has_ended, is_over_at, linked, logins, outstanding, phase, queries, query_put, since_linked, trace}
 use Rattle.nut_monitor_spec.proofs.Putting.{follow-fsd}
 use Rattle.nut_fleet.proofs.Entries.{entry-answer, entry-queries, length-trace}
-use Rattle.nut_fleet.proofs.Shutdowns.{any-empty, earliest-passes}
+use Rattle.nut_fleet.proofs.Shutdowns.{any-empty, earliest-passes, or-right}
 use Rattle.nut_fleet.proofs.Turns.{all-at, all-map}
+use Rattle.nut_fleet.proofs.Primaries.{over-cases, count-query}
+use Rattle.nut_fleet.proofs.Statuses.{gives-some}
 use Rattle.nut_in_time.specs.AnyServers.{Always}
 use Rattle.nut_in_time.specs.Pace.{Pace, IsPolled, IsPrompt}
 use Rattle.nut_in_time.specs.RoomAsTold.{EachTaken, HostsyncSufficesAsTold, PrimariesForceAsTold}
 use Rattle.nut_in_time.proofs.AnyServers.{always-now, begun-on, machines-stop}
 use Rattle.nut_in_time.proofs.Asking.{answer-is, not-made, waits-outstanding}
-use Rattle.nut_in_time.proofs.Ending.{earliest-sooner, or-right, true-if, false-if}
+use Rattle.nut_in_time.proofs.Ending.{earliest-sooner, true-if, false-if}
 use Rattle.nut_in_time.proofs.Leading.{Led, led-next, opened-first}
 use Rattle.nut_in_time.proofs.RoomSteps.{begun-ending, is-halted}
 use Rattle.nut_in_time.proofs.Starting.{since-all}
-use Rattle.nut_in_time.proofs.Unforced.{count-asked}
 
 -- ---- a count is asked for only once FSD was accepted
 
@@ -41,11 +41,6 @@ forced-came configuration past event i =
     forced-now i (came configuration past event) past
     ∙ ap (λ o. gives is_forced i o || forced i past) (sym (entry-answer configuration past event))
     ∙ sym (forced-now i (entry_of configuration past event) past)
-
-gives-some : (test : Query → Outcome → Bool) (i : ℕ) (o : Option Answer) → gives test i o ≡ true →
-    (a : Answer) × (o ≡ Some a) × (a.link ≡ i) × (test a.asked.query a.outcome ≡ true)
-gives-some test i None is = cc
-gives-some test i (Some a) is = let parts = and_parts (a.link == i) (test a.asked.query a.outcome) is in (a, refl, eqb-true a.link i parts.0, parts.1)
 
 module _ (configuration : Configuration) (i : ℕ) where
   abbrev Counted : List Entry → Asked → Type 0
@@ -69,7 +64,7 @@ module _ (configuration : Configuration) (i : ℕ) where
       (all-map (Counted past) (Counted next) (λ a f e. forced-on i (entry_of configuration past event) past (f e)) (queries i past) (all-counted told))))
 
   -- so a number of logins is known only then
-  alone-forced : (told : List Event) → is_alone (logins i (trace configuration told)) ≡ true → forced i (trace configuration told) ≡ true
+  pub alone-forced : (told : List Event) → is_alone (logins i (trace configuration told)) ≡ true → forced i (trace configuration told) ≡ true
   alone-forced [] is = cc
   alone-forced (event ∷ told) is =
       let past = trace configuration told in
@@ -80,7 +75,7 @@ module _ (configuration : Configuration) (i : ℕ) where
             let a = some.0 in
             let was = (answer-is configuration past event a (sym (entry-answer configuration past event) ∙ some.1)).0 in
             let was_i : outstanding i past ≡ Some a.asked = subst (λ j. outstanding j past ≡ Some a.asked) some.2 was in
-            all-at (Counted past) (length (answers i past)) (queries i past) a.asked (all-counted told) was_i (count-asked a.asked.query a.outcome some.3)
+            all-at (Counted past) (length (answers i past)) (queries i past) a.asked (all-counted told) was_i (count-query a.asked.query a.outcome some.3)
         | inr f ↦ alone-forced told (rw f at is)
       ])
 
@@ -130,22 +125,32 @@ module _ (configuration : Configuration) (pace : Pace) (first : List Event) (i :
           let given : gives is_forced i (Some a) ≡ true = rw (eq-eqb a.link i link, ok) refl in
           forced-now i entry past ∙ ap (λ b. b || forced i past) (ap (gives is_forced i) read ∙ given)
 
+  -- how long after the shutdown began it may be
+  pub behind : (newest : List Event) → IsAccepted configuration (newest ++ first) → Kept newest → EachTaken i (length first) (trace configuration (newest ++ first)) →
+      forced i (trace configuration (newest ++ first)) ≡ false → (has_begun configuration (trace configuration (newest ++ first)) ≡ false)
+      ⊎ (clock (trace configuration (newest ++ first)) ≤ clock (begun configuration (trace configuration (newest ++ first))) + pace.delay + pace.delay)
+  behind newest accepted keeps taken none =
+      let past = trace configuration (newest ++ first) in
+      let prompt = (always-now configuration (λ past. (linked i past ≡ true) × IsPrompt pace i past) first newest keeps).1 in
+      elim (leads newest accepted keeps taken none).0 [
+        | inl before ↦ inl before.0
+        | inr (inl w) ↦
+            let in_time = prompt w.last (waits-outstanding i past w.last w.waits) in
+            let before = w.before in
+            inr (omega (arith, in_time, before))
+        | inr (inr a) ↦
+            let in_time = prompt a.last (waits-outstanding i past a.last a.waits) in
+            let soon : a.last.moment ≤ clock (begun configuration past) + pace.delay = a.soon in
+            inr (omega (arith, in_time, soon))
+      ]
+
 pub primaries-force : (configuration : Configuration) (pace : Pace) → PrimariesForceAsTold configuration pace
 primaries-force configuration pace first newest i is long within primary began late =
-    let past = trace configuration (newest ++ first) in
-    true-if (forced i past) (λ none.
+    true-if (forced i (trace configuration (newest ++ first))) (λ none.
     let line = is.lines i within primary in
-    let prompt = (always-now configuration (λ past. (linked i past ≡ true) × IsPrompt pace i past) first newest line.1).1 in
-    elim (leads configuration pace first i within primary long is.not_begun line.0 newest is.accepted line.1 line.2 none).0 [
-      | inl before ↦ let bad : false ≡ true = sym before.0 ∙ began in cc
-      | inr (inl w) ↦
-          let in_time = prompt w.last (waits-outstanding i past w.last w.waits) in
-          let before = w.before in
-          absurd (omega (arith, in_time, before, late))
-      | inr (inr a) ↦
-          let in_time = prompt a.last (waits-outstanding i past a.last a.waits) in
-          let promptly = a.promptly in
-          absurd (omega (arith, in_time, promptly, late))
+    elim (behind configuration pace first i within primary long is.not_begun line.0 newest is.accepted line.1 line.2 none) [
+      | inl before ↦ let bad : false ≡ true = sym before ∙ began in cc
+      | inr le ↦ absurd (omega (arith, le, late))
     ])
 
 -- ---- HOSTSYNC suffices
@@ -158,15 +163,11 @@ waited primary past over counts = elim (earliest-passes (is_over_at primary) pas
   | inr passes ↦
       let same = ap clock (begun-ending primary past over) in
       let sooner = earliest-sooner (is_over_at primary) past in
-      let lt = by (alone primary (ended primary past)) (begun primary (ended primary past)) counts passes in
-      omega (arith, same, sooner, lt)
+      elim (over-cases primary (clock (ended primary past)) (alone primary (ended primary past)) (begun primary (ended primary past)) passes) [
+        | inl is ↦ let bad : true ≡ false = sym is ∙ counts in cc
+        | inr lt ↦ omega (arith, same, sooner, lt)
+      ]
 ]
-  where
-    by : (b : Bool) (front : List Entry) → b ≡ false → is_over_by primary (clock (ended primary past)) b (moment_of front) ≡ true →
-        clock front + primary.host_sync < clock (ended primary past)
-    by b [] not_alone is = cc
-    by b (entry ∷ front) not_alone is =
-        ltb-true (clock (entry ∷ front) + primary.host_sync) (clock (ended primary past)) (rw not_alone at is)
 
 pub hostsync-suffices_told : (primary configuration : Configuration) (pace : Pace) (low : ℕ → Bool) → HostsyncSufficesAsTold primary configuration pace low
 hostsync-suffices_told primary configuration pace low first_p newest_p first newest later before drift told even until began since apart enough over counts =

@@ -1,5 +1,5 @@
 -- What proofs about rooms need of a step at which a shutdown is forced, of phases, and of links that are polled.
-use Rattle.std.proofs.Common.{◌≡◌, ℕ, zero, suc, ◌≤◌, inl, inr, List, [], ◌∷◌, length, Bool, true, false, Option, Some, None, is_some, refl, sym, ◌∙◌, ap, arith, Contains}
+use Rattle.std.proofs.Common.{◌≡◌, ℕ, ◌≤◌, inl, inr, List, [], ◌∷◌, length, Bool, true, false, Option, Some, None, is_some, refl, sym, ◌∙◌, ap, arith}
 use Rattle.std.specs.Prelude.{if◌then◌else◌}
 use Rattle.std.proofs.lemmas.Bool.{cases_Bool}
 use Rattle.nut_server_spec.specs.Content.{past as happened}
@@ -11,14 +11,15 @@ use Rattle.nut_monitor_spec.specs.declared.Query.TheVariants.{Status}
 use Rattle.nut_monitor_spec.specs.Configuration.{Configuration}
 use Rattle.nut_monitor_spec.specs.Decision.{is_halted, phase_at}
 use Rattle.nut_monitor_spec.specs.Event.{Event}
-use Rattle.nut_monitor_spec.specs.Trace.{Asked, Entry, clock, moment_of, latest, earliest, is_any, last_in, queries, phase, begun, has_begun, is_short, ended, has_ended, is_over_at, entry_of, trace}
+use Rattle.nut_monitor_spec.specs.Trace.{Asked, Entry, clock, moment_of, latest, earliest, last_in, queries, phase, begun, has_begun, is_short, ended, has_ended, is_over_at, entry_of, trace}
 use Rattle.nut_fleet.specs.Schedule.{Step, IsFront}
 use Rattle.nut_fleet.specs.World.{Setup, World, Deed, Inform, Join, after, deed, monitor_of, world}
 use Rattle.nut_in_time.specs.Pace.{Pace, IsPolled, KeepsPace, seen_at}
 use Rattle.nut_in_time.specs.Room.{KeepsStep, is_forced}
 use Rattle.nut_in_time.proofs.Climbing.{each-event, front-of}
-use Rattle.nut_in_time.proofs.Ending.{clock-entry, clock-grows, earliest-now, earliest-stays, empty-any, ended-begun}
+use Rattle.nut_in_time.proofs.Ending.{clock-entry, clock-grows, earliest-now, earliest-stays, ended-begun, latest-keeps, begun-by}
 use Rattle.nut_in_time.proofs.Polling.{Polls}
+use Rattle.nut_fleet.proofs.Shutdowns.{empty-any, earliest-keeps}
 
 -- ---- a step at which a shutdown is forced
 
@@ -60,14 +61,6 @@ begun-ending configuration (e ∷ p) any = elim (cases_Bool (has_ended configura
   | inr not_before ↦ ap (begun configuration) (earliest-now (is_over_at configuration) e p not_before any).0
 ]
 
--- what has ended stays ended
-pub ended-stays : (setup : Setup) (m : ℕ) (early late : List Step) → IsFront early late → has_ended (monitor_of setup m) (seen_at setup m early) ≡ true →
-    ended (monitor_of setup m) (seen_at setup m late) ≡ ended (monitor_of setup m) (seen_at setup m early)
-ended-stays setup m early late front any =
-    let config = monitor_of setup m in
-    each-event setup m early late (λ told. ended config (trace config told) ≡ ended config (seen_at setup m early)) front refl
-    (λ told event same. earliest-stays (is_over_at config) (entry_of config (trace config told) event) (trace config told) (ap is_any same ∙ any) ∙ same)
-
 -- a shutdown that hadn't begun at a time begins no earlier than that
 pub begins-later : (setup : Setup) (m : ℕ) (early late : List Step) → IsFront early late → has_begun (monitor_of setup m) (seen_at setup m early) ≡ false →
     has_begun (monitor_of setup m) (seen_at setup m late) ≡ true → clock (seen_at setup m early) ≤ clock (begun (monitor_of setup m) (seen_at setup m late))
@@ -87,36 +80,14 @@ begins-later setup m early late front none any =
         let grows = clock-grows event (clock past) in
         let le = x.0 in (
           omega (arith, time, grows, le),
-          λ is. elim (cases_Bool (has_begun config past)) [
-            | inl was ↦ let same = ap clock (earliest-stays (is_short config) entry past was) in let before = x.1 was in omega (arith, same, before)
-            | inr was_not ↦ let same = ap clock (earliest-now (is_short config) entry past was_not is).0 in omega (arith, same, time, grows, le)
-          ],
+          begun-by config entry past (λ front. clock (seen_at setup m early) ≤ clock front) x.1 (λ was_not. omega (arith, time, grows, le)),
         )
 
 pub latest-shorter : (test : Entry → List Entry → Bool) (past : List Entry) → length (latest test past) ≤ length past
-latest-shorter test [] = omega arith
-latest-shorter test (e ∷ past) = elim (cases_Bool (test e past)) [
-  | inl t ↦ rw t (omega arith)
-  | inr f ↦ let rest = latest-shorter test past in rw f (omega (arith, rest))
-]
+latest-shorter test past = latest-keeps (λ front. length front ≤ length past) (λ x front le. omega (arith, le)) test past (omega arith)
 
 pub earliest-shorter : (test : List Entry → Bool) (past : List Entry) → length (earliest test past) ≤ length past
-earliest-shorter test [] = omega arith
-earliest-shorter test (e ∷ past) = elim (cases_Bool (is_any (earliest test past))) [
-  | inl t ↦ let rest = earliest-shorter test past in let same = ap length (earliest-stays test e past t) in omega (arith, rest, same)
-  | inr f ↦ elim (cases_Bool (is_any (earliest test (e ∷ past)))) [
-    | inl t ↦ let same = ap length (earliest-now test e past f t).0 in omega (arith, same)
-    | inr g ↦ let none = ap length (empty-any (earliest test (e ∷ past)) g) in omega (arith, none)
-  ]
-]
-
--- two members of a list of at most one are equal
-pub same-one : (xs : List ℕ) (one other : ℕ) → length xs ≤ 1 → Contains xs one → Contains xs other → other ≡ one
-same-one [] one other le a b = absurd (let lt = a.1 in omega (arith, lt))
-same-one (x ∷ []) one other le (zero, lt, e) (zero, lt', e') = sym e' ∙ e
-same-one (x ∷ []) one other le (suc k, lt, e) b = absurd (omega (arith, lt))
-same-one (x ∷ []) one other le (zero, lt, e) (suc k, lt', e') = absurd (omega (arith, lt'))
-same-one (x ∷ y ∷ xs) one other le a b = absurd (omega (arith, le))
+earliest-shorter test past = earliest-keeps (λ front. length front ≤ length past) test (omega arith) (λ x front le. omega (arith, le)) past (omega arith)
 
 -- ---- a link on which the last query was for the status
 

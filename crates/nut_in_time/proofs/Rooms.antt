@@ -22,27 +22,27 @@ use Rattle.nut_fleet.specs.Fleet.{Exists, IsSetup, WasAlone, at_count}
 use Rattle.nut_fleet.specs.Shown.{logins}
 use Rattle.nut_fleet.proofs.Entries.{length-trace}
 use Rattle.nut_fleet.proofs.Fronts.{front-older, front-self, fronts-compare}
-use Rattle.nut_fleet.proofs.Primaries.{primaries-go_last}
+use Rattle.nut_fleet.proofs.Primaries.{primaries-go_last, each_primary-at, same-one}
 use Rattle.nut_fleet.proofs.Sound.{IsLawful}
 use Rattle.nut_fleet.proofs.Steps.{some-there, spoken, zero-closed}
 use Rattle.nut_fleet.proofs.Rereads.{number-within, room-stays}
 use Rattle.nut_fleet.proofs.Worlds.{sound}
+use Rattle.nut_fleet.proofs.Shutdowns.{or-right, power-more}
 use Rattle.nut_in_time.specs.Pace.{Pace, FromOn, IsSteady, IsWatched, Says, seen_at, shown_at}
 use Rattle.nut_in_time.specs.InTime.{BeginsBy, IsFailing, IsHaltedBy, halted_in, has_fsd, is_low, is_stopped, reads_in, seen_by, to_halted, turn}
 use Rattle.nut_in_time.specs.Room.{Follows, IsGrant, IsPatient, IsReady, IsRoom, IsStopping, KeepsStep, RoomStopsInTime, accepted_in, are_forced, forced_in, host_sync_for, is_forced, leads, other_halted_in}
-use Rattle.nut_in_time.proofs.Beginning.{begin-by, forced-begin_in_time, power-less}
+use Rattle.nut_in_time.proofs.Beginning.{begin-by, forced-begin_in_time}
 use Rattle.nut_in_time.proofs.Climbing.{front-of}
 use Rattle.nut_in_time.proofs.Emptied.{pace-kept}
-use Rattle.nut_in_time.proofs.Ending.{begun-stays, earliest-sooner, ended-begun, halted-by_then, or-right, true-if, false-if}
+use Rattle.nut_in_time.proofs.Ending.{earliest-sooner, ended-begun, halted-by_then, true-if, false-if, front-stays, if-not}
 use Rattle.nut_in_time.proofs.Forced.{forced-is_shown, schedule-stays}
 use Rattle.nut_in_time.proofs.Granted.{answered-forced, said-keeps}
 use Rattle.nut_in_time.proofs.Lasting.{Chosen, lasts}
-use Rattle.nut_in_time.proofs.Leading.{led-behind}
 use Rattle.nut_in_time.proofs.Patient.{not-gone}
-use Rattle.nut_in_time.proofs.Putting.{each-primary}
-use Rattle.nut_in_time.proofs.RoomSteps.{begins-later, begun-ending, earliest-shorter, ended-stays, is-halted, latest-shorter, not-ended, pace-front, polls-polled, same-one, step-front, stood}
+use Rattle.nut_in_time.proofs.RoomSteps.{begins-later, begun-ending, earliest-shorter, is-halted, latest-shorter, not-ended, pace-front, polls-polled, step-front, stood}
 use Rattle.nut_in_time.proofs.Standing.{connection-kept, server-climb}
 use Rattle.nut_in_time.proofs.Stopping.{is_urgent, line-primary, not-later, soon-behind, urgent-critical}
+use Rattle.nut_in_time.proofs.Unforced.{led-behind}
 
 -- ---- lines that are led
 
@@ -117,7 +117,7 @@ module _ (tables : EveryTableHolds) (setup : Setup) (law : IsLawful setup.server
     passes = led-own (monitor_of setup p).lines room.needs.one room.needs.there (room.primary room.needs.one room.needs.there room.needs.passes);
     short =
         let less : power_where (λ i. not (leads setup p p i)) (monitor_of setup p).lines ≤ power_where (λ i. not (weak i)) (monitor_of setup p).lines =
-        power-less (λ i. not (leads setup p p i)) (λ i. not (weak i)) (monitor_of setup p).lines
+        power-more (λ i. not (leads setup p p i)) (λ i. not (weak i)) (monitor_of setup p).lines
         (λ i within tame. elim (cases_Bool (weak i)) [
           | inl is ↦
               let bad : false ≡ true = sym (not-true (leads setup p p i) tame) ∙ led-own (monitor_of setup p).lines i within (room.primary i within is) in cc
@@ -129,7 +129,7 @@ module _ (tables : EveryTableHolds) (setup : Setup) (law : IsLawful setup.server
 
   -- one of its UPSes isn't forced
   unforced : (i : ℕ) → i < length (monitor_of setup p).lines → (line_of setup p i).primary ≡ true → (e : List Step) → is_forced setup (u i) e ≡ false → are_forced setup u p e ≡ false
-  unforced i within primary e none = false-if (are_forced setup u p e) (λ t. let bad : false ≡ true = sym none ∙ each-primary (λ j. is_forced setup (u j) e) (monitor_of setup p).lines i t within primary in cc)
+  unforced i within primary e none = false-if (are_forced setup u p e) (λ t. let bad : false ≡ true = sym none ∙ each_primary-at (λ j. is_forced setup (u j) e) (monitor_of setup p).lines i t within primary in cc)
 
   -- the status that is shown stops the primary at once
   urgent-at : (i : ℕ) → i < length (monitor_of setup p).lines → weak i ≡ true → FromOn start schedule (λ early. Says is_urgent (shown_at setup early (line_of setup p i).ups))
@@ -179,8 +179,8 @@ module _ (tables : EveryTableHolds) (setup : Setup) (law : IsLawful setup.server
       let primary = one.2 in
       let led = led-own (monitor_of setup p).lines i within primary in
       let k = stops.primary e inside since none in
-      led-behind setup law fine (pace p) p i (u i) start e since (there-at p i within) within primary (room.number i within primary)
-      (ready.polled p self i within led) (k.keeps i within led) long (ready.primary i within primary) ready.not_begun one.3
+      led-behind setup law fine p i (u i) start e since (there-at p i within) (room.number i within primary) (k.keeps i within led).linked (ready.primary i within primary) one.3
+      (pace p) within primary long ready.not_begun (ready.polled p self i within led) (k.keeps i within led)
 
   -- ---- if p has a single line
 
@@ -276,7 +276,7 @@ module _ (tables : EveryTableHolds) (setup : Setup) (law : IsLawful setup.server
       clock (seen_at setup p e) ≤ clock (begun (monitor_of setup p) (seen_at setup p schedule)) + accepted_in (monitor_of setup p) (pace p) patient
   soon-forced e inside since over none = elim (cases_Bool (has_begun (monitor_of setup p) (seen_at setup p e))) [
     | inl t ↦
-        let same = ap clock (begun-stays setup p e schedule inside t) in
+        let same = ap clock (front-stays setup (is_short (monitor_of setup p)) p e schedule inside t) in
         elim (soon-at e inside since none) [
           | inl none' ↦ let bad : true ≡ false = sym t ∙ none' in cc
           | inr le ↦ omega (arith, le, same)
@@ -299,17 +299,14 @@ module _ (tables : EveryTableHolds) (setup : Setup) (law : IsLawful setup.server
       rw has (omega arith)
 
   pub leader-halted : clock (seen_at setup p start) + halted_in (monitor_of setup p) (pace p) ≤ clock (seen_at setup p schedule) → is_stopped setup p schedule ≡ true
-  leader-halted late = elim (cases_Bool (is_halted (phase (monitor_of setup p) (seen_at setup p schedule)))) [
-    | inl t ↦ t
-    | inr f ↦
-        let config = monitor_of setup p in
-        let k = stops.keeps p self schedule (front-self schedule) stops.front f in
-        let b = begins schedule (front-self schedule) stops.front k in
-        let begun' = b.begins (let more = stays-up in omega (arith, late, more)) in
-        is-halted (phase config (seen_at setup p schedule)) (has_primary config.lines)
-        (halted-by_then setup schedule (pace p) p start schedule (seen_by config (pace p) (clock (seen_at setup p start))) stops.front (front-self schedule) (omega arith) begun' (b.began begun')
-        k.steady (omega (arith, late)))
-  ]
+  leader-halted late = if-not (is_halted (phase (monitor_of setup p) (seen_at setup p schedule))) (λ f.
+      let config = monitor_of setup p in
+      let k = stops.keeps p self schedule (front-self schedule) stops.front f in
+      let b = begins schedule (front-self schedule) stops.front k in
+      let begun' = b.begins (let more = stays-up in omega (arith, late, more)) in
+      is-halted (phase config (seen_at setup p schedule)) (has_primary config.lines)
+      (halted-by_then setup schedule (pace p) p start schedule (seen_by config (pace p) (clock (seen_at setup p start))) stops.front (front-self schedule) (omega arith) begun' (b.began begun')
+      k.steady (omega (arith, late))))
 
   -- ---- the time at which all of them are forced
 
@@ -339,7 +336,7 @@ module _ (tables : EveryTableHolds) (setup : Setup) (law : IsLawful setup.server
   stands-at m f =
       let one = some-primary (λ i. is_forced setup (u i) f.early) (monitor_of setup p).lines f.not_yet in
       stood setup (u one.0) m f.step f.early one.3
-      (each-primary (λ i. is_forced setup (u i) (f.step ∷ f.early)) (monitor_of setup p).lines one.0 f.now one.1 one.2)
+      (each_primary-at (λ i. is_forced setup (u i) (f.step ∷ f.early)) (monitor_of setup p).lines one.0 f.now one.1 one.2)
 
   -- ---- a machine that follows
 
@@ -359,7 +356,7 @@ module _ (tables : EveryTableHolds) (setup : Setup) (law : IsLawful setup.server
     forced-at f since is i led e inside from =
         let by = led-by (monitor_of setup p).lines (line_of setup m i).ups led in
         let s = stops.shown by.0 by.1 by.2 e inside (front-of start f e since from) in
-        let was = each-primary (λ j. is_forced setup (u j) f) (monitor_of setup p).lines by.0 is by.1 by.2 in
+        let was = each_primary-at (λ j. is_forced setup (u j) f) (monitor_of setup p).lines by.0 is by.1 by.2 in
         subst (λ name. Says has_fsd (shown_at setup e name)) by.3
         (s.0, s.1, forced-is_shown tables setup e (u by.0) (line_of setup p by.0).ups f s.0 from (room.number by.0 by.1 by.2) was s.1)
 
@@ -404,19 +401,16 @@ module _ (tables : EveryTableHolds) (setup : Setup) (law : IsLawful setup.server
 
     pub follower-halted : clock (seen_at setup m start) + other_halted_in (monitor_of setup p) (pace p) (monitor_of setup m) (pace m) drift ≤ clock (seen_at setup m schedule) →
         is_stopped setup m schedule ≡ true
-    follower-halted late = elim (cases_Bool (is_halted (phase (monitor_of setup m) (seen_at setup m schedule)))) [
-      | inl t ↦ t
-      | inr n ↦
-          let k = stops.keeps m follows schedule (front-self schedule) stops.front n in
-          let all = k.ahead start schedule (front-self start) stops.front (front-self schedule) in
-          let is = all-forced (omega (arith, late, all)) in
-          let f = firsts schedule stops.front (front-self schedule) is in
-          let early_in : IsFront f.early schedule = front-older f.step f.early schedule f.played in
-          let stands = stands-at p f in
-          let le = late-at f.early early_in f.since f.not_yet in
-          let ahead = k.ahead start (f.step ∷ f.early) (front-self start) (inr f.since) f.played in
-          stops-behind (f.step ∷ f.early) (inr f.since) f.played f.now k (omega (arith, late, ahead, le, stands)) (omega (arith, late, ahead, le, stands))
-    ]
+    follower-halted late = if-not (is_halted (phase (monitor_of setup m) (seen_at setup m schedule))) (λ n.
+        let k = stops.keeps m follows schedule (front-self schedule) stops.front n in
+        let all = k.ahead start schedule (front-self start) stops.front (front-self schedule) in
+        let is = all-forced (omega (arith, late, all)) in
+        let f = firsts schedule stops.front (front-self schedule) is in
+        let early_in : IsFront f.early schedule = front-older f.step f.early schedule f.played in
+        let stands = stands-at p f in
+        let le = late-at f.early early_in f.since f.not_yet in
+        let ahead = k.ahead start (f.step ∷ f.early) (front-self start) (inr f.since) f.played in
+        stops-behind (f.step ∷ f.early) (inr f.since) f.played f.now k (omega (arith, late, ahead, le, stands)) (omega (arith, late, ahead, le, stands)))
 
   -- ---- the primary leaves Forcing
 
@@ -454,7 +448,7 @@ module _ (tables : EveryTableHolds) (setup : Setup) (law : IsLawful setup.server
         ] in
         let config_p = monitor_of setup p in
         let running : has_ended config_p (seen_at setup p early) ≡ false = false-if (has_ended config_p (seen_at setup p early)) (λ any.
-        let same = ap length (ended-stays setup p early schedule inside any) in
+        let same = ap length (front-stays setup (is_over_at config_p) p early schedule inside any) in
         let a = earliest-shorter (is_over_at config_p) (seen_at setup p early) in
         let count = length-trace config_p ((world setup early).monitor p) in
         let b = at-count-shorter (ended config_p (seen_at setup p schedule)) in
@@ -484,28 +478,25 @@ module _ (tables : EveryTableHolds) (setup : Setup) (law : IsLawful setup.server
 
     pub follower-first : host_sync_for (monitor_of setup p) (pace p) patient (monitor_of setup m) (pace m) drift ≤ (monitor_of setup p).host_sync → has_ended (monitor_of setup p) (seen_at setup p schedule) ≡ true →
         is_stopped setup m schedule ≡ true
-    follower-first suffices over = elim (cases_Bool (is_halted (phase (monitor_of setup m) (seen_at setup m schedule)))) [
-      | inl t ↦ t
-      | inr n ↦
-          let config_p = monitor_of setup p in
-          let k = stops.keeps m follows schedule (front-self schedule) stops.front n in
-          let by = led-by config_p.lines (line_of setup m follows.one).ups follows.passes in
-          elim (primaries-go_last setup law fine schedule p over) [
-            | inr alone ↦ absurd (not-alone by.0 by.1 by.2 by.3 k (alone by.0 by.1 by.2))
-            | inl waited ↦
-                let begun-over = ended-begun config_p (seen_at setup p schedule) over in
-                let same = ap clock (begun-ending config_p (seen_at setup p schedule) over) in
-                let sooner = earliest-sooner (is_over_at config_p) (seen_at setup p schedule) in
-                let late : clock (begun config_p (seen_at setup p schedule)) + config_p.host_sync < clock (seen_at setup p schedule) = omega (arith, waited, same, sooner) in
-                let is = soon-accepted begun-over (omega (arith, late, suffices)) in
-                let f = firsts schedule stops.front (front-self schedule) is in
-                let early_in : IsFront f.early schedule = front-older f.step f.early schedule f.played in
-                let stands = stands-at p f in
-                let le = soon-forced f.early early_in f.since begun-over f.not_yet in
-                let behind = k.behind (f.step ∷ f.early) schedule (inr f.since) f.played (front-self schedule) in
-                stops-behind m follows (f.step ∷ f.early) (inr f.since) f.played f.now k (omega (arith, late, stands, le, behind, suffices)) (omega (arith, late, stands, le, behind, suffices))
-          ]
-    ]
+    follower-first suffices over = if-not (is_halted (phase (monitor_of setup m) (seen_at setup m schedule))) (λ n.
+        let config_p = monitor_of setup p in
+        let k = stops.keeps m follows schedule (front-self schedule) stops.front n in
+        let by = led-by config_p.lines (line_of setup m follows.one).ups follows.passes in
+        elim (primaries-go_last setup law fine schedule p over) [
+          | inr alone ↦ absurd (not-alone by.0 by.1 by.2 by.3 k (alone by.0 by.1 by.2))
+          | inl waited ↦
+              let begun-over = ended-begun config_p (seen_at setup p schedule) over in
+              let same = ap clock (begun-ending config_p (seen_at setup p schedule) over) in
+              let sooner = earliest-sooner (is_over_at config_p) (seen_at setup p schedule) in
+              let late : clock (begun config_p (seen_at setup p schedule)) + config_p.host_sync < clock (seen_at setup p schedule) = omega (arith, waited, same, sooner) in
+              let is = soon-accepted begun-over (omega (arith, late, suffices)) in
+              let f = firsts schedule stops.front (front-self schedule) is in
+              let early_in : IsFront f.early schedule = front-older f.step f.early schedule f.played in
+              let stands = stands-at p f in
+              let le = soon-forced f.early early_in f.since begun-over f.not_yet in
+              let behind = k.behind (f.step ∷ f.early) schedule (inr f.since) f.played (front-self schedule) in
+              stops-behind m follows (f.step ∷ f.early) (inr f.since) f.played f.now k (omega (arith, late, stands, le, behind, suffices)) (omega (arith, late, stands, le, behind, suffices))
+        ])
 
 forced-within : (primary : Configuration) (pace : Pace) (patient : Bool) → forced_in primary pace ≤ reads_in primary pace + accepted_in primary pace patient
 forced-within primary pace patient =

@@ -11,7 +11,7 @@ use Rattle.nut_server_spec.specs.Trace.{due as server_due}
 use Rattle.nut_monitor_spec.specs.declared.Query.{Query}
 use Rattle.nut_monitor_spec.specs.Configuration.{Configuration, Line}
 use Rattle.nut_monitor_spec.specs.Event.{Event}
-use Rattle.nut_monitor_spec.specs.Trace.{Asked, clock, queries, answers, outstanding, due, joined_queries, taken, notices_waiting, trace}
+use Rattle.nut_monitor_spec.specs.Trace.{Asked, clock, queries, answers, outstanding, due, joined_queries, taken, trace, notices_waiting}
 use Rattle.nut_monitor_spec.specs.Trace as monitor
 use Rattle.nut_monitor_spec.proofs.Lists.{number-none}
 use Rattle.nut_fleet.specs.Schedule.{Step, IsFront}
@@ -20,7 +20,7 @@ use Rattle.nut_fleet.specs.Exchange.{Exchange, exchanges}
 use Rattle.nut_fleet.specs.Fleet.{IsSetup}
 use Rattle.nut_fleet.proofs.Entries.{entry-taken, length-trace}
 use Rattle.nut_fleet.proofs.Exchanges.{said-lines}
-use Rattle.nut_fleet.proofs.Fronts.{front-self, lines-begin}
+use Rattle.nut_fleet.proofs.Fronts.{front-self, lines-begin, length-0}
 use Rattle.nut_fleet.proofs.Sound.{IsOwn, IsLawful, PipeSound}
 use Rattle.nut_fleet.proofs.Steps.{spoken, line-within}
 use Rattle.nut_fleet.proofs.Texts.{IsReply, queries-lines, due-lines}
@@ -37,16 +37,12 @@ use Rattle.nut_in_time.proofs.Standing.{connection-kept, taken-grows, input-begi
 
 -- ---- texts
 
-no-more : {A : Type 0} (xs : List A) → length xs ≤ 0 → xs ≡ []
-no-more [] le = refl
-no-more (x ∷ xs) le = absurd (omega (arith, le))
-
 drop-later : (a b : ℕ) (x : List ℕ) → a ≤ b → drop a x ≡ [] → drop b x ≡ []
 drop-later a b x le none =
     let first = ap length none in
     let one = length-drop a x in
     let two = length-drop b x in
-    no-more (drop b x) (omega (arith, first, one, two, le))
+    length-0 (drop b x) (omega (arith, first, one, two, le))
 
 lines-more : (x y : List ℕ) → Begins x y → length (lines x) ≤ length (lines y)
 lines-more x y b =

@@ -1,5 +1,5 @@
 -- What a link that is up keeps: its connection, what the server heard on it, and what each end put into its pipe.
-use Rattle.std.proofs.Common.{◌≡◌, ◌⊎◌, ℕ, ◌≤◌, ◌==◌, true, false, inl, inr, List, [], ◌∷◌, refl, sym, ◌∙◌, ap, subst, arith}
+use Rattle.std.proofs.Common.{◌≡◌, ◌⊎◌, ℕ, ◌≤◌, ◌==◌, true, false, inl, inr, List, ◌∷◌, refl, sym, ◌∙◌, ap, subst, arith}
 use Rattle.std.proofs.lemmas.Bool.{cases_Bool, cases_eq, eq-eqb, ne_eqb}
 use Rattle.nut_words.specs.Quoting.{Begins}
 use Rattle.nut_server_spec.specs.Event as arrivals
@@ -10,7 +10,7 @@ use Rattle.nut_fleet.specs.Schedule.{Step, IsFront}
 use Rattle.nut_fleet.specs.World.{Setup, World, Deed, Tell, Join, is_linked, address_of, deed, after, world}
 use Rattle.nut_fleet.specs.Fleet.{IsSetup}
 use Rattle.nut_fleet.proofs.Entries.{is_made}
-use Rattle.nut_fleet.proofs.Fronts.{begins-self, begins-more, begins-then, front-self}
+use Rattle.nut_fleet.proofs.Fronts.{begins-self, begins-more, begins-then, front-self, from-front}
 use Rattle.nut_fleet.proofs.Server.{sent-grows}
 use Rattle.nut_fleet.proofs.Sound.{IsLawful}
 use Rattle.nut_fleet.proofs.Deeds.{each-deed}
@@ -42,11 +42,10 @@ module _ (setup : Setup) (w : World) (m i : ℕ) (up : is_linked setup w m i ≡
 pub connection-kept : (setup : Setup) (m i : ℕ) (early late : List Step) → IsFront early late →
     ((e : List Step) → IsFront early e → IsFront e late → is_linked setup (world setup e) m i ≡ true) →
     (world setup late).connection m i ≡ (world setup early).connection m i
-connection-kept setup m i early [] front up = ap (λ e. (world setup e).connection m i) (sym front)
-connection-kept setup m i early (step ∷ late) (inl front) up = ap (λ e. (world setup e).connection m i) (sym front)
-connection-kept setup m i early (step ∷ late) (inr front) up =
-    connection-same setup (world setup late) m i (up late front (inr (front-self late))) step
-    ∙ connection-kept setup m i early late front (λ e since within. up e since (inr within))
+connection-kept setup m i early late front =
+    from-front (λ s. ((e : List Step) → IsFront early e → IsFront e s → is_linked setup (world setup e) m i ≡ true) → (world setup s).connection m i ≡ (world setup early).connection m i)
+    early late front (λ up. refl)
+    (λ step s from before up. connection-same setup (world setup s) m i (up s from (inr (front-self s))) step ∙ before (λ e since within. up e since (inr within)))
 
 -- ---- what its monitor put into the pipe
 
@@ -74,14 +73,12 @@ server-moves setup w d = inl refl
 -- What holds of the server's events at one time, and is kept by each event, holds at a later time.
 pub server-climb : (setup : Setup) (early late : List Step) (P : List arrivals.Event → Type 0) → IsFront early late → P (world setup early).server →
     ((e : List Step) (event : arrivals.Event) → IsFront early e → P (world setup e).server → P (event ∷ (world setup e).server)) → P (world setup late).server
-server-climb setup early [] P front base on = subst (λ e. P (world setup e).server) front base
-server-climb setup early (step ∷ late) P (inl front) base on = subst (λ e. P (world setup e).server) front base
-server-climb setup early (step ∷ late) P (inr front) base on =
-    let before = server-climb setup early late P front base on in
-    elim (server-moves setup (world setup late) (deed setup (world setup late) step)) [
+server-climb setup early late P front base on =
+    from-front (λ s. P (world setup s).server) early late front base
+    (λ step s from before. elim (server-moves setup (world setup s) (deed setup (world setup s) step)) [
       | inl same ↦ subst P (sym same) before
-      | inr told ↦ subst P (sym told.1) (on late told.0 front before)
-    ]
+      | inr told ↦ subst P (sym told.1) (on s told.0 from before)
+    ])
 
 pub input-begins : (setup : Setup) (c : ℕ) (early late : List Step) → IsFront early late →
     Begins (arrivals.input c (world setup early).server) (arrivals.input c (world setup late).server)

@@ -1,7 +1,6 @@
 -- The primary of a room on a low battery: its FSD is accepted in time.
 use Rattle.std.proofs.Common.{◌≡◌, ◌⊎◌, ℕ, zero, suc, ◌+◌, ◌<◌, ◌≤◌, ◌||◌, inl, inr, List, [], ◌∷◌, length, Bool, true, false, not, Some, refl, sym, ◌∙◌, ap, subst, arith}
-use Rattle.std.specs.Prelude.{nat_lt}
-use Rattle.std.proofs.lemmas.Bool.{cases_Bool, ltb-false, ltb-true, or_cases}
+use Rattle.std.proofs.lemmas.Bool.{cases_Bool, ltb-true, or_cases}
 use Rattle.nut_server_spec.specs.Configuration.{number_of_ups}
 use Rattle.nut_server_spec.specs.Content.{past}
 use Rattle.nut_monitor_spec.specs.declared.Query.TheVariants.{Primary}
@@ -9,7 +8,6 @@ use Rattle.nut_monitor_spec.specs.Configuration.{Configuration, Line, has_primar
 use Rattle.nut_monitor_spec.specs.Decision.{power_where}
 use Rattle.nut_monitor_spec.specs.Event.{Event}
 use Rattle.nut_monitor_spec.specs.Trace.{Entry, clock, status, critical, is_any, is_short, supply, begun, has_begun, came, entry_of, trace}
-use Rattle.nut_monitor_spec.proofs.Lists.{earliest-none}
 use Rattle.nut_fleet.specs.Schedule.{Step, IsFront}
 use Rattle.nut_fleet.specs.World.{Setup, has_link, line_of, monitor_of, world}
 use Rattle.nut_fleet.specs.Fleet.{IsSetup}
@@ -21,13 +19,13 @@ use Rattle.nut_in_time.specs.Pace.{Pace, FromOn, IsPolled, IsSteady, IsWatched, 
 use Rattle.nut_in_time.specs.InTime.{BeginsBy, IsFailing, has_fsd, is_low, seen_by, turn}
 use Rattle.nut_in_time.specs.Room.{WasGranted, is_forced}
 use Rattle.nut_in_time.proofs.Asking.{not-made, waits-outstanding}
-use Rattle.nut_in_time.proofs.Beginning.{begin-by, fsd-critical, low-critical, low-begun, linked-any, power-less}
-use Rattle.nut_in_time.proofs.Ending.{clock-entry, clock-grows, earliest-now, empty-any, each-steady, true-if, false-if}
+use Rattle.nut_in_time.proofs.Beginning.{begin-by, fsd-critical, low-critical, low-begun, linked-any}
+use Rattle.nut_in_time.proofs.Ending.{clock-entry, clock-grows, earliest-now, each-steady, true-if, false-if, at-most}
 use Rattle.nut_in_time.proofs.Forcing.{IsGone, Track, track-next}
 use Rattle.nut_in_time.proofs.Lasting.{AllGood, Chosen, Lasts, all-good, good-before, lasts-first, lasts-next}
-use Rattle.nut_in_time.proofs.Polling.{Current}
 use Rattle.nut_in_time.proofs.Unforced.{none-counted, none-forced, none-read}
 use Rattle.nut_fleet.proofs.Events.{genuine-front}
+use Rattle.nut_fleet.proofs.Shutdowns.{enough-before, power-more}
 
 -- ---- statuses that stop a primary at once
 
@@ -58,13 +56,6 @@ every i = true
 
 -- ---- before a shutdown begins
 
-enough-before : (configuration : Configuration) (past : List Entry) → is_any past ≡ true → has_begun configuration past ≡ false →
-    configuration.min_supplies ≤ supply configuration past
-enough-before configuration [] any none = cc
-enough-before configuration (e ∷ p) any none =
-    ltb-false (supply configuration (e ∷ p)) configuration.min_supplies
-    (earliest-none (is_short configuration) p e (empty-any (begun configuration (e ∷ p)) none))
-
 -- if there is one line, it becomes critical as the shutdown begins
 wild-now : (configuration : Configuration) (past : List Entry) (entry : Entry) → length configuration.lines ≡ 1 → is_any past ≡ true →
     has_begun configuration past ≡ false → has_begun configuration (entry ∷ past) ≡ true → critical configuration 0 (entry ∷ past) ≡ true
@@ -72,7 +63,7 @@ wild-now configuration past entry one any none begins = true-if (critical config
     let short = ltb-true (supply configuration (entry ∷ past)) configuration.min_supplies ((earliest-now (is_short configuration) entry past none begins).1) in
     let enough = enough-before configuration past any none in
     let more : supply configuration past ≤ supply configuration (entry ∷ past) =
-    power-less (λ i. not (critical configuration i past)) (λ i. not (critical configuration i (entry ∷ past))) configuration.lines
+    power-more (λ i. not (critical configuration i past)) (λ i. not (critical configuration i (entry ∷ past))) configuration.lines
     (by (λ i. not (critical configuration i past)) (λ i. not (critical configuration i (entry ∷ past))) (rw f refl)) in
     absurd (omega (arith, short, enough, more)))
   where
@@ -171,50 +162,34 @@ module _ (setup : Setup) (law : IsLawful setup.server) (fine : IsSetup setup) (p
         let from = is.0 in
         let count = length-trace config told in
         let lasts = is.1 in
-        let since = lasts.long in
-        let end = front-self schedule in (
+        let since = lasts.long in (
           omega (arith, time, grows, from),
           lasts-next config n0 t0 most pace is_urgent every turned soon told event before.0 now.0 little lasts,
           track-next config 0 n0 t0 most pace is_urgent before_ event within primary turned long
               (not-made config told event 0 within g.accepted.1 b.there) g.there little from (omega (arith, since, count)) b.prompt g.prompt
-              (none-counted setup law fine p 0 u start schedule front there number' keeps.linked granted not_forced schedule end (trace config (event ∷ told)) now.1)
+              (none-counted setup law fine p 0 u start schedule front there number' keeps.linked granted not_forced (event ∷ told) now.1)
               (λ f. let midway = came config before_ event ∷ before_ in
-              none-forced setup law fine p 0 u start schedule front there number' keeps.linked granted not_forced schedule end (length midway) (trace config (event ∷ told)) now.1
+              none-forced setup law fine p 0 u start schedule front there number' keeps.linked granted not_forced (length midway) (trace config (event ∷ told)) now.1
               (forced-entry config before_ event 0 (length midway) (forced-by 0 (length midway) midway (omega arith) f)))
-              (λ a answer. none-read setup law fine p 0 u start schedule front there number' keeps.linked granted not_forced schedule end before_ a
+              (λ a answer. none-read setup law fine p 0 u start schedule front there number' keeps.linked granted not_forced before_ a
               (subst (λ o. ForAnswer o (Genuine setup schedule p before_)) (entry-answer config before_ event ∙ answer) now.1.0))
-              (tame-at told before)
+              (λ not_yet. false-if (critical config 0 before_) (λ t. let bad : false ≡ true = sym not_yet ∙ begun-if told before t in cc))
               (wild-now config before_ (entry_of config before_ event) one (linked-any 0 before_ b.there))
               (λ not_yet. (
-                λ c. let begun : has_begun config before_ ≡ true = current-begun told before c in let bad : false ≡ true = sym not_yet ∙ begun in cc,
+                λ c. let bad : false ≡ true = sym not_yet ∙ begun-if told before (urgent-critical config 0 before_ primary c.fresh.says) in cc,
                 lasts.polls not_yet 0 within refl,
               )) is.2,
         )
       where
-        critical-at : (told : List Event) →
-            Current config 0 n0 t0 most pace is_urgent (trace config told) →
-            (i : ℕ) → i < length config.lines → critical config i (trace config told) ≡ true
-        critical-at told c zero less = urgent-critical config 0 (trace config told) primary c.fresh.says
-        critical-at told c (suc i) less = absurd (omega (arith, one, less))
-
-        current-begun : (told : List Event) → Goods told →
-            Current config 0 n0 t0 most pace is_urgent (trace config told) →
-            has_begun config (trace config told) ≡ true
-        current-begun told good c =
+        -- it has begun if its only line is critical
+        begun-if : (told : List Event) → Goods told → critical config 0 (trace config told) ≡ true → has_begun config (trace config told) ≡ true
+        begun-if told good t =
             let none : power_where (λ i. not (every i)) config.lines ≡ 0 = none-power config.lines in
-            low-begun config every (trace config told) (linked-any 0 (trace config told) (good.0 0 within refl).there) (omega (arith, none, needed))
-            (λ i less is. critical-at told c i less)
-
-        tame-at : (told : List Event) → Goods told → has_begun config (trace config told) ≡ false → critical config 0 (trace config told) ≡ false
-        tame-at told good none = false-if (critical config 0 (trace config told)) (λ t.
-            let none_left : power_where (λ i. not (every i)) config.lines ≡ 0 = none-power config.lines in
-            let begun : has_begun config (trace config told) ≡ true =
-            low-begun config every (trace config told) (linked-any 0 (trace config told) (good.0 0 within refl).there) (omega (arith, none_left, needed)) (only t) in
-            let bad : false ≡ true = sym none ∙ begun in cc)
+            low-begun config every (trace config told) (linked-any 0 (trace config told) (good.0 0 within refl).there) (omega (arith, none, needed)) only
           where
-            only : critical config 0 (trace config told) ≡ true → (i : ℕ) → i < length config.lines → every i ≡ true → critical config i (trace config told) ≡ true
-            only t zero less is = t
-            only t (suc i) less is = absurd (omega (arith, one, less))
+            only : (i : ℕ) → i < length config.lines → every i ≡ true → critical config i (trace config told) ≡ true
+            only zero less is = t
+            only (suc i) less is = absurd (omega (arith, one, less))
 
     tracks : Track config 0 n0 t0 most pace is_urgent (seen_at setup p schedule)
     tracks =
@@ -233,19 +208,16 @@ module _ (setup : Setup) (law : IsLawful setup.server) (fine : IsSetup setup) (p
     not-later =
         let prompt = keeps.prompt schedule (front-self schedule) front in
         elim tracks [
-          | inl f ↦ elim (cases_Bool (nat_lt (seen_by config pace t0) (clock (seen_at setup p schedule)))) [
-            | inl late ↦
-                let begun = primary-begins.begins (ltb-true (seen_by config pace t0) (clock (seen_at setup p schedule)) late) in
-                let bad : false ≡ true = sym f ∙ begun in cc
-            | inr early ↦ let le = ltb-false (seen_by config pace t0) (clock (seen_at setup p schedule)) early in omega (arith, le)
-          ]
+          | inl f ↦
+              let le = at-most (clock (seen_at setup p schedule)) (seen_by config pace t0) (λ late. let bad : false ≡ true = sym f ∙ primary-begins.begins late in cc) in
+              omega (arith, le)
           | inr (inl w) ↦
               let in_time = prompt w.last (waits-outstanding 0 (seen_at setup p schedule) w.last w.waits) in
-              let early = w.early in
+              let early = w.early.0 in
               omega (arith, in_time, early)
           | inr (inr a) ↦
               let in_time = prompt a.last (waits-outstanding 0 (seen_at setup p schedule) a.last a.waits) in
-              let soon' = a.soon in
+              let soon' = a.soon.0 in
               omega (arith, in_time, soon')
         ]
 
@@ -263,7 +235,7 @@ module _ (setup : Setup) (law : IsLawful setup.server) (fine : IsSetup setup) (p
               inr (inl (omega (arith, in_time, before)))
           | inr (inr a) ↦
               let in_time = prompt a.last (waits-outstanding 0 (seen_at setup p schedule) a.last a.waits) in
-              elim a.promptly [
+              elim a.soon.1 [
                 | inl le ↦ inr (inl (omega (arith, in_time, le)))
                 | inr late ↦ let lt = late.1 in inr (inr (late.0, omega (arith, in_time, lt)))
               ]

@@ -1,6 +1,5 @@
 -- On a link of a primary, while nobody has forced the shutdown of its UPS, no FSD is accepted.
-use Rattle.std.proofs.Common.{◌≡◌, ℕ, ◌<◌, inl, inr, List, ◌∷◌, length, true, false, Some, is_some, refl, sym, ◌∙◌, ap, subst, arith}
-use Rattle.nut_link.specs.declared.outcome.Outcome.{Outcome}
+use Rattle.std.proofs.Common.{◌≡◌, ◌⊎◌, ℕ, ◌+◌, ◌<◌, ◌≤◌, inl, inr, List, [], ◌∷◌, length, true, false, Some, sym, ◌∙◌, subst, arith}
 use Rattle.nut_proto.specs.declared.reply.Reply.{Reply}
 use Rattle.nut_proto.specs.declared.reply.Reply.TheVariants as replies
 use Rattle.nut_server_spec.specs.Answer.{Line as OneLine}
@@ -8,35 +7,35 @@ use Rattle.nut_server_spec.specs.Configuration.{number_of_ups}
 use Rattle.nut_server_spec.specs.Content.{past}
 use Rattle.nut_server_spec.specs.Event as arrivals
 use Rattle.nut_server_spec.specs.Trace.{answer_to}
-use Rattle.nut_monitor_spec.specs.declared.Query.{Query}
-use Rattle.nut_monitor_spec.specs.declared.Query.TheVariants.{Primary, Fsd, NumLogins}
+use Rattle.nut_monitor_spec.specs.declared.Query.TheVariants.{Primary, Fsd}
+use Rattle.nut_monitor_spec.specs.Acceptance.{IsAccepted}
 use Rattle.nut_monitor_spec.specs.Decision.{is_alone}
-use Rattle.nut_monitor_spec.specs.Query.{logins_in}
-use Rattle.nut_monitor_spec.specs.Trace.{Answer, Entry, newest_answer, logins_of_answer, logins}
+use Rattle.nut_monitor_spec.specs.Event.{Event}
+use Rattle.nut_monitor_spec.specs.Trace.{Answer, Entry, begun, clock, forced, has_begun, logins, trace}
 use Rattle.nut_fleet.specs.Schedule.{Step, IsFront}
-use Rattle.nut_fleet.specs.World.{Setup, has_link, is_linked, line_of, world}
+use Rattle.nut_fleet.specs.World.{Setup, has_link, is_linked, line_of, monitor_of, world}
 use Rattle.nut_fleet.specs.Exchange.{exchanges}
 use Rattle.nut_fleet.specs.Fleet.{Exists, IsAnswered, IsSetup}
 use Rattle.nut_fleet.specs.Shown.{query_line}
+use Rattle.nut_fleet.proofs.Entries.{forced-by}
 use Rattle.nut_fleet.proofs.Fronts.{front-older, fronts-compare}
 use Rattle.nut_fleet.proofs.Primaries.{forced-genuine}
 use Rattle.nut_fleet.proofs.Reading.{reply-same}
-use Rattle.nut_fleet.proofs.Sound.{EachGenuine, ForcedBy, Genuine, IsLawful}
-use Rattle.nut_fleet.proofs.Statuses.{found}
+use Rattle.nut_fleet.proofs.Sound.{EachGenuine, ForAnswer, ForcedBy, Genuine, IsLawful}
 use Rattle.nut_fleet.proofs.Steps.{spoken}
 use Rattle.nut_fleet.proofs.Worlds.{sound}
 use Rattle.nut_fleet.proofs.Rereads.{as-made, number-within, room-stays}
-use Rattle.nut_in_time.specs.Pace.{FromOn}
+use Rattle.nut_in_time.specs.Pace.{FromOn, IsPolled, KeepsPace, Pace, seen_at}
 use Rattle.nut_in_time.specs.Room.{IsGrant, WasGranted, is_forced}
+use Rattle.nut_in_time.specs.RoomAsTold.{EachTaken}
 use Rattle.nut_in_time.proofs.Climbing.{front-of}
+use Rattle.nut_in_time.proofs.Ending.{false-if}
 use Rattle.nut_in_time.proofs.Forced.{schedule-stays}
 use Rattle.nut_in_time.proofs.Granted.{answered-forced, entitled, entitled-forces, said-keeps}
+use Rattle.nut_in_time.proofs.Lasting.{kept-pace}
+use Rattle.nut_in_time.proofs.RoomAsTold.{alone-forced, behind}
 use Rattle.nut_in_time.proofs.Showing.{monitor-grows}
 use Rattle.nut_in_time.proofs.Standing.{connection-kept, server-climb}
-
-pub count-asked : (query : Query) (outcome : Outcome) → is_some (logins_in query outcome) ≡ true → query ≡ NumLogins
-count-asked NumLogins outcome is = refl
-count-asked query outcome is = cc
 
 module _ (setup : Setup) (law : IsLawful setup.server) (fine : IsSetup setup) (p i u : ℕ) (start schedule : List Step) (front : IsFront start schedule)
     (there : has_link setup p i ≡ true) (number : number_of_ups (line_of setup p i).ups setup.server.upses ≡ Some u)
@@ -46,13 +45,13 @@ module _ (setup : Setup) (law : IsLawful setup.server) (fine : IsSetup setup) (p
   n0 = length ((world setup start).monitor p)
 
   -- no FSD was accepted
-  pub none-accepted : (e : List Step) → IsFront e schedule → (step : Step) (early : List Step) → IsFront (step ∷ early) e → IsAnswered setup p i Fsd replies.FsdSet step early → ⊥
-  none-accepted e inside step early played answered =
+  none-accepted : (step : Step) (early : List Step) → IsFront (step ∷ early) schedule → IsAnswered setup p i Fsd replies.FsdSet step early → ⊥
+  none-accepted step early played answered =
       let now = answered-forced setup p i u step early (spoken setup p i fine there) number answered in
-      let bad : false ≡ true = sym not_forced ∙ schedule-stays setup u (number-within (line_of setup p i).ups setup.server.upses u number) (step ∷ early) schedule (front-of (step ∷ early) e schedule played inside) now in cc
+      let bad : false ≡ true = sym not_forced ∙ schedule-stays setup u (number-within (line_of setup p i).ups setup.server.upses u number) (step ∷ early) schedule played now in cc
 
   -- the server accepts each FSD on the link since `start`
-  pub accepts : (early : List Step) (reply : Reply) → IsFront start early → IsFront early schedule →
+  accepts : (early : List Step) (reply : Reply) → IsFront start early → IsFront early schedule →
       answer_to setup.server (past setup.server (world setup early).server) ((world setup early).connection p i) (query_line (line_of setup p i) Fsd) ≡ OneLine reply → reply ≡ replies.FsdSet
   accepts early reply since inside answered =
       let c0 = (world setup start).connection p i in
@@ -71,36 +70,50 @@ module _ (setup : Setup) (law : IsLawful setup.server) (fine : IsSetup setup) (p
       let made = as-made setup.server (arrivals.steps (world setup early).server) none in
       reply-same reply replies.FsdSet (sym answered ∙ entitled-forces setup.server line c t made line_fine own right)
 
-  module _ (e : List Step) (inside : IsFront e schedule) where
-    -- no number of logins was read
-    pub none-counted : (past : List Entry) → EachGenuine setup e p past → is_alone (logins i past) ≡ true → ⊥
-    none-counted past all alone = elim (found setup e p (λ query outcome. is_some (logins_in query outcome)) i past all) [
-      | inl none ↦
-          let bad : false ≡ true = sym (ap (λ t. is_alone (logins_of_answer (newest_answer t))) none) ∙ alone in cc
-      | inr f ↦
-          let a = f.answer in
-          let forced = forced-genuine setup e p law a.link a.asked.event f.past (f.genuine.forced (count-asked a.asked.query a.outcome f.passed)) f.older in
-          none-accepted e inside forced.step forced.early forced.played
-          (subst (λ j. IsAnswered setup p j Fsd replies.FsdSet forced.step forced.early) f.link forced.answered)
-    ]
+  -- no FSD was answered OK
+  pub none-forced : (n : ℕ) (past : List Entry) → EachGenuine setup schedule p past → ForcedBy i n past → ⊥
+  none-forced n past all is =
+      let forced = forced-genuine setup schedule p law i n past is all in
+      none-accepted forced.step forced.early forced.played forced.answered
 
-    -- no FSD was answered OK
-    pub none-forced : (n : ℕ) (past : List Entry) → EachGenuine setup e p past → ForcedBy i n past → ⊥
-    none-forced n past all is =
-        let forced = forced-genuine setup e p law i n past is all in
-        none-accepted e inside forced.step forced.early forced.played forced.answered
+  unforced : (past : List Entry) → EachGenuine setup schedule p past → forced i past ≡ false
+  unforced past all = false-if (forced i past) (λ is. none-forced (length past) past all (forced-by i (length past) past (omega arith) is))
 
-    -- no answer to an FSD that was put since `start` was read
-    pub none-read : (past : List Entry) (a : Answer) → Genuine setup e p past a → a.link ≡ i → a.asked.query ≡ Fsd → n0 < a.asked.event → ⊥
-    none-read past a g link query late =
-        let early = g.was.early in
-        let to_e : IsFront early e = front-older g.was.step early e g.was.played in
-        let to_end : IsFront early schedule = front-of early e schedule to_e inside in
-        let since : IsFront start early = elim (fronts-compare start early schedule front to_end) [
-          | inl is ↦ is
-          | inr is ↦ let few = monitor-grows setup p early start is in let asked = g.asked in absurd (omega (arith, few, asked, late))
-        ] in
-        let answered : IsAnswered setup p i Fsd g.reply g.was.step early =
-        subst (λ q. IsAnswered setup p i q g.reply g.was.step early) query (subst (λ j. IsAnswered setup p j a.asked.query g.reply g.was.step early) link g.was.answered) in
-        none-accepted e inside g.was.step early g.was.played
-        (subst (λ r. IsAnswered setup p i Fsd r g.was.step early) (accepts early g.reply since to_end answered.answered) answered)
+  -- so no number of logins was read
+  pub none-counted : (told : List Event) → EachGenuine setup schedule p (trace (monitor_of setup p) told) → is_alone (logins i (trace (monitor_of setup p) told)) ≡ true → ⊥
+  none-counted told all alone =
+      let bad : false ≡ true = sym (unforced (trace (monitor_of setup p) told) all) ∙ alone-forced (monitor_of setup p) i told alone in cc
+
+  -- no answer to an FSD that was put since `start` was read
+  pub none-read : (past : List Entry) (a : Answer) → Genuine setup schedule p past a → a.link ≡ i → a.asked.query ≡ Fsd → n0 < a.asked.event → ⊥
+  none-read past a g link query late =
+      let early = g.was.early in
+      let inside : IsFront early schedule = front-older g.was.step early schedule g.was.played in
+      let since : IsFront start early = elim (fronts-compare start early schedule front inside) [
+        | inl is ↦ is
+        | inr is ↦ let few = monitor-grows setup p early start is in let asked = g.asked in absurd (omega (arith, few, asked, late))
+      ] in
+      let answered : IsAnswered setup p i Fsd g.reply g.was.step early =
+      subst (λ q. IsAnswered setup p i q g.reply g.was.step early) query (subst (λ j. IsAnswered setup p j a.asked.query g.reply g.was.step early) link g.was.answered) in
+      none-accepted g.was.step early g.was.played
+      (subst (λ r. IsAnswered setup p i Fsd r g.was.step early) (accepts early g.reply since inside answered.answered) answered)
+
+  -- each answer to such an FSD would be OK, since there is none
+  taken : (past : List Entry) → EachGenuine setup schedule p past → EachTaken i n0 past
+  taken [] all = tt
+  taken (entry ∷ past) all =
+      ((λ a answer link query late. absurd (none-read past a (subst (λ o. ForAnswer o (Genuine setup schedule p past)) answer all.0) link query late)), taken past all.1)
+
+  -- how long after the shutdown began it may be: as told
+  module _ (pace : Pace) (within : i < length (monitor_of setup p).lines) (primary : (line_of setup p i).primary ≡ true) (long : pace.delay ≤ (monitor_of setup p).host_sync)
+      (not_begun : has_begun (monitor_of setup p) (seen_at setup p start) ≡ false) (polled : IsPolled i (seen_at setup p start)) (keeps : KeepsPace setup pace p i start schedule) where
+    pub led-behind : (has_begun (monitor_of setup p) (seen_at setup p schedule) ≡ false)
+        ⊎ (clock (seen_at setup p schedule) ≤ clock (begun (monitor_of setup p) (seen_at setup p schedule)) + pace.delay + pace.delay)
+    led-behind =
+        let config = monitor_of setup p in
+        let s = (sound setup law fine schedule).monitors p in
+        let k = kept-pace setup law fine pace p i start schedule front keeps in
+        subst (λ told. (has_begun config (trace config told) ≡ false) ⊎ (clock (trace config told) ≤ clock (begun config (trace config told)) + pace.delay + pace.delay)) (sym k.1)
+        (behind config pace ((world setup start).monitor p) i within primary long not_begun polled k.0 (subst (IsAccepted config) k.1 s.accepted) k.2
+        (subst (λ told. EachTaken i n0 (trace config told)) k.1 (taken (seen_at setup p schedule) s.genuine))
+        (subst (λ told. forced i (trace config told) ≡ false) k.1 (unforced (seen_at setup p schedule) s.genuine)))

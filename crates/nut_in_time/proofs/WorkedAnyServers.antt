@@ -6,7 +6,8 @@ use Rattle.nut_words.specs.Reader.{read}
 use Rattle.nut_proto.specs.Answers.{answer_of}
 use Rattle.nut_proto.specs.Lines.{line}
 use Rattle.nut_proto.specs.Requests.{request_line}
-use Rattle.nut_monitor_spec.specs.declared.Query.TheVariants.{Status}
+use Rattle.nut_link.specs.declared.outcome.Outcome.{Outcome}
+use Rattle.nut_monitor_spec.specs.declared.Query.{Query}
 use Rattle.nut_monitor_spec.specs.Acceptance.{IsAccepted, IsGiven as Happens, is_busy, refusal}
 use Rattle.nut_monitor_spec.specs.Configuration.{Configuration}
 use Rattle.nut_monitor_spec.specs.Content.{Content, content}
@@ -19,7 +20,7 @@ use Rattle.nut_in_time.specs.AnyServers.{Always, EachGiven, IsEven, IsTold}
 use Rattle.nut_in_time.specs.examples.AnyServersExamples.{AnyServersExamples, both_are_low, both_read, since_then}
 use Rattle.nut_in_time.specs.examples.Examples.{all, pace}
 use Rattle.nut_in_time.specs.InTime.{is_low, Needs}
-use Rattle.nut_in_time.specs.Pace.{IsPrompt, Pace, Says}
+use Rattle.nut_in_time.specs.Pace.{IsPrompt, Pace}
 use Rattle.nut_in_time.specs.Tests.{is_polled, is_prompt, is_status, says}
 use Rattle.nut_in_time.proofs.Testing.{polled-holds, prompt-holds, says-holds, below, Below}
 
@@ -79,30 +80,37 @@ always-holds configuration pace i first (event ∷ newest) is =
     let parts = and_parts (keeps pace i past) (always configuration (keeps pace i) first newest) is in
     (keeps-holds pace i past parts.0, always-holds configuration pace i first newest parts.1)
 
-abbrev is_given : ℕ → ℕ → (List (List ℕ) → Bool) → Option Answer → Bool
-is_given i n Words None = true
-is_given i n Words (Some a) = not (a.link == i && (is_status a.asked.query && nat_lt n a.asked.event)) || says Words (status_in a.asked.query a.outcome)
+-- an answer on link i to such a query that was put after the n-th event passes this test
+abbrev pub is_so : (Query → Bool) → ℕ → ℕ → (Query → Outcome → Bool) → Option Answer → Bool
+is_so asks i n passes None = true
+is_so asks i n passes (Some a) = not (a.link == i && (asks a.asked.query && nat_lt n a.asked.event)) || passes a.asked.query a.outcome
 
-given-holds : (i n : ℕ) (Words : List (List ℕ) → Bool) (answer : Option Answer) → is_given i n Words answer ≡ true →
-    (a : Answer) → answer ≡ Some a → a.link ≡ i → a.asked.query ≡ Status → n < a.asked.event → Says Words (status_in a.asked.query a.outcome)
-given-holds i n Words None is a e link status late = cc
-given-holds i n Words (Some b) is a e link status late =
+pub so-holds : (asks : Query → Bool) (i n : ℕ) (passes : Query → Outcome → Bool) (answer : Option Answer) → is_so asks i n passes answer ≡ true →
+    (a : Answer) → answer ≡ Some a → a.link ≡ i → asks a.asked.query ≡ true → n < a.asked.event → passes a.asked.query a.outcome ≡ true
+so-holds asks i n passes None is a e link asked late = cc
+so-holds asks i n passes (Some b) is a e link asked late =
     let same : b ≡ a = cc in
     let e1 : (b.link == i) ≡ true = eq-eqb b.link i (ap (λ (x : Answer). x.link) same ∙ link) in
-    let e2 : is_status b.asked.query ≡ true = ap (λ (x : Answer). is_status x.asked.query) same ∙ ap is_status status in
+    let e2 : asks b.asked.query ≡ true = ap (λ (x : Answer). asks x.asked.query) same ∙ asked in
     let e3 : nat_lt n b.asked.event ≡ true = ap (λ (x : Answer). nat_lt n x.asked.event) same ∙ lt-ltb n a.asked.event late in
-    let told : says Words (status_in b.asked.query b.outcome) ≡ true = rw (e1, e2, e3) at is in
-    subst (λ (x : Answer). Says Words (status_in x.asked.query x.outcome)) same (says-holds Words (status_in b.asked.query b.outcome) told)
+    let passed : passes b.asked.query b.outcome ≡ true = rw (e1, e2, e3) at is in
+    subst (λ (x : Answer). passes x.asked.query x.outcome ≡ true) same passed
+
+abbrev says_in : (List (List ℕ) → Bool) → Query → Outcome → Bool
+says_in Words query outcome = says Words (status_in query outcome)
 
 abbrev pub each_given : ℕ → ℕ → (List (List ℕ) → Bool) → List Entry → Bool
 each_given i n Words [] = true
-each_given i n Words (entry ∷ past) = is_given i n Words entry.answer && each_given i n Words past
+each_given i n Words (entry ∷ past) = is_so is_status i n (says_in Words) entry.answer && each_given i n Words past
 
 pub each_given-holds : (i n : ℕ) (Words : List (List ℕ) → Bool) (past : List Entry) → each_given i n Words past ≡ true → EachGiven i n Words past
 each_given-holds i n Words [] is = tt
 each_given-holds i n Words (entry ∷ past) is =
-    let parts = and_parts (is_given i n Words entry.answer) (each_given i n Words past) is in
-    (given-holds i n Words entry.answer parts.0, each_given-holds i n Words past parts.1)
+    let parts = and_parts (is_so is_status i n (says_in Words) entry.answer) (each_given i n Words past) is in (
+      λ a e link status late.
+          says-holds Words (status_in a.asked.query a.outcome) (so-holds is_status i n (says_in Words) entry.answer parts.0 a e link (ap is_status status) late),
+      each_given-holds i n Words past parts.1,
+    )
 
 -- what is tested of a line
 abbrev pub is_told : Configuration → Pace → (List (List ℕ) → Bool) → List Event → List Event → ℕ → Bool

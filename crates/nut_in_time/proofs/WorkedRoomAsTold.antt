@@ -1,6 +1,6 @@
 -- The worked primary with UPSes at two servers, and a machine that needs one of them.
-use Rattle.std.proofs.Common.{◌≡◌, ℕ, ◌<◌, ◌&&◌, ◌||◌, ◌==◌, not, List, [], ◌∷◌, ◌++◌, length, Bool, true, false, Option, Some, None, refl, ◌∙◌, ap, subst, arith}
-use Rattle.std.proofs.lemmas.Bool.{and_parts, eq-eqb}
+use Rattle.std.proofs.Common.{◌≡◌, ℕ, ◌&&◌, List, [], ◌∷◌, ◌++◌, length, Bool, true, false, refl, ap, arith}
+use Rattle.std.proofs.lemmas.Bool.{and_parts}
 use Rattle.nut_words.specs.Reader.{read}
 use Rattle.nut_proto.specs.Answers.{answer_of}
 use Rattle.nut_proto.specs.Lines.{line}
@@ -9,7 +9,7 @@ use Rattle.nut_monitor_spec.specs.declared.Query.{Query}
 use Rattle.nut_monitor_spec.specs.declared.Query.TheVariants.{Fsd}
 use Rattle.nut_monitor_spec.specs.Configuration.{line_in}
 use Rattle.nut_monitor_spec.specs.Query.{is_forced}
-use Rattle.nut_monitor_spec.specs.Trace.{Answer, Entry, entry_of, last_query, linked, trace}
+use Rattle.nut_monitor_spec.specs.Trace.{Entry, entry_of, last_query, linked, trace}
 use Rattle.nut_in_time.specs.AnyServers.{Always}
 use Rattle.nut_in_time.specs.RoomAsTold.{EachTaken}
 use Rattle.nut_in_time.specs.examples.AnyServersExamples.{newest_of}
@@ -19,7 +19,7 @@ use Rattle.nut_in_time.specs.examples.RoomPaceExamples.{within}
 use Rattle.nut_in_time.specs.InTime.{has_fsd}
 use Rattle.nut_in_time.specs.Pace.{IsPolled, IsPrompt}
 use Rattle.nut_in_time.proofs.Testing.{polled-holds, below}
-use Rattle.nut_in_time.proofs.WorkedAnyServers.{accepted-holds, always-holds, told-holds}
+use Rattle.nut_in_time.proofs.WorkedAnyServers.{accepted-holds, always-holds, told-holds, is_so, so-holds}
 
 -- ---- a test that each FSD was taken
 
@@ -27,29 +27,15 @@ abbrev is_fsd : Query → Bool
 is_fsd Fsd = true
 is_fsd query = false
 
-abbrev is_taken : ℕ → Option Answer → Bool
-is_taken i None = true
-is_taken i (Some a) = not (a.link == i && is_fsd a.asked.query) || is_forced a.asked.query a.outcome
+abbrev each_taken : ℕ → ℕ → List Entry → Bool
+each_taken i n [] = true
+each_taken i n (entry ∷ past) = is_so is_fsd i n is_forced entry.answer && each_taken i n past
 
-taken-holds : (i n : ℕ) (answer : Option Answer) → is_taken i answer ≡ true →
-    (a : Answer) → answer ≡ Some a → a.link ≡ i → a.asked.query ≡ Fsd → n < a.asked.event → is_forced a.asked.query a.outcome ≡ true
-taken-holds i n None is a e link fsd late = cc
-taken-holds i n (Some b) is a e link fsd late =
-    let same : b ≡ a = cc in
-    let e1 : (b.link == i) ≡ true = eq-eqb b.link i (ap (λ (x : Answer). x.link) same ∙ link) in
-    let e2 : is_fsd b.asked.query ≡ true = ap (λ (x : Answer). is_fsd x.asked.query) same ∙ ap is_fsd fsd in
-    let ok : is_forced b.asked.query b.outcome ≡ true = rw (e1, e2) at is in
-    subst (λ (x : Answer). is_forced x.asked.query x.outcome ≡ true) same ok
-
-abbrev each_taken : ℕ → List Entry → Bool
-each_taken i [] = true
-each_taken i (entry ∷ past) = is_taken i entry.answer && each_taken i past
-
-each_taken-holds : (i n : ℕ) (past : List Entry) → each_taken i past ≡ true → EachTaken i n past
+each_taken-holds : (i n : ℕ) (past : List Entry) → each_taken i n past ≡ true → EachTaken i n past
 each_taken-holds i n [] is = tt
 each_taken-holds i n (entry ∷ past) is =
-    let parts = and_parts (is_taken i entry.answer) (each_taken i past) is in
-    (taken-holds i n entry.answer parts.0, each_taken-holds i n past parts.1)
+    let parts = and_parts (is_so is_fsd i n is_forced entry.answer) (each_taken i n past) is in
+    ((λ a e link fsd late. so-holds is_fsd i n is_forced entry.answer parts.0 a e link (ap is_fsd fsd) late), each_taken-holds i n past parts.1)
 
 pub room_as_told-examples : RoomAsToldExamples
 unfolding read answer_of line request_line entry_of

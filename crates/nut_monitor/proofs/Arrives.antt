@@ -27,11 +27,10 @@ taken_of : (old new : Content) (waiting : List Notice) (taken : Option Notice) �
     → (configuration : Configuration) (events : List Event) → Tells configuration events old → Tells configuration (after_asking taken events) new
 taken_of old new [] None is first left configuration events told =
     subst (Tells configuration events) (sym (left ∙ ap (λ x. let r : Content = record old { notices = x } in r) (sym is))) told
-taken_of old new [] (Some notice) is first left configuration events told = cc
-taken_of old new (oldest ∷ others) None is first left configuration events told = cc
 taken_of old new (oldest ∷ others) (Some notice) is first left configuration events told =
     subst (Tells configuration (NoticeTaken ∷ events)) (sym (left ∙ ap (λ x. let r : Content = record old { notices = drop 1 x } in r) (sym is)))
     (answers-keep configuration events old NoticeTaken (Ok tt) told (refl, lt-ltb 0 (length old.notices) (omega (arith, ap length is))))
+taken_of old new _ _ is first left configuration events told = cc
 
 pub stands_taken : (s old : Content) (left : List Notice) (taken : Option Notice) → s ≡ old → taken ≡ slice_get s.notices 0 → left ≡ drop 1 s.notices
     → (configuration : Configuration) (events : List Event) → Tells configuration events old → Tells configuration (after_asking taken events) (record s { notices = left })

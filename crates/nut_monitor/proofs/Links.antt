@@ -71,8 +71,7 @@ asked_count q a h =
 fine_result : (query : Query) (q : Asked) (r : Result Progress LinkFault) → (query ≡ NumLogins → FineResult query (stage_after q r)) → FineResult query (stage_after q r)
 fine_result NumLogins q r count = count refl
 fine_result _ q (Ok (Listing rows)) count = tt
-fine_result _ q (Ok (Complete outcome)) count = tt
-fine_result _ q (Err fault) count = tt
+fine_result _ q _ count = tt
 
 fine_asked : (query : Query) (q : Asked) (a : Answer) → ExpectsCount query q → FineResult query (stage_after q (progress_of q a))
 fine_asked query q a h =
@@ -89,9 +88,8 @@ fine_line query s TooLong h = tt
 fine_line query s (Text text) h = fine_read query s (answer_in text) h
 
 fine_left : (query : Query) (s : Stage) → Fine query s → Fine query (left_of s)
-fine_left query stages.Idle h = tt
-fine_left query (stages.Asked q) h = tt
 fine_left query (stages.Answered outcome) h = h
+fine_left query _ h = tt
 
 fine_moved : (query : Query) (e : Exchange) (r : Result Stage LinkFault) → Fine query e.stage → FineResult query r → Fine query (moved e r).stage
 fine_moved query e (Ok s) h g = g
@@ -121,23 +119,20 @@ fine_fed last v p done r w sound feeds = elim feeds.stands [
 ]
 
 count_in : (last : LastQuery) (s : Stage) → Fine last.query s → IsCountAfter (Some last) (outcome_in s)
-count_in last stages.Idle h = tt
-count_in last (stages.Asked q) h = tt
 count_in last (stages.Answered outcome) h = h
+count_in last _ h = tt
 
 pub fed_count : (last : Option LastQuery) (v : LinkValue) (p : List ℕ) (done : ℕ) (r : Result (Unit {0}) LinkFault) (w : LinkValue) → IsSoundLink last v → Feeds v p done r w → IsCountAfter last (outcome_of w.exchange)
 fed_count None v p done r w sound feeds = tt
 fed_count (Some last) v p done r w sound feeds = count_in last w.exchange.stage (fine_fed last v p done r w sound feeds)
 
 sound_without : (last : LastQuery) (s : Stage) → Fine last.query s → IsSoundStage (Some last) (stage_without s)
-sound_without last stages.Idle h = tt
 sound_without last (stages.Asked q) h = h
-sound_without last (stages.Answered outcome) h = tt
+sound_without last _ h = tt
 
 sound_anew : (s : Stage) → IsSoundStage None (stage_without s)
-sound_anew stages.Idle = tt
-sound_anew (stages.Asked q) = tt
 sound_anew (stages.Answered outcome) = tt
+sound_anew _ = tt
 
 pub fed_sound : (last : Option LastQuery) (v : LinkValue) (p : List ℕ) (done : ℕ) (r : Result (Unit {0}) LinkFault) (w : LinkValue) → IsSoundLink last v → Feeds v p done r w → w.exchange.fault ≡ None
     → IsSoundLink last (with_exchange (taken_out w.exchange) w)
@@ -161,8 +156,7 @@ nm_if false r h = tt
 nm_row : (heading : List (List ℕ)) (count : ℕ) (rows : List (List (List ℕ))) (words : List (List ℕ)) (a b : Bool)
     → Fed (if a then (if b then Ok (Listing (rows ++ drop (length heading) words ∷ [])) else Err BadLine) else Err NotMine)
 nm_row heading count rows words true true = tt
-nm_row heading count rows words true false = tt
-nm_row heading count rows words false b = tt
+nm_row heading count rows words _ _ = tt
 
 nm_any : (b : Bool) (p q : Outcome) → Fed (if b then Ok (Complete p) else Ok (Complete q))
 nm_any true p q = tt

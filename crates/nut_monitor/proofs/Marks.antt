@@ -2,17 +2,16 @@
 use Rattle.std.proofs.Common.{◌≡◌, ℕ, zero, suc, ◌+◌, ◌<◌, ◌≤◌, true, false, List, [], ◌∷◌, drop, length, refl, sym, ap, ◌∙◌, Option, Some, None, arith, length-drop}
 use Rattle.std.specs.Prelude.{if◌then◌else◌}
 use Rattle.std.specs.Option.{option_map}
-use Rattle.std.proofs.lemmas.Bool.{false≢true}
 use Rattle.nut_monitor.specs.Texts.{is_mark, place_of}
+use Rattle.std.proofs.lemmas.Bool.{false≢true}
 
 mark_here : (t : List ℕ) → is_mark t ≡ true → place_of t ≡ Some 0
 mark_here [] h = absurd (false≢true h)
 mark_here (c ∷ t) h = ap (λ b. if b then Some 0 else option_map suc (place_of t)) h
 
 mark_long : (t : List ℕ) → is_mark t ≡ true → 2 ≤ length t
-mark_long [] h = absurd (false≢true h)
-mark_long (c ∷ []) h = absurd (false≢true h)
 mark_long (c ∷ d ∷ t) h = omega arith
+mark_long _ h = absurd (false≢true h)
 
 place_drop : (i : ℕ) (t : List ℕ) → i < length t → is_mark (drop i t) ≡ false → place_of (drop i t) ≡ option_map suc (place_of (drop (suc i) t))
 place_drop i [] lt h = absurd (omega arith)

@@ -124,16 +124,14 @@ put_known line clock None w = refl
 put_known line clock (Some query) w = refl
 
 asked_length : (c : Configuration) (k : ℕ) (p : Phase) (ls : List Line) (ws : List Watch) → length ws ≡ length ls → length (all_asked c k p ls ws) ≡ length ws
-asked_length c k p [] ws e = refl
-asked_length c k p (l ∷ ls) [] e = refl
 asked_length c k p (l ∷ ls) (w ∷ ws) e = ap suc (asked_length c k p ls ws (omega arith))
+asked_length c k p _ _ e = refl
 
 asked_sum : (c : Configuration) (k : ℕ) (p : Phase) (ls : List Line) (ws : List Watch) → sum_by to_lose (all_asked c k p ls ws) ≤ sum_by to_lose ws
-asked_sum c k p [] ws = omega arith
-asked_sum c k p (l ∷ ls) [] = omega arith
 asked_sum c k p (l ∷ ls) (w ∷ ws) =
     let same : to_lose (asked_next c k p l w) ≡ to_lose w = ap (λ known. if is_bad known.communication then 0 else 1) (put_known l k _ w) in
     omega (arith, sum_by-cons to_lose (asked_next c k p l w) (all_asked c k p ls ws), sum_by-cons to_lose w ws, same, asked_sum c k p ls ws)
+asked_sum c k p _ _ = omega arith
 
 pub asked_orderly : (s : Content) (p : Phase) → AreWritable s.configuration.lines → IsOrderly s → IsOrderly (record s { watches = all_asked s.configuration s.clock p s.configuration.lines s.watches })
 asked_orderly s p writable o =
@@ -169,15 +167,13 @@ heard_content s i p w w' v l news lt is link after new told =
     ∙ sym (ap (λ o. bytes_heard i p o s) (here i s.watches w lt is))
 
 left_outcome : (s : Stage) → outcome_in (left_of s) ≡ outcome_in s
-left_outcome stages.Idle = refl
-left_outcome (stages.Asked q) = refl
 left_outcome (stages.Answered outcome) = refl
+left_outcome _ = refl
 
 take_front : (xs ys : List LineText) (k : ℕ) → length xs ≡ k → xs ≡ take k (xs ++ ys)
 take_front [] ys zero e = refl
-take_front [] ys (suc k) e = absurd (omega arith)
-take_front (x ∷ xs) ys zero e = absurd (omega arith)
 take_front (x ∷ xs) ys (suc k) e = ap (λ zs. x ∷ zs) (take_front xs ys k (omega arith))
+take_front _ ys _ e = absurd (omega arith)
 
 module _ (v : LinkValue) (p : List ℕ) (k : ℕ) (l : LinkValue) (out : RunsOut (lines_after v.rest p) v.exchange k l.exchange) where
   pub out_fault : is_some l.exchange.fault ≡ true

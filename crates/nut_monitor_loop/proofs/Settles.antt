@@ -23,14 +23,14 @@ use Rattle.nut_monitor_loop.specs.inside.Kept.{OnlyAt, StaysLate}
 use Rattle.nut_monitor_loop.proofs.Sent.{found}
 use Rattle.nut_monitor_loop.proofs.Steps.{moved_on, no_memory_took}
 use Rattle.nut_monitor_loop.proofs.Writes.{may_take}
+use Rattle.nut_monitor_spec.proofs.Waiting.{length-update}
 
 -- ---- a change of one watch
 
 update_here : (i : ℕ) (change : Watch → Watch) (ws : List Watch) → watch_at i (update i change ws) ≡ option_map change (watch_at i ws)
-update_here zero change [] = refl
-update_here (suc i) change [] = refl
-update_here zero change (w ∷ ws) = refl
 update_here (suc i) change (w ∷ ws) = update_here i change ws
+update_here zero change (w ∷ ws) = refl
+update_here _ change [] = refl
 
 update_other : (i j : ℕ) (change : Watch → Watch) (ws : List Watch) → j ≢ i → watch_at j (update i change ws) ≡ watch_at j ws
 update_other i j change [] other = refl
@@ -38,11 +38,6 @@ update_other zero zero change (w ∷ ws) other = absurd (other refl)
 update_other zero (suc j) change (w ∷ ws) other = refl
 update_other (suc i) zero change (w ∷ ws) other = refl
 update_other (suc i) (suc j) change (w ∷ ws) other = update_other i j change ws (λ same. other (ap suc same))
-
-update_as_many : (i : ℕ) (change : Watch → Watch) (ws : List Watch) → length (update i change ws) ≡ length ws
-update_as_many i change [] = refl
-update_as_many zero change (w ∷ ws) = refl
-update_as_many (suc i) change (w ∷ ws) = ap suc (update_as_many i change ws)
 
 -- ---- no link that is up has failed
 
@@ -123,7 +118,7 @@ pub only_took : (first : Configuration) (D : List Entry → Type 0) (s s' : Cont
 only_took first D s s' i part w n r watched is within all answer moved =
     let facts = took_moved first D s s' i part w n r watched is within all answer moved in
     record {
-      as_many = ap (λ (t : Content). length t.watches) facts.2 ∙ update_as_many i (took n) s.watches;
+      as_many = ap (λ (t : Content). length t.watches) facts.2 ∙ length-update i (took n) s.watches;
       others = λ j other. ap (λ (t : Content). waiting_of j t.watches) facts.2 ∙ ap waiting_on (update_other i j (took n) s.watches other);
     }
 
@@ -149,10 +144,9 @@ settled_to late late' ws ws' i only stays here before j less =
     ]
 
 none_there : (i : ℕ) (ws : List Watch) → length ws ≤ i → waiting_of i ws ≡ []
-none_there zero [] past = refl
-none_there (suc i) [] past = refl
 none_there zero (w ∷ ws) past = absurd (omega (arith, past))
 none_there (suc i) (w ∷ ws) past = none_there i ws (omega (arith, past))
+none_there _ [] past = refl
 
 below_or_past : (i n : ℕ) → (i < n) ⊎ (n ≤ i)
 below_or_past i zero = inr (omega arith)

@@ -10,18 +10,17 @@ use Rattle.nut_monitor_spec.specs.declared.Communication.TheVariants.{Bad}
 use Rattle.nut_monitor_spec.specs.declared.Known.{Known}
 use Rattle.nut_monitor_spec.specs.declared.Notice.{Notice}
 use Rattle.nut_monitor_spec.specs.declared.Query.{Query}
-use Rattle.nut_monitor_spec.specs.declared.StatusFlags.{StatusFlags}
 use Rattle.nut_monitor_spec.specs.Configuration.{Configuration}
 use Rattle.nut_monitor_spec.specs.Event.{Event}
 use Rattle.nut_monitor_spec.specs.Query.{status_in, is_no_status, is_forced, logins_in, flags_of}
-use Rattle.nut_monitor_spec.specs.Decision.{told, when, shutdown_told, is_bad, is_new, communication_then, tells_replace, status_notices, status_notices_in, answer_notices}
+use Rattle.nut_monitor_spec.specs.Decision.{told, when, shutdown_told, is_bad, is_new, communication_then, tells_replace, status_notices_in, answer_notices}
 use Rattle.nut_monitor_spec.specs.Trace.{Asked, Answer, Entry, is_any, is_link, clock, moment_of, gives_status, at_status, are_calm, status_of_answer, newest_answer, status, polled, calm, communication, told_at, is_replace, is_silence, forced, logins, known, begun, has_begun}
 use Rattle.nut_monitor_spec.specs.machine.Machine.{newer, flags_then, polled_then, calm_then, replace_then, known_answered}
 use Rattle.nut_monitor_spec.proofs.Newest.{status-step, polled-step, calm-step, forced-step, logins-step, told-step}
 
 -- ---- tests of notices
 
-or-false : (b : Bool) → (b || false) ≡ b
+pub or-false : (b : Bool) → (b || false) ≡ b
 or-false true = refl
 or-false false = refl
 
@@ -55,54 +54,46 @@ and-true : (b : Bool) → (b && true) ≡ b
 and-true true = refl
 and-true false = refl
 
+pub false-either : (b : Bool) → (if b then false else false) ≡ false
+false-either true = refl
+false-either false = refl
+
 pub and-false : (b : Bool) → (b && false) ≡ false
 and-false true = refl
 and-false false = refl
 
 module _ (configuration : Configuration) (time i j : ℕ) (known : Known) where
-  status-replace : (flags : StatusFlags) → list_any (is_replace j) (status_notices configuration time i known flags)
-      ≡ (tells_replace configuration time known.replace_told known.flags flags && eqb i j)
-  status-replace flags =
-      six (is_replace j) (is_bad known.communication) (is_some known.flags && is_new (λ f. f.on_line) known.flags flags)
-      (is_new (λ f. f.on_battery) known.flags flags) (is_new (λ f. f.low_battery) known.flags flags) (is_new (λ f. f.forced_shutdown) known.flags flags)
-      (tells_replace configuration time known.replace_told known.flags flags)
-      (told kinds.Commok i) (told kinds.Online i) (told kinds.Onbatt i) (told kinds.Lowbatt i) (told kinds.Fsd i) (told kinds.Replbatt i)
-      refl refl refl refl refl
-
-  status-silence : (flags : StatusFlags) → list_any (is_silence j) (status_notices configuration time i known flags) ≡ false
-  status-silence flags =
-      six (is_silence j) (is_bad known.communication) (is_some known.flags && is_new (λ f. f.on_line) known.flags flags)
-      (is_new (λ f. f.on_battery) known.flags flags) (is_new (λ f. f.low_battery) known.flags flags) (is_new (λ f. f.forced_shutdown) known.flags flags)
-      (tells_replace configuration time known.replace_told known.flags flags)
-      (told kinds.Commok i) (told kinds.Online i) (told kinds.Onbatt i) (told kinds.Lowbatt i) (told kinds.Fsd i) (told kinds.Replbatt i)
-      refl refl refl refl refl
-      ∙ and-false (tells_replace configuration time known.replace_told known.flags flags)
-
   -- whether an answer tells that the battery needs to be replaced
   abbrev pub replaces : Option (List (List ℕ)) → Bool
   replaces None = false
   replaces (Some words) = tells_replace configuration time known.replace_told known.flags (flags_of words)
 
-  in-replace : (words : Option (List (List ℕ))) → list_any (is_replace j) (status_notices_in configuration time i known words) ≡ (replaces words && eqb i j)
-  in-replace None = refl
-  in-replace (Some words) = status-replace (flags_of words)
+  -- for a test that no other notice of an answer passes
+  module _ (test : Notice → Bool) (commok : test (told kinds.Commok i) ≡ false) (online : test (told kinds.Online i) ≡ false) (onbatt : test (told kinds.Onbatt i) ≡ false)
+      (lowbatt : test (told kinds.Lowbatt i) ≡ false) (fsd : test (told kinds.Fsd i) ≡ false) (commbad : test (told kinds.Commbad i) ≡ false) where
+    in-any : (words : Option (List (List ℕ))) → list_any test (status_notices_in configuration time i known words) ≡ (replaces words && test (told kinds.Replbatt i))
+    in-any None = refl
+    in-any (Some words) =
+        let flags = flags_of words in
+        six test (is_bad known.communication) (is_some known.flags && is_new (λ f. f.on_line) known.flags flags)
+        (is_new (λ f. f.on_battery) known.flags flags) (is_new (λ f. f.low_battery) known.flags flags) (is_new (λ f. f.forced_shutdown) known.flags flags)
+        (tells_replace configuration time known.replace_told known.flags flags)
+        (told kinds.Commok i) (told kinds.Online i) (told kinds.Onbatt i) (told kinds.Lowbatt i) (told kinds.Fsd i) (told kinds.Replbatt i)
+        commok online onbatt lowbatt fsd
 
-  in-silence : (words : Option (List (List ℕ))) → list_any (is_silence j) (status_notices_in configuration time i known words) ≡ false
-  in-silence None = refl
-  in-silence (Some words) = status-silence (flags_of words)
+    answer-any : (query : Query) (outcome : Outcome) →
+        list_any test (answer_notices configuration time i known query outcome) ≡ (replaces (status_in query outcome) && test (told kinds.Replbatt i))
+    answer-any query outcome =
+        skip-last test (status_notices_in configuration time i known (status_in query outcome)) (when (is_no_status query outcome && not (is_bad known.communication)) (told kinds.Commbad i))
+        (when-none test (is_no_status query outcome && not (is_bad known.communication)) (told kinds.Commbad i) commbad)
+        ∙ in-any (status_in query outcome)
 
   pub answer-replace : (query : Query) (outcome : Outcome) →
       list_any (is_replace j) (answer_notices configuration time i known query outcome) ≡ (replaces (status_in query outcome) && eqb i j)
-  answer-replace query outcome =
-      skip-last (is_replace j) (status_notices_in configuration time i known (status_in query outcome)) (when (is_no_status query outcome && not (is_bad known.communication)) (told kinds.Commbad i))
-      (when-none (is_replace j) (is_no_status query outcome && not (is_bad known.communication)) (told kinds.Commbad i) refl)
-      ∙ in-replace (status_in query outcome)
+  answer-replace = answer-any (is_replace j) refl refl refl refl refl refl
 
   pub answer-silence : (query : Query) (outcome : Outcome) → list_any (is_silence j) (answer_notices configuration time i known query outcome) ≡ false
-  answer-silence query outcome =
-      skip-last (is_silence j) (status_notices_in configuration time i known (status_in query outcome)) (when (is_no_status query outcome && not (is_bad known.communication)) (told kinds.Commbad i))
-      (when-none (is_silence j) (is_no_status query outcome && not (is_bad known.communication)) (told kinds.Commbad i) refl)
-      ∙ in-silence (status_in query outcome)
+  answer-silence query outcome = answer-any (is_silence j) refl refl refl refl refl refl query outcome ∙ and-false (replaces (status_in query outcome))
 
 -- the notices of an event: those of an answer, of a loss, of a moment, and SHUTDOWN
 abbrev pub of_event : Bool → List Notice → List Notice → List Notice → Bool → List Notice
@@ -162,9 +153,8 @@ module _ (configuration : Configuration) (past : List Entry) (i : ℕ) (event : 
 
   calm-law : (words before : Option (List (List ℕ))) (time at' : ℕ) →
       (if (true && is_some words) && (if is_some before then are_calm words else true) then time else at') ≡ calm_then words time (option_map flags_of before) at'
-  calm-law None before time at' = refl
-  calm-law (Some words) None time at' = refl
   calm-law (Some words) (Some other) time at' = refl
+  calm-law _ _ time at' = refl
 
   forced-law : (is before : Bool) → (if true && is then true else before) ≡ (is || before)
   forced-law true before = refl
@@ -177,9 +167,8 @@ module _ (configuration : Configuration) (past : List Entry) (i : ℕ) (event : 
   replace-law : (k : Known) (time : ℕ) (front : List Entry) (words : Option (List (List ℕ))) →
       (if (if is_any front then false else (replaces configuration time i i k words && true)) then Some time else k.replace_told)
       ≡ (if is_none (moment_of front) then replace_then words configuration time k.flags k.replace_told else k.replace_told)
-  replace-law k time (entry ∷ front) words = refl
-  replace-law k time [] None = refl
   replace-law k time [] (Some words) = ap (λ b. if b then Some time else k.replace_told) (and-true (replaces configuration time i i k (Some words)))
+  replace-law k time _ _ = refl
 
   pub known-some : (asked : Asked) (outcome : Outcome) (lost : Option ℕ) (notices : List Notice) →
       list_any (is_replace i) notices ≡ (if has_begun configuration past then false

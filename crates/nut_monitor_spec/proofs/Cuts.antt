@@ -1,5 +1,5 @@
 -- Cutting an unfinished line into pieces doesn't change the content.
-use Rattle.std.proofs.Common.{◌≡◌, ℕ, zero, suc, ◌<◌, Bool, true, false, not, ◌&&◌, eqb, List, [], ◌∷◌, ◌++◌, length, drop, refl, sym, ◌∙◌, ap, subst, Option, Some, None, is_none, if◌then◌else◌, append-nil}
+use Rattle.std.proofs.Common.{◌≡◌, ℕ, suc, ◌<◌, Bool, true, false, not, ◌&&◌, eqb, List, [], ◌∷◌, ◌++◌, length, drop, refl, sym, ◌∙◌, ap, subst, Option, Some, None, is_none, if◌then◌else◌, append-nil, zero}
 use mathlib.Core.Path.{fun_ext}
 use Rattle.std.proofs.lemmas.Bool.{eq-eqb}
 use Rattle.nut_words.specs.Lines.{rest, rest_after, lines_after}
@@ -11,7 +11,7 @@ use Rattle.nut_words.proofs.HearLemmas.{lines_cut}
 use Rattle.nut_monitor_spec.specs.Configuration.{Configuration, line_in}
 use Rattle.nut_monitor_spec.specs.Event.{Event, LinkBytes}
 use Rattle.nut_monitor_spec.specs.Decision.{next_query}
-use Rattle.nut_monitor_spec.specs.Trace.{Entry, clock, input, linked, outstanding, waits, queries, answers, taken, known, may_ask, last_query, forced, begun, has_begun, has_ended, came, entry_of, first_answer, lost_by, brought, notices_of, query_put, notices_taken, notices_waiting, trace}
+use Rattle.nut_monitor_spec.specs.Trace.{Entry, clock, input, linked, outstanding, waits, queries, answers, taken, known, may_ask, last_query, forced, begun, has_begun, has_ended, came, entry_of, first_answer, lost_by, brought, notices_of, query_put, notices_taken, trace, notices_waiting}
 use Rattle.nut_monitor_spec.specs.Trace
 use Rattle.nut_monitor_spec.specs.Content.{Watch, Content, stage_in, link_at, watch, content_of}
 use Rattle.nut_monitor_spec.specs.machine.Machine.{update, given, with_watch, piece_heard, settled, watch_heard, told_heard}

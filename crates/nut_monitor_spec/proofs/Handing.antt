@@ -38,15 +38,16 @@ whole_with m handed waiting more all is =
     ∙ ap (λ x. x ++ more) is
 
 -- what waits after an event that hands out the first m notices
-waits_behind : (configuration : Configuration) (events : List Event) (event : Event) (m : ℕ) → IsAccepted configuration events → HandsOut configuration events event m
+pub waits_behind : (configuration : Configuration) (events : List Event) (event : Event) (m : ℕ) → IsAccepted configuration events
+    → taken_notice event (notices_taken (trace configuration events)) ≡ notices_taken (trace configuration events) + m → m ≤ length (notices_waiting (trace configuration events))
     → notices_waiting (trace configuration (event ∷ events))
     ≡ drop m (notices_waiting (trace configuration events)) ++ (entry_of configuration (trace configuration events) event).notices
-waits_behind configuration events event m accepted out =
+waits_behind configuration events event m accepted some waits =
     let past = trace configuration events in
     let taken = notices_taken past in
     let more = (entry_of configuration past event).notices in
-    let fits : taken + m ≤ length (notices past) = omega (arith, out.2, (all-hold configuration events accepted).waiting, length-drop taken (notices past)) in
-    ap (λ n. drop n (notices past ++ more)) (ap (λ e. taken_notice e taken) (event_is configuration past event) ∙ out.1)
+    let fits : taken + m ≤ length (notices past) = omega (arith, waits, (all-hold configuration events accepted).waiting, length-drop taken (notices past)) in
+    ap (λ n. drop n (notices past ++ more)) (ap (λ e. taken_notice e taken) (event_is configuration past event) ∙ some)
     ∙ drop-append-le (taken + m) (notices past) more fits
     ∙ ap (λ x. x ++ more) (sym (drop-drop m taken (notices past)))
 
@@ -61,5 +62,5 @@ notices-in-order configuration (event ∷ events) accepted =
     let out = some.1 in
     ap₂ (λ x y. (notices_handed past ++ x) ++ y)
     (ap (λ e. handed_by e waiting) (event_is configuration past event) ∙ out.0)
-    (waits_behind configuration events event m accepted.0 out)
+    (waits_behind configuration events event m accepted.0 out.1 out.2)
     ∙ whole_with m (notices_handed past) waiting more (notices past) (notices-in-order configuration events accepted.0)

@@ -16,7 +16,7 @@ use Rattle.nut_link.specs.Asking.{Asked as Query}
 use Rattle.nut_link.specs.Matching.{Progress, Listing, Complete, expected, progress}
 use Rattle.nut_link.specs.Link.{stage_after, on_read, on_line, left_of, moved, lines_heard, outcome_of, taken_out}
 use Rattle.nut_monitor_spec.specs.declared.Query.{Query as Ask}
-use Rattle.nut_monitor_spec.specs.declared.Query.TheVariants.{Username, Password, Login, Primary, Status, Fsd, NumLogins}
+use Rattle.nut_monitor_spec.specs.declared.Query.TheVariants.{Status, NumLogins, Username, Password, Login, Primary, Fsd}
 use Rattle.nut_monitor_spec.specs.Configuration.{Line}
 use Rattle.nut_monitor_spec.specs.Query.{request, complete, outcome_by, outcome_in as said_in}
 use Rattle.nut_monitor_spec.specs.Trace.{Asked, Answer, answered, answer_to, lost_by}

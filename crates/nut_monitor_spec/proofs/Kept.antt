@@ -32,9 +32,8 @@ holds-first configuration = record { tidy = λ i there. cc; still = λ i. refl; 
 -- ---- what an accepted event tells
 
 if-linked : (b : Bool) (fault other : MonitorFault) (more : Bool) → (if b then (if more then Some other else None) else Some fault) ≡ None → (b ≡ true) × (more ≡ false)
-if-linked true fault other true is = cc
 if-linked true fault other false is = (refl, refl)
-if-linked false fault other more is = cc
+if-linked _ fault other _ is = cc
 
 if-there : (b : Bool) (fault : MonitorFault) (more : Option MonitorFault) → (if b then more else Some fault) ≡ None → b ≡ true
 if-there true fault more is = refl
@@ -78,8 +77,7 @@ module _ (configuration : Configuration) (past : List Entry) (i : ℕ) where
         exchange = record { stage = stage_in (line_in configuration.lines i) asked (waits configuration i past); fault = None };
       }) else None)) ≤ length (waits configuration i past)
   waits-few true None = omega arith
-  waits-few true (Some asked) = omega arith
-  waits-few false o = omega arith
+  waits-few _ _ = omega arith
 
   took-within : (n : ℕ) (o : Option Watch) → found ≡ o → took_refusal n o ≡ None → linked i past ≡ true → n ≤ length (waits configuration i past)
   took-within n None is accepted there = cc

@@ -22,14 +22,10 @@ use Rattle.nut_monitor_spec.specs.Trace.{Asked, Answer, Entry, is_any, is_link, 
 use Rattle.nut_monitor_spec.specs.Content.{Watch, stage_in, link_at, watch, content_of}
 use Rattle.nut_monitor_spec.specs.machine.Machine.{made, lost, known_after, answer_after, answer_told, watch_answered, watch_heard, told_heard, watch_out, told_out, given, link_made, link_lost, piece_heard, piece_out, loss_told}
 use Rattle.nut_monitor_spec.proofs.Lists.{for_each-update, number-none, number-head}
-use Rattle.nut_monitor_spec.proofs.Answered.{when-none, event-any, of_event, and-false, known-none, known-some, answer-replace, answer-silence, replaces}
+use Rattle.nut_monitor_spec.proofs.Answered.{when-none, event-any, false-either, of_event, and-false, known-none, known-some, answer-replace, answer-silence, replaces}
 use Rattle.nut_monitor_spec.proofs.Apart.{IsOf, IsApart, watch_by, other-watch}
 use Rattle.nut_monitor_spec.proofs.Hears.{Comes, comes, first_by, going}
 use Rattle.nut_monitor_spec.proofs.Settled.{IsIdle, IsAsked, told_entry, unsettled}
-
-false-either : (b : Bool) → (if b then false else false) ≡ false
-false-either true = refl
-false-either false = refl
 
 none-either : (b : Bool) → (let xs : List Notice = if b then [] else [] in xs) ≡ []
 none-either true = refl
@@ -140,9 +136,8 @@ module _ (configuration : Configuration) (past : List Entry) (i : ℕ) where
 by-outcome : (i : ℕ) (asked : Asked) (all : Bool) (said : Option Outcome) →
     (answered i asked (if all then said else None) ≡ None)
     ⊎ ((outcome : Outcome) × (all ≡ true) × (answered i asked (if all then said else None) ≡ Some (record { link = i; asked = asked; outcome = outcome })))
-by-outcome i asked true None = inl refl
 by-outcome i asked true (Some outcome) = inr (outcome, refl, refl)
-by-outcome i asked false said = inl refl
+by-outcome i asked _ _ = inl refl
 
 -- An answer of link i: none, or an outcome of its outstanding query.
 abbrev pub IsAnswerOf : Configuration → List Entry → ℕ → Option Answer → Type 0
@@ -181,10 +176,9 @@ by-answer configuration past i P none some answer (inl is) = subst P (sym is) no
 by-answer configuration past i P none some answer (inr is) = subst P (sym is.4) (some is.0 is.1 is.2)
 
 pub loss-cases : (i : ℕ) (answer : Option Answer) (texts : List LineText) → IsLossOf i (lost_by i answer texts)
-loss-cases i None (text ∷ texts) = inr refl
 loss-cases i (Some answer) (text ∷ []) = inl refl
-loss-cases i (Some answer) (text ∷ other ∷ texts) = inr refl
 loss-cases i o [] = inl refl
+loss-cases i _ (text ∷ _) = inr refl
 
 -- the last query is the outstanding one
 pub last-asked : (configuration : Configuration) (past : List Entry) (i : ℕ) (asked : Asked) → IsIdle configuration i past ⊎ IsAsked configuration i past →
@@ -232,10 +226,6 @@ last-said configuration past i answer tidy is =
 or-none : (b : Bool) → ((b || false) || false) ≡ b
 or-none true = refl
 or-none false = refl
-
-if-ap : {A B : Type 0} (f : A → B) (b : Bool) (x y : A) → f (if b then x else y) ≡ (if b then f x else f y)
-if-ap f true x y = refl
-if-ap f false x y = refl
 
 -- an event of link i that brings lines
 module _ (configuration : Configuration) (past : List Entry) (i : ℕ) (event : Event) (ends : Bool) where

@@ -74,8 +74,7 @@ moment-or_else : (front past : List Entry) (entry : Entry) (b : Bool) →
     moment_of (or_else front (if b then entry ∷ past else []))
     ≡ (if is_none (moment_of front) && b then Some (clock (entry ∷ past)) else moment_of front)
 moment-or_else [] past entry true = refl
-moment-or_else [] past entry false = refl
-moment-or_else (x ∷ front) past entry b = refl
+moment-or_else _ past entry _ = refl
 
 pub earliest-moment : (test : List Entry → Bool) (past : List Entry) (entry : Entry) →
     moment_of (earliest test (entry ∷ past))
@@ -93,8 +92,7 @@ moment-same test past x y same time =
 any-or_else : (front past : List Entry) (entry : Entry) (b : Bool) →
     (is_any (or_else front (if b then entry ∷ past else [])) && not (is_any front)) ≡ (is_none (moment_of front) && b)
 any-or_else [] past entry true = refl
-any-or_else [] past entry false = refl
-any-or_else (x ∷ front) past entry b = refl
+any-or_else _ past entry _ = refl
 
 pub earliest-any : (test : List Entry → Bool) (past : List Entry) (entry : Entry) →
     (is_any (earliest test (entry ∷ past)) && not (is_any (earliest test past))) ≡ begins_now test past entry

@@ -1,5 +1,5 @@
 -- What a moment makes of the content, before the end of the event.
-use Rattle.std.proofs.Common.{◌≡◌, ℕ, zero, suc, ◌+◌, ◌<◌, Bool, true, false, not, ◌&&◌, ◌||◌, List, [], ◌∷◌, ◌++◌, length, refl, sym, ◌∙◌, ap, arith, Some, is_none, if◌then◌else◌, append-nil}
+use Rattle.std.proofs.Common.{◌≡◌, ℕ, zero, suc, ◌+◌, ◌<◌, Bool, true, false, not, ◌&&◌, List, [], ◌∷◌, ◌++◌, length, refl, sym, ◌∙◌, ap, arith, Some, is_none, if◌then◌else◌, append-nil}
 use Rattle.std.specs.List.{list_any}
 use Rattle.std.proofs.lemmas.Bool.{eq-eqb, ne_eqb}
 use Rattle.nut_conf.specs.declared.notice.Notice.TheVariants as kinds
@@ -13,16 +13,8 @@ use Rattle.nut_monitor_spec.specs.Content.{Watch, Content, watch, for_each_line,
 use Rattle.nut_monitor_spec.specs.machine.Machine.{is_silent, silent, all_silent, silences_told, silences_heard, clock_set}
 use Rattle.nut_monitor_spec.proofs.Lists.{for_each-same}
 use Rattle.nut_monitor_spec.proofs.Newest.{told-step}
-use Rattle.nut_monitor_spec.proofs.Answered.{when-none, event-any, skip-first, skip-last}
+use Rattle.nut_monitor_spec.proofs.Answered.{when-none, event-any, false-either, or-false, skip-first, skip-last}
 use Rattle.nut_monitor_spec.proofs.Settled.{told_entry, unsettled}
-
-false-either : (b : Bool) → (if b then false else false) ≡ false
-false-either true = refl
-false-either false = refl
-
-or-false : (b : Bool) → (b || false) ≡ b
-or-false true = refl
-or-false false = refl
 
 -- ---- the notices of a moment
 

@@ -13,7 +13,7 @@ use Rattle.nut_monitor_spec.specs.Decision.{is_critical, power_where, each_prima
 use Rattle.nut_monitor_spec.specs.Trace.{Entry, latest, is_any, clock, moment_of, gives, gives_status, at_status, at_calm, are_calm, status_of_answer, newest_answer, status, polled, calm, told_at, forced, logins, logins_of_answer, critical, is_short, alone, known, is_replace, is_silence}
 
 -- a function of a conditional is the conditional of the function
-if-ap : {A B : Type 0} (f : A → B) (b : Bool) (x y : A) → f (if b then x else y) ≡ (if b then f x else f y)
+pub if-ap : {A B : Type 0} (f : A → B) (b : Bool) (x y : A) → f (if b then x else y) ≡ (if b then f x else f y)
 if-ap f true x y = refl
 if-ap f false x y = refl
 

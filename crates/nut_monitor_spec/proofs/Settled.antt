@@ -13,7 +13,7 @@ use Rattle.nut_monitor_spec.specs.Event.{Event}
 use Rattle.nut_monitor_spec.specs.Query.{request}
 use Rattle.nut_monitor_spec.specs.Decision.{shutdown_told, when, phase_at, next_query, is_over_by}
 use Rattle.nut_monitor_spec.specs.Trace
-use Rattle.nut_monitor_spec.specs.Trace.{joined_queries, alone, Asked, Answer, Entry, clock, moment_of, linked, queries, answers, outstanding, due, waits, taken, input, known, begun, has_begun, ended, has_ended, is_short, is_over_at, phase, may_ask, last_query, last_answer, last_in, forced, came, notices_of, notices_of_answer, notices_of_loss, notices_of_moment, query_put, entry_of, notices, notices_taken, notices_waiting, taken_notice, is_any, number, asked_in, since_linked}
+use Rattle.nut_monitor_spec.specs.Trace.{joined_queries, alone, Asked, Answer, Entry, clock, moment_of, linked, queries, answers, outstanding, due, waits, taken, input, known, begun, has_begun, ended, is_short, is_over_at, phase, may_ask, last_query, last_answer, last_in, forced, came, notices_of, notices_of_answer, notices_of_loss, notices_of_moment, query_put, entry_of, notices, notices_taken, notices_waiting, taken_notice, number, asked_in, has_ended, is_any, since_linked}
 use Rattle.nut_monitor_spec.specs.Content.{Watch, Content, stage_in, link_at, watch, for_each_line, content_of}
 use Rattle.nut_monitor_spec.specs.machine.Machine.{shutdown_judged, phase_moved, queries_put, settled, begins, ends, asked_next, put, may_put}
 use Rattle.nut_monitor_spec.proofs.Newest.{marked, short-same, alone-same, forced-same, known-same}
@@ -154,8 +154,7 @@ may-law configuration past i = may-cases (linked i past) (outstanding i past)
         may_put (if b then Some (record (link_at configuration past i) { exchange = record { stage = stage_in (line_in configuration.lines i) o (waits configuration i past); fault = None } }) else None)
         ≡ (b && is_none o)
     may-cases true None = refl
-    may-cases true (Some asked) = refl
-    may-cases false o = refl
+    may-cases _ _ = refl
 
 -- a watch whose link has these queries
 abbrev watch_with : Configuration → List Entry → ℕ → List Asked → Watch

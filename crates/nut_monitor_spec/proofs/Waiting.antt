@@ -101,7 +101,7 @@ fresh-lost i [] w is = cc
 fresh-lost zero (x ∷ watches) w is = let e : x ≡ w = cc in ap (λ y. 0 + all_fresh watches + fresh y) (sym e) ∙ omega arith
 fresh-lost (suc i) (x ∷ watches) w is = omega (arith, fresh-lost i watches w is)
 
-length-update : (i : ℕ) (change : Watch → Watch) (watches : List Watch) → length (update i change watches) ≡ length watches
+pub length-update : (i : ℕ) (change : Watch → Watch) (watches : List Watch) → length (update i change watches) ≡ length watches
 length-update i change [] = refl
 length-update zero change (w ∷ watches) = refl
 length-update (suc i) change (w ∷ watches) = ap suc (length-update i change watches)
@@ -119,11 +119,10 @@ put-fresh line time None w = refl
 put-fresh line time (Some query) w = refl
 
 asked-fresh : (configuration : Configuration) (time : ℕ) (phase : Phase) (lines : List Line) (watches : List Watch) → all_fresh (all_asked configuration time phase lines watches) ≡ all_fresh watches
-asked-fresh configuration time phase [] watches = refl
-asked-fresh configuration time phase (line ∷ lines) [] = refl
 asked-fresh configuration time phase (line ∷ lines) (w ∷ watches) =
     ap (λ n. n + all_fresh (all_asked configuration time phase lines watches)) (put-fresh line time (next_query configuration line time phase (may_put w.link) w.last w.known.forced) w)
     ∙ ap (λ n. fresh w + n) (asked-fresh configuration time phase lines watches)
+asked-fresh configuration time phase _ _ = refl
 
 -- ---- how many may yet wait
 
@@ -180,9 +179,8 @@ not-busy : (s : Content) → busy s ≡ None → length s.notices ≡ 0
 not-busy s is = nothing-below (length s.notices) (busy-none (nat_lt 0 (length s.notices)) is)
 
 heard-if : (there long : Bool) (a b : MonitorFault) (o : Option MonitorFault) → (if there then (if long then Some a else o) else Some b) ≡ None → o ≡ None
-heard-if true true a b o is = cc
 heard-if true false a b o is = is
-heard-if false long a b o is = cc
+heard-if _ _ a b o is = cc
 
 with-watch-room : (i : ℕ) (change : Watch → Watch) (more : List Notice) (s : Content) → length more ≤ 8 → length s.notices ≡ 0 → length s.watches ≤ MONITORS_MAX → room (with_watch i change more s) ≤ 73
 with-watch-room i change more s few none lines =

@@ -9,14 +9,14 @@ use Rattle.nut_monitor_spec.specs.Event as events
 use Rattle.nut_monitor_spec.specs.Content as knowledge
 use Rattle.nut_monitor_spec.specs.Outcome as monitor
 use Rattle.nut_fleet.specs.Schedule.{Step, ServerClock, MonitorClock, Up, Driver, Down, Link, Out, Reach, Back, Land, CutServer, CutMonitor, Other}
-use Rattle.nut_fleet.specs.World.{Setup, Deed, Skip, Rest, Tell, Inform, Join, world, known, is_fit, has_link, is_open, is_linked}
+use Rattle.nut_fleet.specs.World.{Setup, Deed, Tell, Inform, world, known, is_fit, has_link, is_open, is_linked}
 use Rattle.nut_fleet.specs.Fleet.{EventsAreAccepted}
 use Rattle.nut_fleet.specs.Log.{News, news}
 use Rattle.nut_fleet.specs.Seen.{deed_by}
 use Rattle.nut_fleet.specs.machine.Going.{FleetsGoOn}
 use Rattle.nut_play.specs.Lack.{CoreMayLack, pipe_grows, MayLack}
 use Rattle.nut_play.specs.Kept.{Kept, fleet_of, IsFleet}
-use Rattle.nut_play.specs.machine.Next.{known_of, link_of, is_played, tell_by, inform_by, open_by, linked_by, reach_by, back_by, out_by, land_by, told_news, said, fits}
+use Rattle.nut_play.specs.machine.Next.{known_of, link_of, is_played, tell_by, inform_by, open_by, linked_by, reach_by, back_by, out_by, land_by, told_news, fits}
 use Rattle.nut_play.specs.machine.Lacking.{ServerLacks, CoreLacks, MonitorLacks, StepLacks, out_grows, back_grows}
 use Rattle.nut_play.specs.machine.Play.{told_if, told_at, LacksAt}
 use Rattle.nut_play.proofs.Standing.{same-fit, tells-on}
@@ -26,30 +26,21 @@ told-more : (is_played : Bool) (told : List News) → 0 < length told → 0 < le
 told-more true told some = some
 told-more false told some = omega arith
 
-pub skipped-lacks : (k : Kept) (step : Step) → is_played (deed_by (fleet_of k) step) ≡ false → LacksAt k step
-skipped-lacks k step skipped = inr (subst (λ b. 0 < length (told_if b (said k step))) (sym skipped) (omega arith))
-
 module _ (setup : Setup) (earlier : List Step) (k : Kept) (go : FleetsGoOn setup earlier) (accepted : EventsAreAccepted setup (world setup earlier))
     (is : IsFleet setup (world setup earlier) k) where
   server-may : (d : Deed) → ServerLacks k.server d → CoreMayLack setup (world setup earlier) d
-  server-may Skip may = absurd may
-  server-may Rest may = absurd may
   server-may (Tell event) may =
       let answer : Result (Unit {0}) Refused = Err (Memory may.0) in
       (may.0, (answers-told setup.server (world setup earlier).server k.server event answer (accepted.server, is.keeps.server) may.1).1)
-  server-may (Inform m event) may = absurd may
-  server-may (Join m i) may = absurd may
+  server-may _ may = absurd may
 
   monitor-may : (m : ℕ) (d : Deed) → CoreLacks m (known_of k m) d → CoreMayLack setup (world setup earlier) d
-  monitor-may m Skip may = absurd may
-  monitor-may m Rest may = absurd may
-  monitor-may m (Tell event) may = absurd may
   monitor-may m (Inform j event) may = (
     may.1,
     may.2,
     subst (λ s. monitor.MayLack s may.1 may.2 event) (is.keeps.monitor m ∙ ap (known setup (world setup earlier)) (sym may.0)) may.3,
   )
-  monitor-may m (Join j i) may = absurd may
+  monitor-may m _ may = absurd may
 
   -- what is said of a step whose deed is this
   abbrev Why : Step → Deed → Type 0
@@ -66,18 +57,12 @@ module _ (setup : Setup) (earlier : List Step) (k : Kept) (go : FleetsGoOn setup
 
   module _ (m i n : ℕ) (there : has_link setup m i ≡ true) where
     out-grows : (d : Deed) → IsTrue (out_grows (open_by k.server (link_of k m i)) d) → IsTrue (pipe_grows setup (world setup earlier) (Out m i n) d)
-    out-grows Skip may = may
-    out-grows Rest may = may
-    out-grows (Tell event) may = may
     out-grows (Inform j event) may = sym (go.ends (fleet_of k) is.keeps m i there).0 ∙ may
-    out-grows (Join j l) may = may
+    out-grows _ may = may
 
     back-grows : (d : Deed) → IsTrue (back_grows (linked_by (known_of k m) i) d) → IsTrue (pipe_grows setup (world setup earlier) (Back m i n) d)
-    back-grows Skip may = may
-    back-grows Rest may = may
     back-grows (Tell event) may = sym (go.ends (fleet_of k) is.keeps m i there).1 ∙ may
-    back-grows (Inform j event) may = may
-    back-grows (Join j l) may = may
+    back-grows _ may = may
 
   fits-too : (step : Step) → fits k step ≡ true → is_fit setup step ≡ true
   fits-too step ok = sym (same-fit setup earlier k is step) ∙ ok

@@ -11,7 +11,7 @@ use Rattle.nut_server_spec.specs.Content as server
 use Rattle.nut_monitor_spec.specs.Configuration.{Configuration, Line, configuration_of}
 use Rattle.nut_monitor_spec.specs.Content as knowledge
 use Rattle.nut_monitor_spec.specs.Content.{for_each_line}
-use Rattle.nut_fleet.specs.Schedule.{Step, ServerClock, MonitorClock, Up, Driver, Down, Link, Out, Reach, Back, Land, CutServer, CutMonitor, Other}
+use Rattle.nut_fleet.specs.Schedule.{Step, MonitorClock, Up, Driver, Down, Link, Out, Reach, Back, Land, CutServer, CutMonitor, Other}
 use Rattle.nut_fleet.specs.World.{Setup, no_monitor, monitor_of, world, nothing, is_fit, has_link, has_ups}
 use Rattle.nut_fleet.specs.Fleet.{IsMonitor, ConfigurationsAreSpoken}
 use Rattle.nut_fleet.specs.Log.{logged, log, news}
@@ -27,15 +27,13 @@ use Rattle.nut_play.proofs.Stepping.{goes, same-keeps}
 -- ---- which steps fit
 
 links-count : (seats : List Seat) (m : ℕ) → length (links_in (slice_get seats m)) ≡ slice_index_or (map (λ (seat : Seat). length seat.links) seats) m 0
-links-count [] m = refl
-links-count (seat ∷ seats) zero = refl
 links-count (seat ∷ seats) (suc m) = links-count seats m
+links-count _ _ = refl
 
 lines-count : (monitors : List Configuration) (m : ℕ) →
     length (slice_index_or monitors m no_monitor).lines ≡ slice_index_or (map (λ (c : Configuration). length c.lines) monitors) m 0
-lines-count [] m = refl
-lines-count (c ∷ monitors) zero = refl
 lines-count (c ∷ monitors) (suc m) = lines-count monitors m
+lines-count _ _ = refl
 
 length-for_each : {A : Type 0} (of : ℕ → A) (lines : List Line) → length (for_each_line of lines) ≡ length lines
 length-for_each of [] = refl
@@ -76,7 +74,6 @@ module _ (setup : Setup) (schedule : List Step) (k : Kept) (is : IsFleet setup (
 
   -- the same steps fit a fleet and its world
   pub same-fit : (step : Step) → fits k step ≡ is_fit setup step
-  same-fit (ServerClock t) = refl
   same-fit (MonitorClock m t) = ap (nat_lt m) seats
   same-fit (Up u) = same-ups u
   same-fit (Driver u line) = ap (λ b. b && nat_lt (length line) PIECE_MAX) (same-ups u)
@@ -88,7 +85,7 @@ module _ (setup : Setup) (schedule : List Step) (k : Kept) (is : IsFleet setup (
   same-fit (Land m i n) = same-link_there m i
   same-fit (CutServer m i) = same-link_there m i
   same-fit (CutMonitor m i) = same-link_there m i
-  same-fit (Other event) = refl
+  same-fit _ = refl
 
 -- ---- what a step leaves unchanged
 
@@ -115,19 +112,15 @@ server-stays : (s : server.Content) (k : Kept) → Stays k (record k { server = 
 server-stays s k = record { monitors = refl; links = refl; works = refl }
 
 stays : (k : Kept) (step : Step) → Stays k (next k step)
-stays k (ServerClock t) = server-stays _ k
 stays k (MonitorClock m t) = seats-stay m _ k.server k (λ x. refl) (λ x. refl)
-stays k (Up u) = server-stays _ k
-stays k (Driver u line) = server-stays _ k
-stays k (Down u) = server-stays _ k
 stays k (Link m i) = seats-stay m (join_seat k.server m i) _ k (λ x. refl) (λ x. length-changed i _ x.links)
 stays k (Out m i n) = seats-stay m (out_seat k.server m i n) k.server k (λ x. refl) (λ x. length-changed i _ x.links)
 stays k (Reach m i n) = seats-stay m (reach_seat k.server i n) _ k (λ x. refl) (λ x. length-changed i _ x.links)
 stays k (Back m i n) = seats-stay m (back_seat k.server i n) _ k (λ x. refl) (λ x. length-changed i _ x.links)
 stays k (Land m i n) = seats-stay m (land_seat m i n) k.server k (λ x. refl) (λ x. length-changed i _ x.links)
-stays k (CutServer m i) = server-stays _ k
 stays k (CutMonitor m i) = seats-stay m _ k.server k (λ x. refl) (λ x. refl)
 stays k (Other event) = record { monitors = refl; links = refl; works = refl }
+stays k _ = server-stays _ k
 
 -- ---- a step
 
@@ -190,14 +183,12 @@ module _ (first : ServerConfiguration) where
 
   fresh-known : (confs : List UpsmonConf) (m : ℕ) →
       known_in (slice_get (map fresh_seat confs) m) ≡ knowledge.content (slice_index_or (map configuration_of confs) m no_monitor) []
-  fresh-known [] m = refl
-  fresh-known (c ∷ confs) zero = refl
   fresh-known (c ∷ confs) (suc m) = fresh-known confs m
+  fresh-known _ _ = refl
 
   no-ends : {A : Type 0} (lines : List A) (i : ℕ) → ends_at (map (λ line. no_ends) lines) i ≡ no_ends
-  no-ends [] i = refl
-  no-ends (line ∷ lines) zero = refl
   no-ends (line ∷ lines) (suc i) = no-ends lines i
+  no-ends _ _ = refl
 
   fresh-ends : (confs : List UpsmonConf) (m i : ℕ) → ends_at (links_in (slice_get (map fresh_seat confs) m)) i ≡ no_ends
   fresh-ends [] m i = refl
