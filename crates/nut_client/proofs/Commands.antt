@@ -10,14 +10,13 @@ use Rattle.nut_client.specs.declared.command_line.Refusal.{Refusal}
 use Rattle.nut_client.specs.declared.command_line.Refusal.TheVariants.{Usage, Failed}
 use Rattle.nut_client.specs.declared.failure.Failure.{Failure}
 use Rattle.nut_client.specs.declared.tool.Tool.{Tool}
-use Rattle.nut_client.specs.declared.tool.Tool.TheVariants.{Upsc, Upsrw, Upscmd}
+use Rattle.nut_client.specs.declared.tool.Tool.TheVariants.{Upsc}
 use Rattle.nut_client.specs.declared.wanted.Wanted.{Wanted}
 
 pub is_simple : (tool : Tool) → is_simple_and_free (command_of tool) ≡ true
 unfolding command_of
 is_simple Upsc = refl
-is_simple Upsrw = refl
-is_simple Upscmd = refl
+is_simple tool = refl
 
 -- what the options of clap's matches are for a tool
 abbrev pub options_in : Tool → List Row → Result Options Failure

@@ -5,7 +5,7 @@ use Rattle.std.specs.Io.KnownBytes.{prepend_known}
 use Rattle.nut_words.specs.Lines.{LineText}
 use Rattle.nut_client.specs.laws.Laws.{AllBytesDecide, MoreBytesAreIgnored}
 use Rattle.nut_client.specs.Script.{Script}
-use Rattle.nut_client.specs.Tool.{Failed, Printed, Standing, Waits, after, begin, ending, is_over, run_of, settled_lines}
+use Rattle.nut_client.specs.Tool.{Standing, Waits, after, begin, ending, is_over, run_of, settled_lines}
 use Rattle.nut_client.specs.declared.failure.Failure.{Failure}
 use Rattle.nut_client.specs.declared.failure.Failure.TheVariants as failures
 use Rattle.nut_client.proofs.Runs.{after-append, settled-append}
@@ -13,8 +13,7 @@ use Rattle.nut_client.proofs.Runs.{after-append, settled-append}
 stays : (ls : List LineText) (queries : List ℕ) (s : Standing) → is_over s ≡ true → after ls (record { queries = queries; standing = s }) ≡ record { queries = queries; standing = s }
 stays [] queries s over = refl
 stays (l ∷ ls) queries (Waits e next) over = absurd (cc)
-stays (l ∷ ls) queries (Printed text) over = stays ls queries (Printed text) over
-stays (l ∷ ls) queries (Failed failure) over = stays ls queries (Failed failure) over
+stays (l ∷ ls) queries s over = stays ls queries s over
 
 pub more_bytes : MoreBytesAreIgnored
 more_bytes script bytes more over =
@@ -46,9 +45,7 @@ by_heard : (script : Script) (result : Result (List ℕ) Failure) (heard unheard
     → HasReason script result heard unheard written → Decides script result (heard ++ (unheard ++ left)) heard left written
 unfolding Decides
 by_heard script result heard unheard left written (Waits e next) is ends why = by_waiting script result heard unheard left written (ends ∙ ap ending (sym is)) ends why
-by_heard script result heard unheard left written (Printed text) is ends why =
-    inr (inr (ends ∙ ap ending (sym is) ∙ ap (λ r. ending r.standing) (sym (more_bytes script heard (unheard ++ left) (ap is_over is)))))
-by_heard script result heard unheard left written (Failed failure) is ends why =
+by_heard script result heard unheard left written s is ends why =
     inr (inr (ends ∙ ap ending (sym is) ∙ ap (λ r. ending r.standing) (sym (more_bytes script heard (unheard ++ left) (ap is_over is)))))
 
 all_of : (bytes heard unheard left : List ℕ) → Some bytes ≡ prepend_known (heard ++ unheard) (Some left) → bytes ≡ heard ++ (unheard ++ left)

@@ -45,9 +45,8 @@ went v v1 p done result feeds ok =
     ]
 
 unanswered : (stage : Stage) → outcome_in stage ≡ None → stage_without stage ≡ stage
-unanswered stages.Idle none = refl
-unanswered (stages.Asked query) none = refl
 unanswered (stages.Answered outcome) none = absurd (cc)
+unanswered stage none = refl
 
 pub is_part : (is_ended : Bool) (p : List ℕ) → IsEnded is_ended p → IsUnbroken p ⊎ IsWhole p
 is_part true p whole = inr whole
@@ -100,12 +99,8 @@ hears_fault v v1 p n' done result fault failure feeds failed is =
     ]
 
 pub never_lost : (fault : LinkFault) (failure : Failure) → failure ≡ failure_of fault → failure ≡ failures.ConnectionLost → ⊥
-never_lost faults.NotMine failure is lost = let never : failures.BadAnswer ≡ failures.ConnectionLost = sym is ∙ lost in absurd (cc)
-never_lost faults.BadLine failure is lost = let never : failures.BadAnswer ≡ failures.ConnectionLost = sym is ∙ lost in absurd (cc)
-never_lost faults.OutOfOrder failure is lost = let never : failures.BadAnswer ≡ failures.ConnectionLost = sym is ∙ lost in absurd (cc)
-never_lost faults.TooMuchTaken failure is lost = let never : failures.BadAnswer ≡ failures.ConnectionLost = sym is ∙ lost in absurd (cc)
 never_lost faults.Memory failure is lost = let never : failures.Memory ≡ failures.ConnectionLost = sym is ∙ lost in absurd (cc)
-never_lost faults.BadQuery failure is lost = let never : failures.BadQuery ≡ failures.ConnectionLost = sym is ∙ lost in absurd (cc)
+never_lost fault failure is lost = let never : failure_of fault ≡ failures.ConnectionLost = sym is ∙ lost in absurd (cc)
 
 -- the link after its answer, if there is one, was taken out
 pub hears_ok : (v v1 v2 : LinkValue) (p : List ℕ) (is_ended : Bool) (n n' most done : ℕ) (result : Result (Unit {0}) LinkFault) (outcome : Option Outcome) → Awaits v n

@@ -17,7 +17,7 @@ use Rattle.nut_link.specs.declared.outcome.Outcome.{Outcome}
 use Rattle.nut_client.specs.inside.Conversation.{HasLength, IsWaiting}
 use Rattle.nut_link.specs.Link.{LinkValue, failed, fed, heard, left_of, lines_heard, moved, on_line, outcome_in, outcome_of}
 use Rattle.nut_link.specs.Asking.{is_writable}
-use Rattle.nut_client.specs.Script.{Script, Prints, Fails, Asks, Pauses}
+use Rattle.nut_client.specs.Script.{Script, Asks, Pauses}
 use Rattle.nut_client.specs.Tool.{Run, Waits, Failed, after, begin, sent, failure_of, goes_on, hears, overlong, settled_lines}
 use Rattle.nut_client.specs.inside.Unread.{IsUnbroken, IsWhole}
 
@@ -108,8 +108,7 @@ nothing_run v b t u p run q next short short' is h =
 
 left_outcome : (stage : Stage) → outcome_in (left_of stage) ≡ outcome_in stage
 left_outcome stages.Idle = refl
-left_outcome (stages.Asked query) = refl
-left_outcome (stages.Answered outcome) = refl
+left_outcome stage = refl
 
 -- The unfinished line becomes too long.
 overlong_run : (e : Exchange) (b t p : List ℕ) (run : Run) (q : List ℕ) (next : Outcome → Script) → rest b ≡ Text t → lines (b ++ p) ≡ lines b → rest (b ++ p) ≡ TooLong → IsWaiting e
@@ -175,13 +174,12 @@ begun b q request next = if b then record { queries = q ++ request_line request;
 
 -- A script that begins asks at most one query more.
 pub begin_more : (q : List ℕ) (script : Script) → (back : List ℕ) × ((begin q script).queries ≡ q ++ back)
-begin_more q (Prints text) = ([], sym (append-nil q))
-begin_more q (Fails failure) = ([], sym (append-nil q))
 begin_more q (Pauses next) = begin_more q next
 begin_more q (Asks request next) = elim (cases_Bool (is_writable request)) [
   | inl fits ↦ (request_line request, ap (λ b. (begun b q request next).queries) fits)
   | inr unfit ↦ ([], ap (λ b. (begun b q request next).queries) unfit ∙ sym (append-nil q))
 ]
+begin_more q script = ([], sym (append-nil q))
 
 goes_on_more : (q : List ℕ) (next : Outcome → Script) (e : Exchange) (o : Option Outcome) (f : Option LinkFault) → (back : List ℕ) × ((goes_on q next e o f).queries ≡ q ++ back)
 goes_on_more q next e (Some outcome) f = begin_more q (next outcome)

@@ -98,6 +98,7 @@ fn names_server(wanted: &Wanted<'_>) -> bool
 }
 
 /// Returns the options for what is wanted of the UPS or the server of this name.
+#[tactic(auto, using(std::proofs::lemmas::Grind::common_steps))]
 pub(crate) fn options_of<'a>(
     wanted: Option<Wanted<'a>>,
     name: Option<&str>,

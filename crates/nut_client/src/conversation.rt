@@ -140,6 +140,7 @@ fn ask_over<S: Stream>(
 }
 
 /// Sends all bytes of a query over a link on which nothing was said.
+#[tactic(auto, using(std::proofs::lemmas::Grind::common_steps))]
 fn send<S: Stream>(stream: &mut S, link: &mut Link, request: &Request<'_>) -> Result<(), Failure>
     requires { link.old ≡ fresh }
     ensures sends { Sends request.now result link.new (S.taken stream.old) (S.taken stream.new) (S.has_ended stream.new) }

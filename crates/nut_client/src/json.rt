@@ -33,6 +33,7 @@ fn put_byte(out: &mut Vec<u8>, byte: u8) -> Result<(), AllocError>
 }
 
 /// Appends the bytes of a string, each escaped if it has to be.
+#[tactic(auto, using(std::proofs::lemmas::Grind::common_steps))]
 fn put_bytes(out: &mut Vec<u8>, text: &[u8]) -> Result<(), AllocError>
     ensures { OnOk result (out.new.items ≡ out.old.items ++ flat_map escaped text.now) }
 {
@@ -61,6 +62,7 @@ fn put_pair(out: &mut Vec<u8>, name: &[u8], value: &[u8]) -> Result<(), AllocErr
 }
 
 /// Appends the name and the value of a row.
+#[tactic(auto, using(std::proofs::lemmas::Grind::common_steps))]
 fn put_member(out: &mut Vec<u8>, row: &Fields) -> Result<(), AllocError>
     ensures { OnOk result (out.new.items ≡ out.old.items ++ member row.now) }
 {
@@ -68,6 +70,7 @@ fn put_member(out: &mut Vec<u8>, row: &Fields) -> Result<(), AllocError>
 }
 
 /// Appends further members, each after a comma.
+#[tactic(auto, using(std::proofs::lemmas::Grind::common_steps))]
 fn put_more(out: &mut Vec<u8>, rows: &[Fields]) -> Result<(), AllocError>
     ensures { OnOk result (out.new.items ≡ out.old.items ++ flat_map (λ r. codes ", " ++ member r) rows.now) }
 {

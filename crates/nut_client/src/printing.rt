@@ -31,6 +31,7 @@ pub enum Values {
 }
 
 /// Appends these parts as a line.
+#[tactic(auto, using(std::proofs::lemmas::Grind::common_steps))]
 pub(crate) fn put_line(out: &mut Vec<u8>, parts: &[&[u8]]) -> Result<(), AllocError>
     ensures { OnOk result (out.new.items ≡ out.old.items ++ (flat_map (λ part. part.now) parts.now ++ 10 ∷ [])) }
 {
@@ -41,6 +42,7 @@ pub(crate) fn put_line(out: &mut Vec<u8>, parts: &[&[u8]]) -> Result<(), AllocEr
 }
 
 /// Appends the line that shows a row.
+#[tactic(auto, using(std::proofs::lemmas::Grind::common_steps))]
 fn put_row(out: &mut Vec<u8>, form: Form, row: &Fields) -> Result<(), AllocError>
     ensures { OnOk result (out.new.items ≡ out.old.items ++ row_line form row.now) }
 {
@@ -53,6 +55,7 @@ fn put_row(out: &mut Vec<u8>, form: Form, row: &Fields) -> Result<(), AllocError
 }
 
 /// Appends the lines that show all rows.
+#[tactic(auto, using(std::proofs::lemmas::Grind::common_steps))]
 pub(crate) fn put_rows(out: &mut Vec<u8>, form: Form, rows: &[Fields]) -> Result<(), AllocError>
     ensures { OnOk result (out.new.items ≡ out.old.items ++ row_lines form rows.now) }
 {
@@ -63,6 +66,7 @@ pub(crate) fn put_rows(out: &mut Vec<u8>, form: Form, rows: &[Fields]) -> Result
 }
 
 /// Appends the words of a variable's type, each after a blank.
+#[tactic(auto, using(std::proofs::lemmas::Grind::common_steps))]
 fn put_words(out: &mut Vec<u8>, words: &[Text]) -> Result<(), AllocError>
     ensures { OnOk result (out.new.items ≡ out.old.items ++ flat_map (λ w. 32 ∷ w) words.now) }
 {

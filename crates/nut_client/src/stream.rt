@@ -172,6 +172,7 @@ impl<'a> Stream for MemoryStream<'a> {
 
     ghost calls_left = { λ s. length s.rest.now };
 
+    #[tactic(auto, using(std::proofs::lemmas::Grind::common_steps))]
     fn read(&mut self, place: &mut [u8]) -> Moved
         requires room { 0 < length place.old }
         ensures gave { Gave result place.new (Some self.old.rest.now) (Some self.new.rest.now) }

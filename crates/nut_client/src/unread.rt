@@ -66,6 +66,7 @@ impl Unread {
 
     /// Reads from the connection if nothing is unread. It waits for at least one byte. Returns whether there is one; if
     /// not, the connection is lost.
+    #[tactic(auto, using(std::proofs::lemmas::Grind::common_steps))]
     pub(crate) fn fill<S: Stream>(&mut self, stream: &mut S) -> bool
         ensures same { prepend_known self.old (S.remaining stream.old) ≡ prepend_known self.new (S.remaining stream.new) }
         ensures some { result ≡ true → 0 < length self.new }
@@ -89,6 +90,7 @@ impl Unread {
 }
 
 /// Reads from the connection. It waits for at least one byte. `None` if the connection is lost.
+#[tactic(auto, using(std::proofs::lemmas::Grind::common_steps))]
 fn read_some<S: Stream>(stream: &mut S) -> Option<ArrayVec<u8, PIECE_MAX>>
     ensures some { IfSome result (λ bytes. S.remaining stream.old ≡ prepend_known bytes.items (S.remaining stream.new)) }
     ensures full { IfSome result (λ bytes. 0 < length bytes.items) }

@@ -81,10 +81,7 @@ fn wanted_by<'a>(
     match (list, wait, command, parameter, user, password) {
         (true, false, None, None, None, None) => Some(Wanted::Commands),
         (false, wait, Some(command), parameter, Some(user), Some(password)) => {
-            let parameter = match parameter {
-                Some(text) => Some(Word::new(text.as_bytes())),
-                None => None,
-            };
+            let parameter = parameter.map(|text| Word::new(text.as_bytes()));
             let deed = Deed::Command(Word::new(command.as_bytes()), parameter);
             Some(deed_by(user, password, deed, until(wait)))
         }

@@ -1,11 +1,11 @@
 -- What an arrival and the server's answer to it do to `Served`.
 use Rattle.std.proofs.Common.{◌≡◌, ℕ, List, [], ◌∷◌, ◌++◌, Option, Some, unwrap_or, Result, Ok, Err, refl, sym, ◌∙◌, ap, subst, true, false}
-use Rattle.std.specs.Prelude.{option_map, is_err}
+use Rattle.std.specs.Prelude.{IfSome, option_map, is_err}
 use Rattle.std.proofs.lemmas.Bool.{true≢false}
 use Rattle.nut_server_spec.specs.declared.Place.{Place}
-use Rattle.nut_server_spec.specs.declared.Place.TheVariants.{Line, Report, NewUpses}
+use Rattle.nut_server_spec.specs.declared.Place.TheVariants.{NewUpses}
 use Rattle.nut_server_spec.specs.declared.Refused.{Refused}
-use Rattle.nut_server_spec.specs.declared.Refused.TheVariants.{NoSuchConnection, NotConnected, PieceTooLong, Busy, TooMuchTaken, BadAddress, Full, Memory}
+use Rattle.nut_server_spec.specs.declared.Refused.TheVariants.{Memory}
 use Rattle.nut_server_spec.specs.Configuration.{Configuration}
 use Rattle.nut_server_spec.specs.Event.{Event}
 use Rattle.nut_server_spec.specs.Event as event
@@ -33,72 +33,20 @@ IsGiven (event.DriverTook u n) = ⊥
 IsGiven e = Unit {0}
 
 given_next : (n : Next) (items : List ℕ) (e : Event) → arrival_of n items ≡ Some e → IsGiven e
-given_next n items (event.Moment t) is = tt
-given_next n items (event.Open address) is = tt
-given_next n items (event.Bytes c piece) is = tt
-given_next n items (event.Close c) is = tt
-given_next n items (event.DriverUp u) is = tt
-given_next n items (event.DriverBytes u piece) is = tt
-given_next n items (event.DriverDown u) is = tt
-given_next n items (event.Reload k) is = tt
-given_next (next.Moment t) items (event.Took c k) is = cc
-given_next next.Open items (event.Took c k) is = cc
-given_next (next.Bytes b) items (event.Took c k) is = cc
-given_next (next.Close b) items (event.Took c k) is = cc
-given_next (next.DriverUp u) items (event.Took c k) is = cc
-given_next (next.DriverBytes u) items (event.Took c k) is = cc
-given_next (next.DriverDown u) items (event.Took c k) is = cc
-given_next (next.Reload config) items (event.Took c k) is = cc
-given_next next.Again items (event.Took c k) is = cc
-given_next next.End items (event.Took c k) is = cc
-given_next (next.Moment t) items (event.WriteFailed c) is = cc
-given_next next.Open items (event.WriteFailed c) is = cc
-given_next (next.Bytes b) items (event.WriteFailed c) is = cc
-given_next (next.Close b) items (event.WriteFailed c) is = cc
-given_next (next.DriverUp u) items (event.WriteFailed c) is = cc
-given_next (next.DriverBytes u) items (event.WriteFailed c) is = cc
-given_next (next.DriverDown u) items (event.WriteFailed c) is = cc
-given_next (next.Reload config) items (event.WriteFailed c) is = cc
-given_next next.Again items (event.WriteFailed c) is = cc
-given_next next.End items (event.WriteFailed c) is = cc
-given_next (next.Moment t) items (event.DriverTook v k) is = cc
-given_next next.Open items (event.DriverTook v k) is = cc
-given_next (next.Bytes b) items (event.DriverTook v k) is = cc
-given_next (next.Close b) items (event.DriverTook v k) is = cc
-given_next (next.DriverUp u) items (event.DriverTook v k) is = cc
-given_next (next.DriverBytes u) items (event.DriverTook v k) is = cc
-given_next (next.DriverDown u) items (event.DriverTook v k) is = cc
-given_next (next.Reload config) items (event.DriverTook v k) is = cc
-given_next next.Again items (event.DriverTook v k) is = cc
-given_next next.End items (event.DriverTook v k) is = cc
+given_next n items e is = rw is at (given_any n items) where
+  given_any : (n : Next) (items : List ℕ) → IfSome (arrival_of n items) IsGiven
+  given_any (next.Moment t) items = tt
+  given_any n items = tt
 
 -- ---- an accepted arrival
 
 takes_none : (e : Event) (c : ℕ) → IsGiven e → taken_by c e ≡ 0
-takes_none (event.Moment t) c given = refl
-takes_none (event.Open address) c given = refl
-takes_none (event.Bytes d piece) c given = refl
 takes_none (event.Took d n) c given = absurd given
-takes_none (event.Close d) c given = refl
-takes_none (event.WriteFailed d) c given = absurd given
-takes_none (event.DriverUp u) c given = refl
-takes_none (event.DriverBytes u piece) c given = refl
-takes_none (event.DriverTook u n) c given = absurd given
-takes_none (event.DriverDown u) c given = refl
-takes_none (event.Reload k) c given = refl
+takes_none e c given = refl
 
 drains_none : (e : Event) (u : ℕ) → IsGiven e → drained_by u e ≡ 0
-drains_none (event.Moment t) u given = refl
-drains_none (event.Open address) u given = refl
-drains_none (event.Bytes c piece) u given = refl
-drains_none (event.Took c n) u given = absurd given
-drains_none (event.Close c) u given = refl
-drains_none (event.WriteFailed c) u given = absurd given
-drains_none (event.DriverUp v) u given = refl
-drains_none (event.DriverBytes v piece) u given = refl
 drains_none (event.DriverTook v n) u given = absurd given
-drains_none (event.DriverDown v) u given = refl
-drains_none (event.Reload k) u given = refl
+drains_none e u given = refl
 
 -- ---- an arrival came and was answered
 
@@ -138,16 +86,8 @@ EndsNothing e = (s : Content) → ended_by_event s e ≡ []
 
 -- Only a reload ends anything if it is accepted.
 ends_nothing : (n : Next) (items : List ℕ) (e : Event) → is_reload n ≡ false → arrival_of n items ≡ Some e → EndsNothing e
-ends_nothing (next.Moment t) items e plain is = subst (λ a. EndsNothing (unwrap_or a (event.Close 0))) is (λ s. refl)
-ends_nothing next.Open items e plain is = subst (λ a. EndsNothing (unwrap_or a (event.Close 0))) is (λ s. refl)
-ends_nothing (next.Bytes c) items e plain is = subst (λ a. EndsNothing (unwrap_or a (event.Close 0))) is (λ s. refl)
-ends_nothing (next.Close c) items e plain is = subst (λ a. EndsNothing (unwrap_or a (event.Close 0))) is (λ s. refl)
-ends_nothing (next.DriverUp u) items e plain is = subst (λ a. EndsNothing (unwrap_or a (event.Close 0))) is (λ s. refl)
-ends_nothing (next.DriverBytes u) items e plain is = subst (λ a. EndsNothing (unwrap_or a (event.Close 0))) is (λ s. refl)
-ends_nothing (next.DriverDown u) items e plain is = subst (λ a. EndsNothing (unwrap_or a (event.Close 0))) is (λ s. refl)
 ends_nothing (next.Reload config) items e plain is = absurd (true≢false plain)
-ends_nothing next.Again items e plain is = cc
-ends_nothing next.End items e plain is = cc
+ends_nothing n items e plain is = subst (λ a. EndsNothing (unwrap_or a (event.Close 0))) is (λ s. refl)
 
 ended_without : {U : Type 0} (s : Content) (e : Event) (r : Result U Refused) → EndsNothing e → ended_by s e r ≡ ended_by_lack r
 ended_without s e (Ok u) plain = plain s
@@ -166,16 +106,9 @@ gave_ending first o' s s' n items found arrival r lack known before stands is pl
 
 -- A reload is refused only for lack of memory, which ends nothing.
 refused_reload : (first : Configuration) (h : List Event) (k : Configuration) (r : Refused) → IsRefusal first h (event.Reload k) r → ended_by_refusal r ≡ []
-refused_reload first h k (Memory (Line c n)) is = absurd is.1
-refused_reload first h k (Memory (Report u n)) is = absurd is.1
 refused_reload first h k (Memory NewUpses) is = refl
-refused_reload first h k NoSuchConnection is = cc
-refused_reload first h k NotConnected is = cc
-refused_reload first h k PieceTooLong is = cc
-refused_reload first h k Busy is = cc
-refused_reload first h k TooMuchTaken is = cc
-refused_reload first h k BadAddress is = cc
-refused_reload first h k Full is = cc
+refused_reload first h k (Memory place) is = absurd is.1
+refused_reload first h k r is = cc
 
 reloaded : {U : Type 0} (first : Configuration) (o' : Option (List Entry)) (s s' : Content) (n : Next) (items : List ℕ) (k : Configuration) (r : Result U Refused)
     → ServedBefore first o' s n items → arrival_of n items ≡ Some (event.Reload k) → Answered s (event.Reload k) r → Leads s (event.Reload k) r s' → Served first o' s' (ended_by s (event.Reload k) r)

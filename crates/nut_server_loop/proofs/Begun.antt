@@ -1,10 +1,10 @@
 -- What an arrival does to the bytes taken for a driver since it was last begun anew.
 use Rattle.std.proofs.Common.{◌≡◌, ◌++◌, ℕ, zero, suc, Bool, true, false, List, [], ◌∷◌, take, if◌then◌else◌, refl, sym, ◌∙◌, ap, append-nil}
-use Rattle.nut_server_spec.specs.declared.Place.TheVariants.{Line, Report, NewUpses}
+use Rattle.nut_server_spec.specs.declared.Place.TheVariants.{Line, Report}
 use Rattle.nut_server_spec.specs.declared.Refused.{Refused}
-use Rattle.nut_server_spec.specs.declared.Refused.TheVariants.{NoSuchConnection, NotConnected, PieceTooLong, Busy, TooMuchTaken, BadAddress, Full, Memory}
+use Rattle.nut_server_spec.specs.declared.Refused.TheVariants.{Memory}
 use Rattle.nut_server_spec.specs.Configuration.{Configuration}
-use Rattle.nut_server_spec.specs.Event.{Event, Moment, Open, Bytes, Took, Close, WriteFailed, DriverUp, DriverBytes, DriverTook, DriverDown, Reload}
+use Rattle.nut_server_spec.specs.Event.{Event, Moment, Bytes, DriverBytes}
 use Rattle.nut_server_spec.specs.Trace.{driver_sent, driver_waits}
 use Rattle.nut_server_spec.specs.Content.{past}
 use Rattle.nut_server_spec.specs.Acceptance.{IsAccepted, lost, lost_report}
@@ -15,16 +15,7 @@ use Rattle.nut_server_loop.specs.Served.{begins_anew, since_begun}
 
 same_anew : (first : Configuration) (h : List Event) (u : ℕ) (e : Event) → begins_anew first h u e ≡ server.begins_anew first h u e
 same_anew first h u (Moment t) = refl
-same_anew first h u (Open address) = refl
-same_anew first h u (Bytes c piece) = refl
-same_anew first h u (Took c n) = refl
-same_anew first h u (Close c) = refl
-same_anew first h u (WriteFailed c) = refl
-same_anew first h u (DriverUp v) = refl
-same_anew first h u (DriverBytes v piece) = refl
-same_anew first h u (DriverTook v n) = refl
-same_anew first h u (DriverDown v) = refl
-same_anew first h u (Reload k) = refl
+same_anew first h u e = refl
 
 -- An accepted event in which the driver of u takes nothing.
 pub asked_on : (first : Configuration) (h : List Event) (e : Event) (u : ℕ) (before : List ℕ) → drained_by u e ≡ 0 → IsAccepted first (e ∷ h) → before ≡ driver_sent u (past first h)
@@ -42,23 +33,6 @@ asked_on first h e u before nothing accepted same =
 
 -- ---- a refusal
 
--- What enters the history at a refusal comes before what it was, and connects no driver.
-joins_lost : (c : ℕ) (piece : List ℕ) (k : ℕ) (h : List Event) → lost c piece k [] ++ h ≡ lost c piece k h
-joins_lost c piece zero h = refl
-joins_lost c piece (suc k) h = refl
-
-joins_lost_report : (u : ℕ) (piece : List ℕ) (k : ℕ) (h : List Event) → lost_report u piece k [] ++ h ≡ lost_report u piece k h
-joins_lost_report u piece zero h = refl
-joins_lost_report u piece (suc k) h = refl
-
-since_lost : (first : Configuration) (u c : ℕ) (piece : List ℕ) (k : ℕ) (h : List Event) (before : List ℕ) → since_begun first u (lost c piece k []) h before ≡ before
-since_lost first u c piece zero h before = refl
-since_lost first u c piece (suc k) h before = refl
-
-since_lost_report : (first : Configuration) (u v : ℕ) (piece : List ℕ) (k : ℕ) (h : List Event) (before : List ℕ) → since_begun first u (lost_report v piece k []) h before ≡ before
-since_lost_report first u v piece zero h before = refl
-since_lost_report first u v piece (suc k) h before = refl
-
 -- These events lead from the history h to that after it, and change nothing of the bytes that were taken.
 pub record Leaves (first : Configuration) (h : List Event) (u : ℕ) (before : List ℕ) (events after : List Event) : Type 0 where
   pub joins : events ++ h ≡ after
@@ -69,39 +43,14 @@ module _ (first : Configuration) (h : List Event) (u : ℕ) (before : List ℕ) 
   nothing = record { joins = refl; stays = refl }
 
   leaves_line : (c : ℕ) (piece : List ℕ) (k : ℕ) → Leaves first h u before (lost c piece k []) (lost c piece k h)
-  leaves_line c piece k = record { joins = joins_lost c piece k h; stays = since_lost first u c piece k h before }
+  leaves_line c piece zero = record { joins = refl; stays = refl }
+  leaves_line c piece (suc k) = record { joins = refl; stays = refl }
 
   leaves_report : (v : ℕ) (piece : List ℕ) (k : ℕ) → Leaves first h u before (lost_report v piece k []) (lost_report v piece k h)
-  leaves_report v piece k = record { joins = joins_lost_report v piece k h; stays = since_lost_report first u v piece k h before }
+  leaves_report v piece zero = record { joins = refl; stays = refl }
+  leaves_report v piece (suc k) = record { joins = refl; stays = refl }
 
   pub refusal_leaves : (r : Refused) (e : Event) → Leaves first h u before (after_refusal r e []) (after_refusal r e h)
-  refusal_leaves (Memory (Line c k)) (Moment t) = nothing
-  refusal_leaves (Memory (Report w k)) (Moment t) = nothing
-  refusal_leaves (Memory (Line c k)) (Open a) = nothing
-  refusal_leaves (Memory (Report w k)) (Open a) = nothing
   refusal_leaves (Memory (Line c k)) (Bytes b piece) = leaves_line b piece k
-  refusal_leaves (Memory (Report w k)) (Bytes b piece) = nothing
-  refusal_leaves (Memory (Line c k)) (Took b n) = nothing
-  refusal_leaves (Memory (Report w k)) (Took b n) = nothing
-  refusal_leaves (Memory (Line c k)) (Close b) = nothing
-  refusal_leaves (Memory (Report w k)) (Close b) = nothing
-  refusal_leaves (Memory (Line c k)) (WriteFailed b) = nothing
-  refusal_leaves (Memory (Report w k)) (WriteFailed b) = nothing
-  refusal_leaves (Memory (Line c k)) (DriverUp v) = nothing
-  refusal_leaves (Memory (Report w k)) (DriverUp v) = nothing
-  refusal_leaves (Memory (Line c k)) (DriverBytes v piece) = nothing
   refusal_leaves (Memory (Report w k)) (DriverBytes v piece) = leaves_report v piece k
-  refusal_leaves (Memory (Line c k)) (DriverTook v n) = nothing
-  refusal_leaves (Memory (Report w k)) (DriverTook v n) = nothing
-  refusal_leaves (Memory (Line c k)) (DriverDown v) = nothing
-  refusal_leaves (Memory (Report w k)) (DriverDown v) = nothing
-  refusal_leaves (Memory (Line c k)) (Reload j) = nothing
-  refusal_leaves (Memory (Report w k)) (Reload j) = nothing
-  refusal_leaves (Memory NewUpses) e = nothing
-  refusal_leaves NoSuchConnection e = nothing
-  refusal_leaves NotConnected e = nothing
-  refusal_leaves PieceTooLong e = nothing
-  refusal_leaves Busy e = nothing
-  refusal_leaves TooMuchTaken e = nothing
-  refusal_leaves BadAddress e = nothing
-  refusal_leaves Full e = nothing
+  refusal_leaves r e = nothing

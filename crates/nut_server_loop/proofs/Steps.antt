@@ -1,5 +1,5 @@
 -- Each step of the loop keeps `Served`.
-use Rattle.std.proofs.Common.{◌≡◌, ℕ, ◌≤◌, false, List, [], ◌∷◌, ◌++◌, length, take, drop, Option, Some, None, Result, Ok, Err, IfSome, OnOk, OnErr, refl, sym, ◌∙◌, ap, subst, arith, length-append}
+use Rattle.std.proofs.Common.{◌≡◌, ℕ, ◌≤◌, false, List, ◌∷◌, ◌++◌, length, take, drop, Option, Some, None, Result, Ok, Err, IfSome, OnOk, OnErr, refl, sym, ◌∙◌, ap, subst, arith, length-append}
 use Rattle.std.proofs.lemmas.List.{append-nil, drop_all, take-append-le}
 use Rattle.nut_queue.specs.Front.{IsFrontPart}
 use Rattle.nut_server_spec.specs.declared.Place.{Place}
@@ -45,11 +45,6 @@ goes_on first o o' s s' owed owed' entry served events more stands holds same as
       sent_is = same;
       asked_is = asked;
     }
-
--- A server that was told nothing is served.
-pub begun : (first : Configuration) (o : Option (List Entry)) (s : Content) → s ≡ content first [] → IfSome o (λ r. r ≡ []) → Served first o s []
-begun first o s fresh blank =
-    record { steps = []; tells = blank; told = refl; holds = (tt, fresh); sent_is = λ c. refl; asked_is = λ u. refl }
 
 -- What is served with something left to close is so after an error.
 pub at_err : {T E : Type 0} (r : Result T E) (first : Configuration) (o : Option (List Entry)) (s : Content) (owed : List Ended) → Served first o s owed → OnErr r ((x : List Ended) × Served first o s x)
