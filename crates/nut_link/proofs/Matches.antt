@@ -1,22 +1,23 @@
 -- Which lines match.
-use Rattle.std.proofs.Common.{◌≡◌, ℕ, Bool, true, false, List, [], ◌∷◌, length, bytes_eq, decimal, refl, sym, ap, ◌∙◌, inl, inr, Result}
+use Rattle.std.proofs.Common.{◌≡◌, ℕ, ◌<◌, ◌^◌, Bool, true, false, List, [], ◌∷◌, length, map, bytes_eq, decimal, refl, sym, ap, ◌∙◌, inl, inr, None, Ok, Result}
 use Rattle.std.proofs.lemmas.Bool.{false≢true, eq-eqb, lt-ltb, or_left, or_right}
+use Rattle.std.proofs.lemmas.List.Elements.{All-cons, All-nil}
 use Rattle.std.proofs.lemmas.List.Folds.{list_any-append}
 use Rattle.std.proofs.lemmas.Slice.Eq.{bytes_eq-Decides}
-use Rattle.std.specs.List.{list_any}
+use Rattle.std.specs.List.{All, list_any}
 use Rattle.nut_words.specs.Lines.{lines_after}
 use Rattle.nut_words.specs.Reader.{read}
 use Rattle.nut_proto.specs.Answers.{answer_of}
 use Rattle.nut_proto.proofs.Numbers.{decimal_natural, number_back}
 use Rattle.nut_proto.specs.declared.limits.TheConstants.{ROWS_MAX}
-use Rattle.nut_proto.specs.declared.reply.Reply.TheVariants as replies
 use Rattle.nut_proto.specs.declared.reply.VariableKind.{VariableKind}
-use Rattle.nut_proto.specs.declared.request.Request.TheVariants as requests
+use Rattle.nut_proto.specs.declared.tracking.TrackingStatus.{TrackingStatus}
 use Rattle.nut_link.specs.Hearing.{Feeds, may_take_memory}
-use Rattle.nut_link.specs.laws.Laws.{Answers, OkTakesNoMemory, RepliesMatch, type_words}
+use Rattle.nut_link.specs.laws.Laws.{Answers, Case, OkTakesNoMemory, RepliesMatch, gets}
 use Rattle.nut_link.specs.Link.{LinkValue, fed}
-use Rattle.nut_link.specs.Matching.{begins, is_heading}
+use Rattle.nut_link.specs.Matching.{Complete, Progress, begins, expected, is_heading, progress}
 use Rattle.nut_proto.specs.Lines.{message_words}
+use Rattle.nut_proto.specs.laws.ReadBack.{answer_to}
 use Rattle.nut_proto.specs.Requests.{query_parts}
 use Rattle.nut_link.specs.declared.outcome.Outcome.TheVariants as outcomes
 use Rattle.nut_link.specs.declared.fault.LinkFault.{LinkFault}
@@ -48,22 +49,30 @@ begins_itself (word ∷ words) = rw (bytes_same word, begins_itself words) refl
 heading_itself : (heading : List (List ℕ)) → is_heading heading heading ≡ true
 heading_itself heading = rw (eq-eqb (length heading) (length heading) refl, begins_itself heading) refl
 
-types : (ups variable : List ℕ) (writable : Bool) (kind : VariableKind) →
-    Answers (requests.GetType ups variable) (replies.Type ups variable writable kind) (outcomes.Said (type_words writable kind))
-types ups variable true kind = rw (bytes_same ups, bytes_same variable) refl
-types ups variable false kind = rw (bytes_same ups, bytes_same variable) refl
+each_same : {X Y : Type 0} (f g : X → Y) (xs : List X) → map f xs ≡ map g xs → All (λ x. f x ≡ g x) xs
+each_same f g [] same = All-nil (λ x. f x ≡ g x)
+each_same f g (x ∷ xs) same = All-cons (λ x. f x ≡ g x) x xs (cc) (each_same f g xs (cc))
+
+-- what a link makes of the reply in a case, and what it has to make of it
+abbrev made : Case → Result Progress LinkFault
+made case = progress (expected case.0) None (answer_to case.1)
+
+abbrev told : Case → Result Progress LinkFault
+told case = Ok (Complete (outcomes.Said case.2))
+
+each_get : (ups name text : List ℕ) (count number : ℕ) (flag : Bool) (kind : VariableKind) (status : TrackingStatus) → count < 10 ^ 9 →
+    All (λ case. Answers case.0 case.1 (outcomes.Said case.2)) (gets ups name text count number flag kind status)
+each_get ups name text count number true kind status small =
+    each_same made told (gets ups name text count number true kind status)
+    (rw (bytes_same ups, bytes_same name, bytes_same (decimal number), decimal_natural count small) refl)
+each_get ups name text count number false kind status small =
+    each_same made told (gets ups name text count number false kind status)
+    (rw (bytes_same ups, bytes_same name, bytes_same (decimal number), decimal_natural count small) refl)
 
 pub replies_match : RepliesMatch
 replies_match = record {
   refused = λ request refusal. refl;
-  logins = λ ups n small. rw (bytes_same ups, decimal_natural n small) refl;
-  description = λ ups text. rw (bytes_same ups) refl;
-  value = λ ups variable text. rw (bytes_same ups, bytes_same variable) refl;
-  kind = types;
-  variable = λ ups name text. rw (bytes_same ups, bytes_same name) refl;
-  command = λ ups name text. rw (bytes_same ups, bytes_same name) refl;
-  tracking = λ on. refl;
-  tracked = λ number status. rw (bytes_same (decimal number)) refl;
+  of_get = each_get;
   set = λ ups variable text. refl;
   set_as = λ ups variable text number is. rw (number_back number is) refl;
   instructed = λ ups name parameter. refl;

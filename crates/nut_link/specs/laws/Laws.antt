@@ -1,6 +1,7 @@
 -- What holds of every link. Each of these is the contract of a function of the crate.
 use Rattle.std.specs.Prelude.{◌≡◌, ℕ, ℤ, ◌<◌, ◌^◌, Bool, false, if◌then◌else◌, List, [], ◌∷◌, ◌++◌, length, Option, Some, None, Ok, codes, decimal}
 use Rattle.std.specs.Fmt.{signed_decimal}
+use Rattle.std.specs.List.{All}
 use Rattle.nut_words.specs.Lines.{Text}
 use Rattle.nut_proto.specs.declared.answer.Answer.TheVariants as answers
 use Rattle.nut_proto.specs.declared.reply.Reply.{Reply}
@@ -53,25 +54,30 @@ Adds query row words =
 abbrev pub type_words : Bool → VariableKind → List (List ℕ)
 type_words writable kind = if writable then codes "RW" ∷ part_word (kind_part kind) ∷ [] else part_word (kind_part kind) ∷ []
 
+-- a request, the server's reply to it, and the words that a client is told then
+abbrev pub Case : Type 0
+Case = Request × Reply × List (List ℕ)
+
+-- each GET
+abbrev pub gets : (ups name text : List ℕ) (count number : ℕ) (flag : Bool) (kind : VariableKind) (status : TrackingStatus) → List Case
+gets ups name text count number flag kind status =
+    (requests.GetNumLogins ups, replies.NumLogins ups count, decimal count ∷ [])
+    ∷ (requests.GetUpsDesc ups, replies.UpsDesc ups text, text ∷ [])
+    ∷ (requests.GetVar ups name, replies.Var ups name text, text ∷ [])
+    ∷ (requests.GetType ups name, replies.Type ups name flag kind, type_words flag kind)
+    ∷ (requests.GetDesc ups name, replies.Desc ups name text, text ∷ [])
+    ∷ (requests.GetCmdDesc ups name, replies.CmdDesc ups name text, text ∷ [])
+    ∷ (requests.GetTracking, replies.TrackingIs flag, switch_word flag ∷ [])
+    ∷ (requests.GetTrackingOf number, replies.Tracking number status, status_word status ∷ [])
+    ∷ []
+
 -- What the server replies to each request is taken as its answer, and each row of a list as one more row. A refusal is an
 -- answer whatever was asked, and STARTTLS has no other. A count of logins has at most 9 digits.
 pub record RepliesMatch : Type 0 where
   pub refused : (request : Request) (refusal : Refusal) →
       Answers request (replies.Refused refusal) (outcomes.Refused (refusal_name refusal))
-  -- GET
-  pub logins : (ups : List ℕ) (n : ℕ) → n < 10 ^ 9 →
-      Answers (requests.GetNumLogins ups) (replies.NumLogins ups n) (outcomes.Said (decimal n ∷ []))
-  pub description : (ups text : List ℕ) → Answers (requests.GetUpsDesc ups) (replies.UpsDesc ups text) (outcomes.Said (text ∷ []))
-  pub value : (ups variable text : List ℕ) →
-      Answers (requests.GetVar ups variable) (replies.Var ups variable text) (outcomes.Said (text ∷ []))
-  pub kind : (ups variable : List ℕ) (writable : Bool) (is : VariableKind) →
-      Answers (requests.GetType ups variable) (replies.Type ups variable writable is) (outcomes.Said (type_words writable is))
-  pub variable : (ups name text : List ℕ) → Answers (requests.GetDesc ups name) (replies.Desc ups name text) (outcomes.Said (text ∷ []))
-  pub command : (ups name text : List ℕ) →
-      Answers (requests.GetCmdDesc ups name) (replies.CmdDesc ups name text) (outcomes.Said (text ∷ []))
-  pub tracking : (on : Bool) → Answers requests.GetTracking (replies.TrackingIs on) (outcomes.Said (switch_word on ∷ []))
-  pub tracked : (number : ℕ) (status : TrackingStatus) →
-      Answers (requests.GetTrackingOf number) (replies.Tracking number status) (outcomes.Said (status_word status ∷ []))
+  pub of_get : (ups name text : List ℕ) (count number : ℕ) (flag : Bool) (kind : VariableKind) (status : TrackingStatus) → count < 10 ^ 9 →
+      All (λ case. Answers case.0 case.1 (outcomes.Said case.2)) (gets ups name text count number flag kind status)
   -- what changes something
   pub set : (ups variable text : List ℕ) → Answers (requests.SetVar ups variable text) replies.Accepted outcomes.Done
   pub set_as : (ups variable text : List ℕ) (number : ℕ) → IsTrackingNumber number →
