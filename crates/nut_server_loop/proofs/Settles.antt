@@ -28,6 +28,13 @@ some_in (byte ∷ bytes) none = omega arith
 pub waits_some : (shown waits : List ℕ) → shown ≡ waits → (length shown == 0) ≡ false → 0 < length waits
 waits_some shown waits same none = subst (λ bytes. 0 < length bytes) same (some_in shown none)
 
+pub front_some : (shown waits : List ℕ) → IsFrontPart shown waits → (length shown == 0) ≡ false → 0 < length waits
+front_some shown waits front none = omega (arith, some_in shown none, length_of_front shown waits front)
+
+pub none_shown : (shown waits : List ℕ) → IsFrontPart shown waits → (length shown == 0) ≡ true → length waits ≡ 0
+none_shown [] waits front none = ap length (front.some refl)
+none_shown (b ∷ shown) waits front none = absurd (cc)
+
 -- the content after bytes were taken
 took_moved : {U : Type 0} (first : Configuration) (o : Option (List Entry)) (s s' : Content) (c : ℕ) (part : List ℕ) (w : Written) (n : ℕ) (r : Result U Refused)
     → Served first o s [] → w ≡ Took n → IsWithin w (length part) → IsFrontPart part (waiting_of c s.sessions) → Answered s (event.Took c n) r → Leads s (event.Took c n) r s'
