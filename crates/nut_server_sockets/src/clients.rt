@@ -102,12 +102,7 @@ impl Clients {
 
     /// Reads from a socket, if the server may read its connection. If not, that is put off until a write to it succeeds.
     /// Returns the number of the connection and what was heard, or `None` if it wasn't read.
-    pub fn hear(
-        &mut self,
-        key: usize,
-        server: &Server,
-        piece: &mut Piece,
-    ) -> Option<(u64, Heard)>
+    pub fn hear(&mut self, key: usize, server: &Server, piece: &mut Piece) -> Option<(u64, Heard)>
         ensures { IfSome result (λ heard. may_read (session_of heard.0 server.now.sessions) ≡ true) }
     {
         let client = self.sockets.get_mut(key)?;
