@@ -1,20 +1,20 @@
 -- What the lines of plain queries mean.
-use Rattle.std.proofs.Common.{◌≡◌, ℕ, ◌+◌, ◌-◌, ◌≤◌, true, false, List, [], ◌∷◌, ◌++◌, Ok, length, take, drop, codes, Option, Some, None, Bor, refl, sym, ap, subst, ◌∙◌, append_assoc, length-append, arith}
+use Rattle.std.proofs.Common.{◌≡◌, ◌⊎◌, inl, inr, ℕ, ◌+◌, ◌-◌, ◌≤◌, true, false, List, [], ◌∷◌, ◌++◌, length, take, drop, codes, Option, Some, None, Bor, refl, sym, ap, subst, ◌∙◌, append_assoc, length-append, arith}
 use Rattle.std.specs.Prelude.{IfSome, MatchOption}
 use Rattle.std.specs.Str.{bytes_eq}
-use Rattle.std.proofs.Math.Seq.{take-append_seam}
+use Rattle.std.proofs.Math.Seq.{drop-append-add, take-append_seam}
 use Rattle.std.proofs.lemmas.List.{append-nil, take-append-drop}
 use Rattle.std.proofs.lemmas.Slice.Eq.{bytes_eq-Decides}
 use Rattle.nut_words.specs.Cutter.{IsFirstLine}
 use Rattle.nut_words.specs.Quoting.{IsPrintable, stands_bare, word_text}
-use Rattle.nut_words.specs.Reader.{spelled}
 use Rattle.nut_words.specs.declared.limits.TheConstants.{LINE_MAX}
 use Rattle.nut_words.proofs.PlainLemmas.{bare_printable, bare_text, first_printable}
 use Rattle.nut_words.proofs.WrittenLine.{all-append}
 use Rattle.nut_proto.specs.declared.request.Request.{Request}
 use Rattle.nut_proto.specs.declared.request.Request.TheVariants as requests
 use Rattle.nut_proto.specs.declared.request.ListQuery.TheVariants as queries
-use Rattle.nut_proto.specs.Forms.{meaning}
+use Rattle.nut_proto.specs.PlainQueries.{IsTold}
+use Rattle.nut_proto.specs.inside.Plain.{AsksFor, IsGetVar}
 use Rattle.nut_proto.specs.Lines.{AreWritable, message, message_words}
 use Rattle.nut_proto.specs.Requests.{request_parts}
 use Rattle.nut_proto.specs.laws.ReadBack.{IsReadable}
@@ -43,11 +43,6 @@ get_var_front ups piece names rest begins first bare =
     ∙ ap (λ u. codes "VAR " ++ (u ++ 32 ∷ [])) (sym (bare_text ups bare))
 
 -- ---- what a line says
-
--- The first line of the piece says what the request says.
-abbrev pub IsTold : List ℕ → List ℕ → Request → Type 0
-IsTold piece after request =
-    (text : List ℕ) × (words : List (List ℕ)) × IsFirstLine text piece after × (spelled text ≡ Ok words) × (meaning words ≡ Ok request)
 
 -- A request is written as these bytes and then a bare word.
 written : (request : Request) (front word piece after : List ℕ) → message (request_parts request) ≡ front ++ (word_text word ++ [])
@@ -78,6 +73,32 @@ get_var_told ups variable piece names rest after begins first second bare_ups ba
     tt
     (begins ∙ ap (λ t. codes "GET VAR " ++ t) (first ∙ ap (λ t. ups ++ 32 ∷ t) second ∙ sym (append_assoc ups (32 ∷ []) (variable ++ 10 ∷ after))))
     bare fits
+
+-- The words of a GET VAR lie where the beginning of its variable's name tells.
+words_at : (ups variable line : List ℕ) (at : ℕ) → AsksFor ups variable line → at ≡ length ups + 9
+    → (take (at - 1 - 8) (drop 8 line) ≡ ups) × (take (length line - 1 - at) (drop at line) ≡ variable)
+words_at ups variable line at asks place =
+    let count : at - 1 - 8 ≡ length ups = omega (arith, place) in
+    let behind : drop at line ≡ variable ++ 10 ∷ [] =
+    ap (λ n. drop n line) (place ∙ omega arith) ∙ ap (drop (8 + (length ups + 1))) asks.0
+    ∙ drop-append-add (codes "GET VAR ") (ups ++ 32 ∷ (variable ++ 10 ∷ [])) (length ups + 1) ∙ drop-append-add ups (32 ∷ (variable ++ 10 ∷ [])) 1 in
+    let whole : length line ≡ 8 + (length ups + (1 + (length variable + 1))) = ap length asks.0 ∙ omega (arith, length-append ups (32 ∷ (variable ++ 10 ∷ [])), length-append variable (10 ∷ [])) in (
+      ap (λ n. take n (drop 8 line)) count ∙ ap (λ t. take (length ups) (drop 8 t)) asks.0 ∙ take-append_seam ups (32 ∷ (variable ++ 10 ∷ [])),
+      ap (λ t. take (length line - 1 - at) t) behind ∙ ap (λ n. take n (variable ++ 10 ∷ [])) (omega (arith, whole, place)) ∙ take-append_seam variable (10 ∷ []),
+    )
+
+pub kept_told : (piece kept : List ℕ) (at : ℕ) → (kept ≡ []) ⊎ IsGetVar kept at → piece ≡ kept → (length piece ≡ 0 → ⊥) → length kept ≤ LINE_MAX
+    → IsTold piece [] (requests.GetVar (take (at - 1 - 8) (drop 8 piece)) (take (length piece - 1 - at) (drop at piece)))
+    × (take (at - 4) (drop 4 piece) ≡ codes "VAR " ++ (word_text (take (at - 1 - 8) (drop 8 piece)) ++ 32 ∷ []))
+kept_told piece kept at (inl none) same some short = absurd (some (ap length (same ∙ none)))
+kept_told piece kept at (inr (ups, variable, asks, place)) same some short =
+    let is = subst (AsksFor ups variable) (sym same) asks in
+    let words = words_at ups variable piece at is place in
+    let names = ups ++ 32 ∷ (variable ++ 10 ∷ []) in
+    rw (words.0, words.1) (
+      get_var_told ups variable piece names (variable ++ 10 ∷ []) [] is.0 refl refl is.1 is.2 (subst (λ l. length l ≤ LINE_MAX) (sym same) short),
+      ap (λ n. take (n - 4) (drop 4 piece)) place ∙ get_var_front ups piece names (variable ++ 10 ∷ []) is.0 refl is.1,
+    )
 
 pub get_ups_desc_told : (ups piece names after : List ℕ) → piece ≡ codes "GET UPSDESC " ++ names → names ≡ ups ++ 10 ∷ after
     → stands_bare ups ≡ true → length piece ≤ LINE_MAX → IsTold piece after (requests.GetUpsDesc ups)

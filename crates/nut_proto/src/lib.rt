@@ -31,7 +31,7 @@ pub use examples::worked_examples;
 pub use laws::{messages_are_read, read_requests_are_readable, replies_are_bounded};
 pub use limits::{ROWS_MAX, TRACKING_NUMBER_MAX, message_limits};
 pub use number::decimal;
-pub use plain::{PlainQuery, read_plain};
+pub use plain::{PlainQuery, PlainReader};
 pub use reading::read;
 pub use refusal::Refusal;
 pub use reply::{Reply, VariableKind};

@@ -29,6 +29,7 @@ use crate::numbering::{Numbers, first_numbers};
 use crate::unread::Unread;
 use arrayvec::ArrayVec;
 use nut_conf::{CONNECTIONS_MAX, UPSES_MAX};
+use nut_proto::PlainReader;
 use nut_queue::ASKS_MAX;
 use nut_server_spec::{OPENED_MAX, Refused, waits_are_bounded};
 use nut_words::LINE_MAX;
@@ -73,6 +74,8 @@ struct Parts {
     scratch: Vec<u8>,
     /// The request to a driver that a client's request leads to, while it is being handled.
     line: ArrayVec<u8, ASKS_MAX>,
+    /// What reads plain queries.
+    reader: PlainReader,
     /// The place in ups.conf of the UPS that was found last: the next query probably asks for the same one.
     likely: usize,
     /// The place of the variable that was found last: the next query probably asks for the same one, or for the next.
@@ -95,6 +98,7 @@ impl Drop for Parts {
             connections: _connections,
             scratch: _scratch,
             line: _line,
+            reader: _reader,
             likely: _,
             likely_variable: _,
             deeds: _deeds,
@@ -178,6 +182,7 @@ impl Parts {
                 connections,
                 scratch,
                 line: ArrayVec::new(),
+                reader: PlainReader::new(),
                 likely: 0,
                 likely_variable: 0,
                 deeds: Deeds::none(),

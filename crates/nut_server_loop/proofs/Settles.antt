@@ -2,6 +2,7 @@
 use Rattle.std.proofs.Common.{◌≡◌, ℕ, ◌<◌, ◌≤◌, true, false, List, [], ◌∷◌, length, drop, Option, Some, None, Result, refl, sym, ◌∙◌, ap, subst, arith, length-drop}
 use Rattle.std.specs.Prelude.{◌==◌, option_map}
 use Rattle.std.proofs.lemmas.Bool.{ne_eqb}
+use Rattle.std.proofs.lemmas.Bool.Decides.{nat_tests}
 use Rattle.nut_queue.specs.Front.{IsFrontPart}
 use Rattle.nut_server_spec.specs.declared.Refused.{Refused}
 use Rattle.nut_server_spec.specs.Configuration.{Configuration}
@@ -27,6 +28,13 @@ some_in (byte ∷ bytes) none = omega arith
 -- If what a connection shows isn't empty, bytes wait for it.
 pub waits_some : (shown waits : List ℕ) → shown ≡ waits → (length shown == 0) ≡ false → 0 < length waits
 waits_some shown waits same none = subst (λ bytes. 0 < length bytes) same (some_in shown none)
+
+pub front_some : (shown waits : List ℕ) → IsFrontPart shown waits → (length shown == 0) ≡ false → 0 < length waits
+front_some shown waits front none = omega (arith, some_in shown none, length_of_front shown waits front)
+
+pub none_shown : (shown waits : List ℕ) → IsFrontPart shown waits → (length shown == 0) ≡ true → length waits ≡ 0
+none_shown [] waits front none = ap length (front.some refl)
+none_shown (b ∷ shown) waits front none = let zero : length (b ∷ shown) ≡ 0 = grind (arith, nat_tests, none) in absurd (omega (arith, zero))
 
 -- the content after bytes were taken
 took_moved : {U : Type 0} (first : Configuration) (o : Option (List Entry)) (s s' : Content) (c : ℕ) (part : List ℕ) (w : Written) (n : ℕ) (r : Result U Refused)

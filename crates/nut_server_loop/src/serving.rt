@@ -376,15 +376,11 @@ fn flush_driver<W: World>(server: &mut Server, world: &mut W, u: usize) -> Resul
     ensures counted { W.fault_count world.new ≡ (if is_ok result then W.fault_count world.old else W.fault_count world.old + 1) }
     ensures reached { W.reached world.old world.new }
 {
-    while server.waits_for_driver(u) > 0 {
-        if !write_requests_once(server, world, u)? {
-            return Ok(());
-        }
-    }
+    while write_requests_once(server, world, u)? {}
     Ok(())
 }
 
-/// Writes once to a driver and tells the server the outcome. Returns whether another write may follow.
+/// Writes to a driver once, if anything waits for it, and tells the server the outcome. Returns whether another write may follow.
 fn write_requests_once<W: World>(
     server: &mut Server,
     world: &mut W,
@@ -392,7 +388,6 @@ fn write_requests_once<W: World>(
 ) -> Result<bool, Fault>
     ghost first: { Configuration }
     requires few { W.fault_count world.old < 2 ^ 64 - 1 }
-    requires some { 0 < length (asks_of u server.old.supplies) }
     requires served { Served first (W.log world.old) server.old [] }
     ensures err { OnErr result ((owed : List Ended) × Served first (W.log world.new) server.new owed) }
     ensures ok { OnOk result (Served first (W.log world.new) server.new []) }
@@ -404,10 +399,14 @@ fn write_requests_once<W: World>(
     ensures counted { W.fault_count world.new ≡ (if is_ok result then W.fault_count world.old else W.fault_count world.old + 1) }
     ensures reached { W.reached world.old world.new }
 {
-    match world.write_driver(u, server.waiting_for_driver(u))? {
+    let waiting = server.waiting_for_driver(u);
+    if waiting.is_empty() {
+        return Ok(false);
+    }
+    match world.write_driver(u, waiting)? {
         Written::Took(n) => {
             let _ = server.arrive(Arrival::DriverTook(u, n));
-            Ok(true)
+            Ok(server.waits_for_driver(u) > 0)
         }
         Written::Later => Ok(false),
         Written::Failed => {

@@ -1,7 +1,8 @@
 //! The sockets of clients.
 
-ghost use Rattle.std.specs.Prelude.{length};
+ghost use Rattle.std.specs.Prelude.{◌≡◌, true, length, IfSome};
 ghost use Rattle.nut_io.specs.Writes.{IsWithin};
+ghost use Rattle.nut_server_spec.specs.Acceptance.{may_read, session_of};
 
 use crate::client::{Client, PATIENCE};
 use crate::door::Guest;
@@ -89,36 +90,29 @@ impl Clients {
         Ok(())
     }
 
-    /// Returns the number of the connection whose socket has this key.
-    pub fn number(&self, key: usize) -> Option<u64> {
-        match self.sockets.get(key) {
-            Some(client) => Some(client.number()),
-            None => None,
-        }
-    }
-
     /// Returns the key of the socket of a connection. That of the socket that was read last is found without a search.
     fn key(&self, number: u64) -> Option<usize> {
-        if self.number(self.last_heard) == Some(number) {
+        if let Some(client) = self.sockets.get(self.last_heard)
+            && client.number() == number
+        {
             return Some(self.last_heard);
         }
         self.keys.get(&number).copied()
     }
 
-    /// Reads from a socket.
-    pub fn hear(&mut self, key: usize, piece: &mut Piece) -> Heard {
-        self.last_heard = key;
-        match self.sockets.get_mut(key) {
-            Some(client) => client.hear(piece, self.second),
-            None => Heard::Nothing,
-        }
-    }
-
-    /// Puts off reading from a socket until a write to it succeeds.
-    pub fn park(&mut self, key: usize) {
-        if let Some(client) = self.sockets.get_mut(key) {
+    /// Reads from a socket, if the server may read its connection. If not, that is put off until a write to it succeeds.
+    /// Returns the number of the connection and what was heard, or `None` if it wasn't read.
+    pub fn hear(&mut self, key: usize, server: &Server, piece: &mut Piece) -> Option<(u64, Heard)>
+        ensures { IfSome result (λ heard. may_read (session_of heard.0 server.now.sessions) ≡ true) }
+    {
+        let client = self.sockets.get_mut(key)?;
+        let number = client.number();
+        if !server.may_read(number) {
             client.park();
+            return None;
         }
+        self.last_heard = key;
+        Some((number, client.hear(piece, self.second)))
     }
 
     /// Notes an event of a socket.

@@ -504,16 +504,12 @@ impl Sockets {
         ensures turns { Comes self.old.rounds self.new.rounds }
     {
         let token = Source::Client(key).token();
-        let number = self.clients.number(key)?;
         if self.stall.is_on() {
             self.stall.hold(token);
             return None;
         }
-        if !server.may_read(number) {
-            self.clients.park(key);
-            return None;
-        }
-        match self.clients.hear(key, piece) {
+        let (number, heard) = self.clients.hear(key, server, piece)?;
+        match heard {
             Heard::Nothing => None,
             Heard::All => Some(Next::Bytes(number)),
             Heard::Part => {

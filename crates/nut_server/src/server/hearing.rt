@@ -23,7 +23,7 @@ use crate::plain::{kept_end, write_answer};
 use crate::scene::Scene;
 use crate::server::Parts;
 use crate::text::put_answer;
-use nut_proto::{PlainQuery, Refusal, Request, read, read_plain};
+use nut_proto::{PlainQuery, Refusal, Request, read};
 use nut_words::{HearLine, Line, WordFault, Words, first_line, hear_lines, split};
 use std::alloc::{AllocError, Global};
 
@@ -231,7 +231,7 @@ impl Parts {
             return Ok(None);
         }
         if !client.has_logged_out()
-            && let Some((query, after)) = read_plain(bytes)
+            && let Some((query, after)) = self.reader.read(bytes)
         {
             self.hear_query(at, query)?;
             return Ok(Some(after));

@@ -2,8 +2,8 @@ use Rattle.std.proofs.Common.{refl, ◌∙◌}
 use Rattle.nut_server_loop.proofs.Steps.{at_err}
 use Rattle.nut_server_loop.proofs.serving.flush_driver.Goals as goal
 
-pub loop-server-init : goal.loop-server-init
-loop-server-init g c = record {
+pub loop-init : goal.loop-init
+loop-init g c = record {
   same_count = refl;
   served = c.requires.1.1;
   only = (refl, λ v ne. refl);
@@ -16,50 +16,32 @@ pub returns-in_err-write_requests_once-clause-err : goal.returns-in_err-write_re
 returns-in_err-write_requests_once-clause-err g c = at_err _ g.first _ _ _ c.in_err-write_requests_once.ensures.err.1
 
 pub returns-in_err-write_requests_once-clause-reached : goal.returns-in_err-write_requests_once-clause-reached
-returns-in_err-write_requests_once-clause-reached g c = g.met.W.World.reached_on _ _ _ c.loop-server.invariant.reached c.in_err-write_requests_once.ensures.reached
+returns-in_err-write_requests_once-clause-reached g c = g.met.W.World.reached_on _ _ _ c.loop.invariant.reached c.in_err-write_requests_once.ensures.reached
 
-pub returns-then-not-branch-clause-ok : goal.returns-then-not-branch-clause-ok
-returns-then-not-branch-clause-ok g c = c.in_ok-write_requests_once.ensures.ok
-
-pub returns-then-not-branch-clause-only : goal.returns-then-not-branch-clause-only
-returns-then-not-branch-clause-only g c = (c.in_ok-write_requests_once.ensures.only.0 ∙ c.loop-server.invariant.only.0, λ v ne. c.in_ok-write_requests_once.ensures.only.1 v ne ∙ c.loop-server.invariant.only.1 v ne)
-
-pub returns-then-not-branch-clause-late : goal.returns-then-not-branch-clause-late
-returns-then-not-branch-clause-late g c = λ d. c.in_ok-write_requests_once.ensures.late d ∙ c.loop-server.invariant.late d
-
-pub returns-then-not-branch-clause-drivers : goal.returns-then-not-branch-clause-drivers
-returns-then-not-branch-clause-drivers g c = λ d is. c.in_ok-write_requests_once.ensures.drivers d (c.loop-server.invariant.drivers d is)
-
-pub returns-then-not-branch-clause-counted : goal.returns-then-not-branch-clause-counted
-returns-then-not-branch-clause-counted g c = c.in_ok-write_requests_once.ensures.counted ∙ c.loop-server.invariant.same_count
-
-pub returns-then-not-branch-clause-reached : goal.returns-then-not-branch-clause-reached
-returns-then-not-branch-clause-reached g c = g.met.W.World.reached_on _ _ _ c.loop-server.invariant.reached c.in_ok-write_requests_once.ensures.reached
-
-pub loop-server-preserved : goal.loop-server-preserved
-loop-server-preserved g c = record {
-  same_count = c.in_ok-write_requests_once.ensures.counted ∙ c.loop-server.invariant.same_count;
+pub loop-preserved : goal.loop-preserved
+loop-preserved g c = record {
+  same_count = c.in_ok-write_requests_once.ensures.counted ∙ c.loop.invariant.same_count;
   served = c.in_ok-write_requests_once.ensures.ok;
-  only = (c.in_ok-write_requests_once.ensures.only.0 ∙ c.loop-server.invariant.only.0, λ v ne. c.in_ok-write_requests_once.ensures.only.1 v ne ∙ c.loop-server.invariant.only.1 v ne);
-  late = λ d. c.in_ok-write_requests_once.ensures.late d ∙ c.loop-server.invariant.late d;
-  drivers = λ d is. c.in_ok-write_requests_once.ensures.drivers d (c.loop-server.invariant.drivers d is);
-  reached = g.met.W.World.reached_on _ _ _ c.loop-server.invariant.reached c.in_ok-write_requests_once.ensures.reached;
+  only = (c.in_ok-write_requests_once.ensures.only.0 ∙ c.loop.invariant.only.0, λ v ne. c.in_ok-write_requests_once.ensures.only.1 v ne ∙ c.loop.invariant.only.1 v ne);
+  late = λ d. c.in_ok-write_requests_once.ensures.late d ∙ c.loop.invariant.late d;
+  drivers = λ d is. c.in_ok-write_requests_once.ensures.drivers d (c.loop.invariant.drivers d is);
+  reached = g.met.W.World.reached_on _ _ _ c.loop.invariant.reached c.in_ok-write_requests_once.ensures.reached;
 }
 
 pub returns-clause-ok : goal.returns-clause-ok
-returns-clause-ok g c = c.loop-server.invariant.served
+returns-clause-ok g c = c.in_ok-write_requests_once.ensures.ok
 
 pub returns-clause-only : goal.returns-clause-only
-returns-clause-only g c = c.loop-server.invariant.only
+returns-clause-only g c = (c.in_ok-write_requests_once.ensures.only.0 ∙ c.loop.invariant.only.0, λ v ne. c.in_ok-write_requests_once.ensures.only.1 v ne ∙ c.loop.invariant.only.1 v ne)
 
 pub returns-clause-late : goal.returns-clause-late
-returns-clause-late g c = c.loop-server.invariant.late
+returns-clause-late g c = λ d. c.in_ok-write_requests_once.ensures.late d ∙ c.loop.invariant.late d
 
 pub returns-clause-drivers : goal.returns-clause-drivers
-returns-clause-drivers g c = c.loop-server.invariant.drivers
+returns-clause-drivers g c = λ d is. c.in_ok-write_requests_once.ensures.drivers d (c.loop.invariant.drivers d is)
 
 pub returns-clause-counted : goal.returns-clause-counted
-returns-clause-counted g c = c.loop-server.invariant.same_count
+returns-clause-counted g c = c.in_ok-write_requests_once.ensures.counted ∙ c.loop.invariant.same_count
 
 pub returns-clause-reached : goal.returns-clause-reached
-returns-clause-reached g c = c.loop-server.invariant.reached
+returns-clause-reached g c = g.met.W.World.reached_on _ _ _ c.loop.invariant.reached c.in_ok-write_requests_once.ensures.reached

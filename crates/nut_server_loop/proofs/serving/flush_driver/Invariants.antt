@@ -6,8 +6,8 @@ use Rattle.nut_server_loop.proofs.serving.flush_driver.Given as goal
 abbrev pub ghost-write_requests_once : goal.ghost-write_requests_once
 ghost-write_requests_once g a = g.first
 
-abbrev pub invariant-loop-server : goal.invariant-loop-server
-invariant-loop-server g l =
+abbrev pub invariant-loop : goal.invariant-loop
+invariant-loop g l =
     record {
       same_count : g.W.World.fault_count l.world ≡ g.W.World.fault_count l.fn.world;
       served : Served g.first (g.W.World.log l.world) l.server [];
@@ -17,5 +17,5 @@ invariant-loop-server g l =
       reached : g.W.World.reached l.fn.world l.world;
     }
 
-abbrev pub decreases-loop-server : goal.decreases-loop-server
-decreases-loop-server g l = length (asks_of l.u l.server.supplies)
+abbrev pub decreases-loop : goal.decreases-loop
+decreases-loop g l = length (asks_of l.u l.server.supplies)

@@ -1,17 +1,14 @@
-use Rattle.std.proofs.Common.{◌≡◌, ℕ, ◌++◌, Some, slice_get, [], List, ap, map, refl, subst, sym, ◌∙◌}
+use Rattle.std.proofs.Common.{◌≡◌, ℕ, ◌++◌, Some, slice_get, [], List, ap, map, refl, subst, ◌∙◌}
 use Rattle.std.proofs.lemmas.List.{append-nil}
 use Rattle.nut_proto.specs.PlainQueries.{request_of}
-use Rattle.nut_server_spec.specs.Answer.{Answer, answer, device_at, text_of}
+use Rattle.nut_server_spec.specs.Answer.{Answer, answer, text_of}
 use Rattle.nut_server_spec.specs.Command.{Asks}
-use Rattle.nut_server_spec.specs.Configuration.{number_of_ups}
 use Rattle.nut_server_spec.specs.Content.{Content, Session, Supply}
 use Rattle.nut_server_spec.specs.machine.Machine.{caller_of, scene_of}
 use Rattle.nut_server.specs.declared.effect.Effect.TheVariants as effects
 use Rattle.nut_server.specs.inside.Effects.{Does, answered_by}
 use Rattle.nut_server.specs.contracts.server.Parts.{the_view}
 use Rattle.nut_server.specs.inside.Place.{Stands}
-use Rattle.nut_server.proofs.PlainAnswers.{kept_answer, stands_at}
-use Rattle.nut_server.proofs.QuietQueries.{quiet_query}
 use Rattle.nut_server.proofs.Saying.{answered_all}
 use Rattle.nut_server.proofs.server.Parts.answer_query.Goals as goal
 

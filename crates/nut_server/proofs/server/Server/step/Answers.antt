@@ -1,4 +1,4 @@
-use Rattle.std.proofs.Common.{ap, subst, ◌∙◌}
+use Rattle.std.proofs.Common.{ap, subst}
 use Rattle.nut_server_spec.specs.Content.{Content}
 use Rattle.nut_server_spec.specs.laws.Limits.{IsWithin}
 use Rattle.nut_server.specs.declared.server.Server.TheInside.{Inside}

@@ -1,6 +1,6 @@
-use Rattle.std.proofs.Common.{◌≡◌, ◌≤◌, length, arith, ap, ◌∙◌}
+use Rattle.std.proofs.Common.{arith}
 use Rattle.nut_proto.proofs.PlainMeans.{get_var_front, get_var_told, get_ups_desc_told, list_var_told}
-use Rattle.nut_proto.proofs.plain.read_plain.Goals as goal
+use Rattle.nut_proto.proofs.plain.read_line.Goals as goal
 
 pub returns-in-Some-clause-told : goal.returns-in-Some-clause-told
 returns-in-Some-clause-told c =
