@@ -58,6 +58,7 @@ STATUS = b"GET VAR su700 ups.status"
 ONLINE = b'VAR su700 ups.status "OL"'
 FORCED = b'VAR su700 ups.status "FSD OL"'
 NUMLOGINS = b"GET NUMLOGINS su700"
+GET_A, GET_B = b"GET VAR su700 a", b"GET VAR su700 b"
 CLIENTS = b"LIST CLIENT su700"
 ROOMS = listed(b"UPS", b'UPS su700 "Server room"')
 ADMIN = ask(1, b"USERNAME admin", b"OK", b"PASSWORD pw", b"OK")
@@ -224,6 +225,19 @@ ROWS = [
         + [("bytes", 1, b"VER\nLIST UPS\nVER\n"), (("take", 1), b"\n".join([VERSION, ROOMS, VERSION, b""]))]
         + ask(1, b"VER", VERSION),
         [b"Memory(Line(1, 1))"],
+    ),
+    Row(
+        "a question that comes again",
+        live(b'SETINFO a "1"', b'SETINFO b "2"')
+        + OPEN
+        + GUEST
+        + ask(1, GET_A, b'VAR su700 a "1"', GET_A, b'VAR su700 a "1"', GET_B, b'VAR su700 b "2"')
+        + ask(2, GET_B, b'VAR su700 b "2"', GET_A, b'VAR su700 a "1"')
+        + told(b'SETINFO a "3"')
+        + ask(1, GET_A, b'VAR su700 a "3"')
+        + [("bytes", 2, GET_A + b"\n" + GET_B + b"\n"), (("take", 2), b'VAR su700 a "3"\nVAR su700 b "2"\n')]
+        + told(b"DELINFO b")
+        + ask(2, GET_B, err("VAR-NOT-SUPPORTED"), GET_B, err("VAR-NOT-SUPPORTED"), GET_A, b'VAR su700 a "3"'),
     ),
     Row(
         "a command behind a variable",
