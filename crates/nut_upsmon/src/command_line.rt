@@ -99,39 +99,29 @@ fn task_of(matches: &ArgMatches<'_>) -> Task {
 
 /// Returns the command line of upsmon: to watch, to check its file, to force a shutdown, and to look for POWERDOWNFLAG.
 fn upsmon_command<'a>(alloc: Global) -> Result<Command<'a>, AllocError> {
-    let force = force(alloc)?;
-    let machines = machines(alloc)?;
-    let delay = delay(alloc)?;
-    let kill_power = kill_power(alloc)?;
-    let command = Command::new(alloc, "upsmon")
+    let mut args = Vec::new(alloc);
+    add_args(alloc, &mut args)?;
+    Command::new(alloc, "upsmon")
         .version(VERSION)
         .about("A monitor of UPSes that halts its machine when too few of them are left")
-        .arg(conf_of_upsmon(alloc));
-    let command = with(
-        command,
-        quiet_option(alloc, "Tell nothing of UPSes and servers that come and go"),
-    );
-    let command = with(
-        command,
-        check_option(
-            alloc,
-            "Watch nothing: say the first fault of upsmon.conf, or how soon this machine stops",
-        ),
-    );
-    let command = with(command, machines);
-    let command = with(command, delay);
-    let command = with(command, force);
-    let command = with(command, kill_power);
-    let command = with(command, foreground_option(alloc));
-    with(command, debug_option(alloc))
+        .args(args)
 }
 
-/// Adds an argument to a command line, unless memory for that is already refused.
-fn with<'a>(
-    command: Result<Command<'a>, AllocError>,
-    arg: Arg<'a>,
-) -> Result<Command<'a>, AllocError> {
-    command?.arg(arg)
+/// Adds the arguments, in the order in which the help names them.
+fn add_args<'a>(alloc: Global, args: &mut Vec<Arg<'a>>) -> Result<(), AllocError> {
+    args.push(conf_of_upsmon(alloc))?;
+    args.push(quiet_option(alloc, "Tell nothing of UPSes and servers that come and go"))?;
+    args.push(check_option(
+        alloc,
+        "Watch nothing: say the first fault of upsmon.conf, or how soon this machine stops",
+    ))?;
+    args.push(machines(alloc)?)?;
+    args.push(delay(alloc)?)?;
+    args.push(force(alloc)?)?;
+    args.push(kill_power(alloc)?)?;
+    args.push(foreground_option(alloc))?;
+    args.push(debug_option(alloc))?;
+    Ok(())
 }
 
 fn conf_of_upsmon<'a>(alloc: Global) -> Arg<'a> {

@@ -29,18 +29,18 @@ pub fn last_flag_in(
 ) -> io::Result<Option<PowerDownFlag>> {
     let path = Path::new(folder).join(alloc, UpsmonConf::file_name())?;
     let bytes = read_file(files, alloc, path, FILE_MAX as u64)?;
-    Ok(last_flag(alloc, bytes.as_slice())?)
+    last_flag(alloc, bytes.as_slice())
 }
 
 /// Returns the flag that a file names last, in a line that has no fault.
-fn last_flag(alloc: Global, bytes: &[u8]) -> Result<Option<PowerDownFlag>, AllocError> {
-    let mut last = None;
-    for line in bytes.split(|byte| *byte == b'\n') {
-        if let Some(flag) = flag_of_line(alloc, line)? {
-            last = Some(flag);
+fn last_flag(alloc: Global, bytes: &[u8]) -> io::Result<Option<PowerDownFlag>> {
+    for line in bytes.rsplit(|byte| *byte == b'\n') {
+        let flag = flag_of_line(alloc, line)?;
+        if flag.is_some() {
+            return Ok(flag);
         }
     }
-    Ok(last)
+    Ok(None)
 }
 
 /// Returns the flag that a line names. `None` if it names none, or has a fault.

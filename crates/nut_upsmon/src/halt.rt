@@ -152,7 +152,12 @@ impl<'r, 'h, R: Files + Processes + Clock> Halt<'r, 'h, R> {
 
     /// Gives the halt up. Returns the shell that was to run SHUTDOWNCMD, if there is one: it ends and runs nothing.
     pub fn give_up(mut self) -> Option<Child<R::Started>> {
-        self.command.as_mut()?.give_up()
+        let shell = match &mut self.command {
+            Some(command) => command.give_up(),
+            None => None,
+        };
+        drop(self);
+        shell
     }
 
     /// Removes POWERDOWNFLAG if an earlier shutdown left it set: otherwise the scripts of the next ordinary shutdown
@@ -375,7 +380,7 @@ fn keep_going<R: Files + Processes + Clock>(
     command: &mut ShutdownCommand<'_, '_, R>,
 ) -> bool {
     for _ in 0..LOOKS {
-        if !matches!(command.try_wait(), Ok(None)) {
+        if !command.is_running() {
             return true;
         }
         if command.is_stopped(rt) {

@@ -37,7 +37,7 @@ pub struct Machine<'r, R: Files + Processes> {
     halt: Halt<'r, 'r, R>,
     /// The halt of the configuration that was readied last, until it takes the place of the other.
     ready: Option<Halt<'r, 'r, R>>,
-    reloader: Reloader,
+    reloader: &'r mut Reloader,
     /// Whether it was told that a shutdown has begun.
     is_ending: bool,
     /// What is held in the place of the standard streams that are closed, so that no socket takes it.
@@ -51,7 +51,7 @@ pub struct MachineStarter<'r, R> {
     pub alloc: Global,
     /// Where its halts take their memory from, unless none is available for that.
     pub heap: &'r Option<LocalHeap>,
-    pub reloader: Reloader,
+    pub reloader: &'r mut Reloader,
     pub streams: Streams,
 }
 
@@ -98,21 +98,18 @@ where
         rt: &'r R,
         alloc: Global,
         heap: &'r LocalHeap,
-        reloader: Reloader,
+        reloader: &'r mut Reloader,
         streams: Streams,
     ) -> io::Result<Machine<'r, R>> {
-        let held = hold_closed_streams(rt, alloc)?;
-        let err = LossyLines::new(rt, alloc, streams.err)?;
-        let out = LossyLines::new(rt, alloc, streams.out)?;
         Ok(Machine {
+            held: hold_closed_streams(rt, alloc)?,
             rt,
-            err,
-            notifier: Notifier::new(rt, alloc, out)?,
+            err: LossyLines::new(rt, alloc, streams.err)?,
+            notifier: Notifier::new(rt, alloc, streams.out)?,
             halt: Halt::none(rt, alloc, heap),
             ready: None,
             reloader,
             is_ending: false,
-            held,
         })
     }
 }
@@ -163,16 +160,12 @@ where
     /// Readies the halt of another configuration. A halt that fails to get ready is given up.
     fn ready_next(&mut self, former: &UpsmonConf, config: &UpsmonConf) -> Result<(), ReloadFault> {
         let mut halt = self.halt.with(config)?;
-        match self.start_halt(&mut halt, former, config) {
-            Ok(()) => {
-                drop(self.ready.replace(halt));
-                Ok(())
-            }
-            Err(fault) => {
-                self.give_up(halt);
-                Err(fault)
-            }
+        let started = self.start_halt(&mut halt, former, config);
+        match &started {
+            Ok(()) => drop(self.ready.replace(halt)),
+            Err(_) => self.notifier.adopt(halt.give_up()),
         }
+        started
     }
 
     /// Starts the shell of another configuration's halt, and tells by that configuration from now on.
@@ -186,13 +179,6 @@ where
         self.notifier.restart(config)?;
         ready_flag(halt, former, config, &mut self.err);
         Ok(())
-    }
-
-    /// Gives a halt up. The notifier waits for the end of its shell.
-    fn give_up(&mut self, halt: Halt<'r, 'r, R>) {
-        if let Some(shell) = halt.give_up() {
-            self.notifier.adopt(shell);
-        }
     }
 
     /// Tells once that a shutdown has begun, and for which UPSes.
@@ -213,8 +199,8 @@ where
     /// Makes the next POWERDOWNFLAG ready, starts the shell that waits to run SHUTDOWNCMD, and tells what is watched. A
     /// shell that can't be started is told.
     fn ready(&mut self, config: &UpsmonConf) -> Result<(), AllocError> {
-        let mut halt = self.halt.with(config)?;
         self.notifier.restart(config)?;
+        let mut halt = self.halt.with(config)?;
         halt.ready_flag(config, &mut self.err);
         halt.begin(&mut self.err);
         tell_start(config, self.reloader.is_quiet(), &mut self.err);
@@ -251,7 +237,7 @@ where
     fn change(&mut self) {
         if let Some(ready) = self.ready.take() {
             let former = mem::replace(&mut self.halt, ready);
-            self.give_up(former);
+            self.notifier.adopt(former.give_up());
         }
     }
 

@@ -3,7 +3,7 @@
 use crate::command_line::{Order, Task, order_of};
 use crate::faulty_file::last_flag_in;
 use crate::forcing::force_shutdowns;
-use crate::halt::{check_flag, halt_heap};
+use crate::halt::{HaltFault, check_flag, halt_heap};
 use crate::low_runtime::check_low_runtimes;
 use crate::machine::MachineStarter;
 use crate::power_down_flag::{FlagState, PowerDownFlag};
@@ -20,6 +20,7 @@ use nut_program::{Failure, FileFault, Streams, read_conf, refuse_start};
 use std::alloc::{Alloc, Global};
 use std::convert::AsStr;
 use std::env::Env;
+use std::io;
 use std::io::Stdout;
 use std::net::Net;
 use std::process::Processes;
@@ -88,12 +89,34 @@ where
     R: Wait + Files + Net + Clock + Processes + Env + Alloc,
 {
     let order = order_of(rt, alloc, words)?;
-    let task = order.task;
+    carry_out(rt, alloc, &order, streams, err)
+}
+
+/// Does what this order asks for. Returns the exit status.
+fn carry_out<R>(
+    rt: &R,
+    alloc: Global,
+    order: &Order<'_>,
+    streams: Streams,
+    err: &mut ErrorLines,
+) -> Result<u8, Failure<UpsmonFault>>
+where
+    R: Wait + Files + Net + Clock + Processes,
+{
     let folder = order.folder.as_str();
-    match task {
+    match order.task {
         Task::LookForFlag => look_for_flag(rt, alloc, folder, streams.out, err),
         Task::Check => check_file(rt, alloc, folder, streams.out, err),
-        Task::CheckRoom => check_machines(rt, alloc, &order, streams.out, err),
+        Task::CheckRoom => {
+            check_room(
+                rt,
+                alloc,
+                order.machines.as_slice(),
+                order.delays.as_slice(),
+                streams.out,
+                err,
+            )
+        }
         Task::Force => force(rt, alloc, folder, streams, err),
         Task::Watch { is_quiet } => guard(rt, alloc, folder, is_quiet, streams, err),
     }
@@ -118,7 +141,7 @@ fn look_for_flag<R: Files>(
             last_flag_in(files, alloc, folder)?
         }
     };
-    Ok(u8::from(!is_set(files, flag)))
+    Ok(u8::from(!is_set(files, &flag)))
 }
 
 /// Reads upsmon.conf in this folder.
@@ -139,8 +162,11 @@ fn is_of_lines(failure: &Failure<UpsmonFault>) -> bool {
 }
 
 /// Whether there is a flag and it is set.
-fn is_set(files: &impl Files, flag: Option<PowerDownFlag>) -> bool {
-    flag.is_some_and(|flag| matches!(flag.state(files), Ok(FlagState::Set)))
+fn is_set(files: &impl Files, flag: &Option<PowerDownFlag>) -> bool {
+    match flag {
+        Some(flag) => matches!(flag.state(files), Ok(FlagState::Set)),
+        None => false,
+    }
 }
 
 /// Reads upsmon.conf in this folder, writes what it should set otherwise and how soon its machine stops, tells what is
@@ -159,25 +185,6 @@ where
     Stopping::of(&config).tell(&mut out)?;
     check_flag(rt, alloc, &config, err)?;
     check_low_runtimes(rt, alloc, &config, err)?;
-    Ok(0)
-}
-
-/// Says what the room of these machines needs. Returns the exit status, which is 0.
-fn check_machines(
-    files: &impl Files,
-    alloc: Global,
-    order: &Order<'_>,
-    out: LogStream<Stdout>,
-    err: &mut ErrorLines,
-) -> Result<u8, Failure<UpsmonFault>> {
-    check_room(
-        files,
-        alloc,
-        order.machines.as_slice(),
-        order.delays.as_slice(),
-        out,
-        err,
-    )?;
     Ok(0)
 }
 
@@ -211,16 +218,21 @@ fn guard<R>(
 where
     R: Wait + Files + Net + Clock + Processes,
 {
-    let reloader = Reloader::new(rt, alloc, folder, is_quiet)?;
+    let mut reloader = Reloader::new(rt, alloc, folder, is_quiet)?;
     let first = reloader.read_first(rt, err)?;
     let heap = halt_heap(alloc).ok();
     let starter = MachineStarter {
         rt,
         alloc,
         heap: &heap,
-        reloader,
+        reloader: &mut reloader,
         streams,
     };
-    watch_over_sockets(rt, alloc, starter, first, is_quiet, err)??;
+    status_of(watch_over_sockets(rt, alloc, starter, first, is_quiet, err))
+}
+
+/// Returns the exit status after a watch: 0 if the machine was halted.
+fn status_of(ended: io::Result<Result<(), HaltFault>>) -> Result<u8, Failure<UpsmonFault>> {
+    ended??;
     Ok(0)
 }

@@ -4,11 +4,13 @@ use crate::low_runtime::LowRuntimes;
 use crate::notify_command::{Call, NotifyCommand, script_in};
 use crate::shutdown_report::tell_left;
 use nut_conf::{MESSAGE_MAX, TARGET_MAX, UpsmonConf};
-use nut_log::{Level, Lines};
+use nut_log::{Level, Lines, LogStream};
 use nut_monitor::{Monitor, Notice};
-use nut_poll::{ErrorLines, OutputLines};
+use nut_poll::{ErrorLines, LossyLines, OutputLines};
 use std::alloc::{AllocError, Global};
-use std::io::Write;
+use std::io;
+use std::io::{Stdout, Write};
+use std::net::Net;
 use std::process::{Child, Processes};
 
 /// The greatest length of a text in bytes: that of a message, with a target in the place of its `%s`.
@@ -32,18 +34,17 @@ impl<'a, R: Processes> Notifier<'a, R> {
     ///
     /// # Errors
     ///
-    /// [`AllocError`] if memory cannot be allocated.
-    pub fn new(
-        processes: &'a R,
-        alloc: Global,
-        out: OutputLines,
-    ) -> Result<Notifier<'a, R>, AllocError> {
+    /// If memory or descriptors aren't available.
+    pub fn new(rt: &'a R, alloc: Global, out: LogStream<Stdout>) -> io::Result<Notifier<'a, R>>
+    where
+        R: Net,
+    {
         Ok(Notifier {
             alloc,
-            out,
+            out: LossyLines::new(rt, alloc, out)?,
             text: Vec::with_capacity(alloc, TEXT_MAX)?,
-            command: NotifyCommand::new(processes, alloc)?,
-            runtimes: LowRuntimes::watched(processes, alloc),
+            command: NotifyCommand::new(rt, alloc)?,
+            runtimes: LowRuntimes::watched(rt, alloc),
         })
     }
 
@@ -59,9 +60,11 @@ impl<'a, R: Processes> Notifier<'a, R> {
         Ok(())
     }
 
-    /// Takes a process that ends by itself, and waits for its end as for that of a run of the command.
-    pub fn adopt(&mut self, child: Child<R::Started>) {
-        self.command.adopt(child);
+    /// Takes a process that ends by itself, if there is one, and waits for its end as for that of a run of the command.
+    pub fn adopt(&mut self, child: Option<Child<R::Started>>) {
+        if let Some(child) = child {
+            self.command.adopt(child);
+        }
     }
 
     /// Returns what it prints on.

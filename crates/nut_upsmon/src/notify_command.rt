@@ -4,7 +4,7 @@ use crate::process_state::is_running;
 use nut_conf::UpsmonConf;
 use nut_poll::{shell_command, text_of, unstopped};
 use std::alloc::{AllocError, Global};
-use std::process::{Child, Processes};
+use std::process::{Child, Command, Processes};
 use std::{fmt, io};
 
 /// The largest number of commands that run at a time.
@@ -74,7 +74,7 @@ impl<'r, R: Processes> NotifyCommand<'r, R> {
 
     /// Takes a process that ends by itself, and waits for its end as for that of a run.
     pub fn adopt(&mut self, child: Child<R::Started>) {
-        drop(self.running.push(child));
+        let _ = self.running.push(child);
     }
 
     /// Starts the command, if there is one, and doesn't wait for it.
@@ -100,7 +100,7 @@ impl<'r, R: Processes> NotifyCommand<'r, R> {
 
     /// Forgets the runs that have ended.
     pub fn reap(&mut self) {
-        self.running.retain_mut(|child| is_running(child));
+        self.running.retain_mut(is_running);
     }
 }
 
@@ -123,7 +123,7 @@ fn script_of(alloc: Global, command: &[u8]) -> Result<String, AllocError> {
     format!(in alloc; "{BEGINNING}{command} \"$1\"")
 }
 
-/// Starts a shell that runs the script with this call: the type of the notice and its UPS are in its environment.
+/// Starts a shell that runs the script with this call.
 fn start<R: Processes>(
     processes: &R,
     alloc: Global,
@@ -131,6 +131,15 @@ fn start<R: Processes>(
     call: Call<'_>,
 ) -> io::Result<Child<R::Started>> {
     let mut shell = shell_command(alloc, script, text_of(call.text))?;
+    spawn(processes, &mut shell, call)
+}
+
+/// Starts this shell with the type of a notice and its UPS in its environment.
+fn spawn<R: Processes>(
+    processes: &R,
+    shell: &mut Command<Global>,
+    call: Call<'_>,
+) -> io::Result<Child<R::Started>> {
     shell.env("NOTIFYTYPE", text_of(call.kind))?;
     shell.env("UPSNAME", text_of(call.ups))?;
     shell.spawn(processes)

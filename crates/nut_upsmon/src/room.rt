@@ -35,7 +35,8 @@ struct Machine<'a> {
 
 /// Reads upsmon.conf in each of these folders, one for each machine of a room, and says what the room needs: how soon each
 /// machine stops, whether the HOSTSYNC of each primary is enough for the others, and how long the battery has to last.
-/// The longest time for an answer is [`DELAY`] on a machine that no word of `delays` names, as `FOLDER=SECONDS`.
+/// Returns the exit status, which is 0. The longest time for an answer is [`DELAY`] on a machine that no word of `delays`
+/// names, as `FOLDER=SECONDS`.
 ///
 /// # Errors
 ///
@@ -48,7 +49,7 @@ pub fn check_room(
     delays: &[&str],
     out: LogStream<Stdout>,
     err: &mut ErrorLines,
-) -> Result<(), Failure<UpsmonFault>> {
+) -> Result<u8, Failure<UpsmonFault>> {
     let mut machines = Vec::new(alloc);
     for folder in folders {
         let config = read_machine(files, alloc, folder, err)?;
@@ -62,7 +63,7 @@ pub fn check_room(
         set_delay(alloc, machines.as_mut_slice(), word)?;
     }
     tell_room(machines.as_slice(), &mut Findings { out, err })?;
-    Ok(())
+    Ok(0)
 }
 
 /// Reads the upsmon.conf of a machine. A line that names its folder comes before the fault of the file.
@@ -224,7 +225,7 @@ fn tell_room(machines: &[Machine<'_>], told: &mut Findings<'_>) -> io::Result<()
     for machine in machines {
         tell_machine(machine, machines, told)?;
     }
-    if machines.iter().any(|it| it.is_too_slow()) {
+    if machines.iter().any(Machine::is_too_slow) {
         return Ok(());
     }
     for primary in machines {

@@ -7,10 +7,10 @@ use crate::process_state::{is_running, is_stopped, process_number};
 use linked_list_allocator::LocalHeap;
 use nut_poll::{ErrorLines, Outlet, OutputLines, shell_command, unstopped};
 use std::alloc::AllocError;
+use std::io;
 use std::io::{ErrorKind, Write};
 use std::process::{Child, Command, ExitStatus, OpenProcess, Processes, Stdio};
 use std::rt::Files;
-use std::{io, mem};
 
 /// The script of the shell: it waits for a line, and then becomes SHUTDOWNCMD, which is its first argument. A stream that
 /// the line names is /dev/null from then on. If the shell's input ends without a line, as when upsmon ends, it ends and
@@ -108,21 +108,17 @@ impl<'r, 'h, R: Processes> ShutdownCommand<'r, 'h, R> {
     ///
     /// That of the system if it cannot be started.
     pub fn start_shell(&mut self) -> io::Result<()> {
-        let shell = self.command.spawn(self.processes)?;
-        drop(self.shell.replace(shell));
+        self.shell = Some(self.command.spawn(self.processes)?);
         Ok(())
     }
 
     /// Returns how the shell that waits fares. One that was ended is forgotten, as is one that was to continue it.
     pub fn look(&mut self, files: &impl Files) -> ShellState {
-        if !self.waker.as_mut().is_some_and(is_running) {
-            drop(self.waker.take());
-        }
-        if !self.shell.as_mut().is_some_and(is_running) {
-            drop(self.shell.take());
-            return ShellState::Gone;
-        }
-        if self.is_stopped(files) {
+        forget_ended(&mut self.waker);
+        forget_ended(&mut self.shell);
+        if self.shell.is_none() {
+            ShellState::Gone
+        } else if self.is_stopped(files) {
             ShellState::Stopped
         } else {
             ShellState::Waits
@@ -140,14 +136,12 @@ impl<'r, 'h, R: Processes> ShutdownCommand<'r, 'h, R> {
     /// Sends SIGCONT to the shell that waits or runs the command, by another shell, which isn't waited for. One that was
     /// started for this before and goes on is enough.
     pub fn wake(&mut self) {
-        if self.waker.as_mut().is_some_and(is_running) {
-            return;
+        forget_ended(&mut self.waker);
+        if self.waker.is_none()
+            && let Some(shell) = &self.shell
+        {
+            self.waker = start_waker(self.processes, self.heap, shell.id()).ok();
         }
-        let Some(shell) = &self.shell else {
-            return;
-        };
-        let waker = start_waker(self.processes, self.heap, shell.id());
-        drop(mem::replace(&mut self.waker, waker));
     }
 
     /// Gives the command up. Returns the shell that waits, if there is one: it ends and runs nothing, since its input
@@ -174,7 +168,7 @@ impl<'r, 'h, R: Processes> ShutdownCommand<'r, 'h, R> {
     fn start_waiting(&mut self, full: Full) -> io::Result<()> {
         let started = self.release_shell(full);
         if started.is_err() {
-            drop(self.shell.take());
+            self.shell = None;
         }
         started
     }
@@ -200,16 +194,9 @@ impl<'r, 'h, R: Processes> ShutdownCommand<'r, 'h, R> {
         self.start_waiting(full)
     }
 
-    /// Returns how the shell that runs the command ended, if it has.
-    ///
-    /// # Errors
-    ///
-    /// That of the system, or `NotFound` if none was started.
-    pub fn try_wait(&mut self) -> io::Result<Option<ExitStatus>> {
-        match &mut self.shell {
-            Some(shell) => shell.try_wait(),
-            None => Err(no_shell()),
-        }
+    /// Whether the shell that runs the command hasn't ended.
+    pub fn is_running(&mut self) -> bool {
+        self.shell.as_mut().is_some_and(is_running)
     }
 
     /// Waits for the end of the shell that runs the command.
@@ -225,15 +212,21 @@ impl<'r, 'h, R: Processes> ShutdownCommand<'r, 'h, R> {
     }
 }
 
-/// Starts a shell that continues the process with this number. Returns `None` if it can't be started.
+/// Forgets a process that has ended.
+fn forget_ended<P: OpenProcess + Drop>(process: &mut Option<Child<P>>) {
+    if !process.as_mut().is_some_and(is_running) {
+        *process = None;
+    }
+}
+
+/// Starts a shell that continues the process with this number.
 fn start_waker<R: Processes>(
     processes: &R,
     heap: &LocalHeap,
     process: u32,
-) -> Option<Child<R::Started>> {
+) -> io::Result<Child<R::Started>> {
     let number = process_number(process);
-    let mut shell = shell_command(heap, CONTINUE, number.as_str()).ok()?;
-    shell.spawn(processes).ok()
+    shell_command(heap, CONTINUE, number.as_str())?.spawn(processes)
 }
 
 fn no_shell() -> io::Error {
