@@ -4,7 +4,7 @@ use Rattle.clap.specs.Words.{App, IsAmong, Kinds, Row, fault_of, first_of, found
 use Rattle.clap.specs.declared.error.ErrorKind.{ErrorKind}
 use Rattle.clap.specs.declared.ArgMatches.{ArgMatches}
 use Rattle.nut_client.specs.CommandLine.{Options, command_of, line_by, line_of, options_of, wanted_of}
-use Rattle.nut_client.specs.inside.Reading.{IsRead, IsReadBy, options_view}
+use Rattle.nut_client.specs.inside.Reading.{AreOptions, IsRead, IsReadBy, options_view}
 use Rattle.nut_client.specs.declared.command_line.Options.{Options as Read}
 use Rattle.nut_client.specs.declared.command_line.Refusal.{Refusal}
 use Rattle.nut_client.specs.declared.command_line.Refusal.TheVariants.{Usage, Failed}
@@ -44,17 +44,23 @@ pub parsed : (tool : Tool) (app : App) (words : List (List ℕ)) (r : Result Arg
 parsed tool app words r is read = subst (λ a. IsReadBy a words r) is (read (ap is_simple_and_free is ∙ is_simple tool))
 
 -- The options of what is wanted and a name, which are those of clap's matches.
-pub meant : (tool : Tool) (rows : List Row) (wanted : Option Wanted) (name : Option (List ℕ)) (r : Result Options Failure)
+meant : (tool : Tool) (rows : List Row) (wanted : Option Wanted) (name : Option (List ℕ)) (r : Result Options Failure)
     → wanted ≡ wanted_of tool rows → name ≡ first_of (codes "name") rows → options_of wanted name ≡ r → options_in tool rows ≡ r
 meant tool rows wanted name r w n is = subst (λ it. options_of (wanted_of tool rows) it ≡ r) n (subst (λ it. options_of it name ≡ r) w is)
 
-pub read_well : (tool : Tool) (words : List (List ℕ)) (m : ArgMatches) (read : Read) → IsReadBy (command_of tool) words (Ok m)
+read_well : (tool : Tool) (words : List (List ℕ)) (m : ArgMatches) (read : Read) → IsReadBy (command_of tool) words (Ok m)
     → options_in tool (rows_of (found_of m)) ≡ Ok (options_view read) → IsRead (line_of tool words) (Ok read)
 read_well tool words m read is options = no_fault tool words (rows_of (found_of m)) is.0 is.1 ∙ ap Ok options
 
-pub read_failed : (tool : Tool) (words : List (List ℕ)) (m : ArgMatches) (failure : Failure) → IsReadBy (command_of tool) words (Ok m)
+read_failed : (tool : Tool) (words : List (List ℕ)) (m : ArgMatches) (failure : Failure) → IsReadBy (command_of tool) words (Ok m)
     → options_in tool (rows_of (found_of m)) ≡ Err failure → IsRead (line_of tool words) (Err (Failed failure))
 read_failed tool words m failure is options = inr (no_fault tool words (rows_of (found_of m)) is.0 is.1 ∙ ap Ok options)
+
+pub read_by : (tool : Tool) (words : List (List ℕ)) (m : ArgMatches) (wanted : Option Wanted) (name : Option (List ℕ)) (r : Result Read Refusal) → IsReadBy (command_of tool) words (Ok m)
+    → wanted ≡ wanted_of tool (rows_of (found_of m)) → name ≡ first_of (codes "name") (rows_of (found_of m)) → AreOptions (options_of wanted name) r → IsRead (line_of tool words) r
+read_by tool words m wanted name (Ok read) is w n options = read_well tool words m read is (meant tool (rows_of (found_of m)) wanted name _ w n options)
+read_by tool words m wanted name (Err (Usage error)) is w n never = absurd never
+read_by tool words m wanted name (Err (Failed failure)) is w n options = read_failed tool words m failure is (meant tool (rows_of (found_of m)) wanted name _ w n options)
 
 pub read_ill : (tool : Tool) (words : List (List ℕ)) (refusal : Refusal) → IsReadBy (command_of tool) words (Err refusal) → IsRead (line_of tool words) (Err refusal)
 read_ill tool words (Usage error) among = faulty tool words (kind_of error) among

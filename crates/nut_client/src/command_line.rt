@@ -102,18 +102,18 @@ fn names_server(wanted: &Wanted<'_>) -> bool
 pub(crate) fn options_of<'a>(
     wanted: Option<Wanted<'a>>,
     name: Option<&str>,
-) -> Result<Options<'a>, Failure>
+) -> Result<Options<'a>, Refusal>
     ensures { AreOptions (options_meant wanted.entry (option_map (λ s. s.now) name.entry)) result }
 {
     let Some(wanted) = wanted else {
-        return Err(Failure::BadArguments);
+        return Err(Refusal::Failed(Failure::BadArguments));
     };
     let target = if names_server(&wanted) {
         read_server(name)?
     } else if let Some(name) = name {
         read_target(name)?
     } else {
-        return Err(Failure::BadArguments);
+        return Err(Refusal::Failed(Failure::BadArguments));
     };
     Ok(Options { target, wanted })
 }

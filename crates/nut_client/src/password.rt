@@ -52,12 +52,10 @@ pub(crate) fn take_password(
     words: &mut Vec<String>,
     input: &impl Input,
 ) -> Result<(), PasswordFault> {
-    let Some(place) = place_in(words.as_slice()) else {
-        return Ok(());
-    };
-    let password = read_password(alloc, input)?;
-    put_password(alloc, words, place, password.as_str())?;
-    Ok(())
+    match place_in(words.as_slice()) {
+        Some(place) => read_password(alloc, words, place, input),
+        None => Ok(()),
+    }
 }
 
 /// An option with a value.
@@ -121,15 +119,16 @@ fn place_of_valued(word: &[u8]) -> Option<usize>
     word.iter().position(|byte| VALUED.contains(byte))
 }
 
-/// Returns the first line of standard input, without its line feed.
-fn read_password(alloc: Global, input: &impl Input) -> Result<String, PasswordFault> {
+/// Puts the first line of standard input, without its line feed, into these words as their password.
+fn read_password(
+    alloc: Global,
+    words: &mut Vec<String>,
+    place: Place,
+    input: &impl Input,
+) -> Result<(), PasswordFault> {
     let mut line = String::new(alloc);
     input.reader().take(READ_MAX).read_line(&mut line)?;
-    let password = line.as_str().trim_end_matches('\n');
-    if password.is_empty() {
-        return Err(PasswordFault::Missing);
-    }
-    Ok(String::from_str(alloc, password)?)
+    put_password(alloc, words, place, line.as_str().trim_end_matches('\n'))
 }
 
 /// Puts a password into these words. It stands behind the option's letter and a `=`, so it may begin with a dash.
@@ -138,7 +137,10 @@ fn put_password(
     words: &mut Vec<String>,
     place: Place,
     password: &str,
-) -> Result<(), AllocError> {
+) -> Result<(), PasswordFault> {
+    if password.is_empty() {
+        return Err(PasswordFault::Missing);
+    }
     let Some(word) = words.as_slice().get(place.word) else {
         return Ok(());
     };
@@ -165,6 +167,6 @@ fn replace(words: &mut Vec<String>, number: usize, text: String) {
 fn remove_after(words: &mut Vec<String>, number: usize) {
     let next = number.saturating_add(1);
     if next < words.len() {
-        drop(words.remove(next));
+        words.remove(next);
     }
 }

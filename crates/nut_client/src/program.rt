@@ -44,11 +44,8 @@ fn run_held<R, E: Output>(rt: &R, tool: Tool, err: &mut E) -> io::Result<u8>
 where
     R: Clock + Env + Files + Input + Net + Print + AllocGlobal,
 {
-    let held = hold_closed_streams(rt, rt.alloc())?;
-    let status = run_command_line(rt, tool, err);
-    // dropped by a call, which keeps the proof of this function short
-    drop(held);
-    status
+    let _held = hold_closed_streams(rt, rt.alloc())?;
+    run_command_line(rt, tool, err)
 }
 
 /// Runs a tool with the words of the command line.
@@ -56,14 +53,8 @@ fn run_command_line<R, E: Output>(rt: &R, tool: Tool, err: &mut E) -> io::Result
 where
     R: Clock + Env + Input + Net + Print + AllocGlobal,
 {
-    let mut words = command_words(rt)?;
+    let mut words = env::args(rt)?.collect(rt.alloc())?;
     Ok(run_words(rt, tool, &mut words, err))
-}
-
-/// Returns the words of the command line, the program's name first.
-fn command_words<R: Env + AllocGlobal>(rt: &R) -> io::Result<Vec<String>> {
-    let words = env::args(rt)?.collect(rt.alloc())?;
-    Ok(words)
 }
 
 /// Runs a tool with these words, the program's name first. Returns the exit status.
@@ -72,7 +63,7 @@ where
     R: Clock + Input + Net + Print + AllocGlobal,
 {
     match tool.target(rt.alloc(), words.as_slice()) {
-        Ok(Some(destination)) => ask_for_words(rt, tool, words, destination, err),
+        Ok(Some(destination)) => ask_for_words(rt, tool, words, &destination, err),
         Ok(None) => refuse_combination(rt, tool, words.as_slice(), err),
         Err(_) => fail(rt, Failure::Memory, err),
     }
@@ -83,14 +74,14 @@ fn ask_for_words<R, E: Output>(
     rt: &R,
     tool: Tool,
     words: &mut Vec<String>,
-    destination: Destination,
+    destination: &Destination,
     err: &mut E,
 ) -> u8
 where
     R: Clock + Input + Net + Print + AllocGlobal,
 {
     match take_password(rt.alloc(), words, rt) {
-        Ok(()) => ask_destination(rt, tool, words.as_slice(), &destination, err),
+        Ok(()) => ask_destination(rt, tool, words.as_slice(), destination, err),
         Err(PasswordFault::Memory) => fail(rt, Failure::Memory, err),
         Err(PasswordFault::Missing) => {
             put_all(err, b"Error: no password on standard input\n");

@@ -82,9 +82,7 @@ impl Tool {
         ensures { IsRead (line_of self (map W.text words.entry.now)) result }
     {
         let matches = parse(self.command(alloc)?, words)?;
-        let options = options_of(self.wanted_in(&matches), value(&matches, "name"));
-        drop(matches);
-        Ok(options?)
+        options_of(self.wanted_in(&matches), value(&matches, "name"))
     }
 
     /// Whether the words can be read, but are no combination that the tool knows. It isn't if memory cannot be allocated.

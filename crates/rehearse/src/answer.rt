@@ -5,7 +5,6 @@ use nut_conf::{ConfFault, FaultKind};
 use nut_monitor::{Monitor, Notice};
 use std::alloc::Global;
 use std::fmt::{Debug, Display};
-use std::mem;
 
 /// The answer to a step. A part of it for which memory cannot be allocated is left out, and the answer isn't whole then.
 #[derive(Drop)]
@@ -102,10 +101,12 @@ impl Answer {
     /// Writes a notice's type, its line and its text.
     pub fn put_notice(&mut self, monitor: &Monitor, notice: Notice) {
         let kind = notice.kind;
+        write!(self, "{kind:?}");
         match notice.line {
-            Some(line) => write!(self, "{kind:?} {line} "),
-            None => write!(self, "{kind:?} - "),
+            Some(line) => self.put_count(line),
+            None => self.put(" -"),
         }
+        self.put(" ");
         self.notice.clear();
         match monitor.notice_text(notice, &mut self.notice) {
             Ok(()) => self.put_text_of_notice(),
@@ -134,7 +135,7 @@ impl Answer {
 
 /// Puts an engine that was made into its place, in which an earlier one may be, and writes that the step was done.
 pub fn put_in<T: Drop>(made: T, place: &mut Option<T>, out: &mut Answer) {
-    drop(mem::replace(place, Some(made)));
+    *place = Some(made);
     out.put("ok");
 }
 

@@ -2,6 +2,7 @@
 
 use crate::answer::Answer;
 use crate::stage::Stage;
+use crate::text::Text;
 use nut_dummy::{Dummy, DummyFault};
 use nut_server::{Arrival, Refused, Server};
 
@@ -77,9 +78,10 @@ fn carry_all(server: &mut Server, dummy: &mut Dummy, size: usize) -> Carried {
     Carried::Piece
 }
 
-/// Lets driver and server take what waits for them, `size` bytes at a time, and writes how that ended; `None` if one of
-/// them isn't made.
-pub fn play(stage: &mut Stage, size: usize) -> Option<()> {
+/// Lets driver and server take what waits for them, so many bytes at a time, and writes how that ended; `None` if that is
+/// no number, or one of them isn't made.
+pub fn play(stage: &mut Stage, size: Text<'_>) -> Option<()> {
+    let size = size.number()?;
     let server = stage.server.as_mut()?;
     let dummy = stage.dummy.as_mut()?;
     show_carried(carry_all(server, dummy, size), &mut stage.answer);

@@ -23,7 +23,7 @@ pub fn play(stage: &mut Stage, step: Step<'_>) -> Option<()> {
     match step.verb {
         "dev" => begin(stage, ScriptKind::Dev, step.bytes),
         "seq" => begin(stage, ScriptKind::Seq, step.bytes),
-        _ => play_on(stage.dummy.as_mut()?, step, &mut stage.answer)?,
+        _ => return play_on(stage.dummy.as_mut()?, step, &mut stage.answer),
     }
     Some(())
 }

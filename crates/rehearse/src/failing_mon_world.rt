@@ -3,8 +3,9 @@
 ghost use Rattle.std.specs.Prelude.{◌≡◌, ◌&&◌, nat_eq};
 
 use crate::answer::Answer;
+use crate::deeds::{Kind, show_closed, show_written};
 use crate::device::{Calls, Device};
-use crate::watching::{show_closed, show_given, show_notice, show_took};
+use crate::watching::{show_given, show_notice};
 use nut_io::{Fault, Piece, Written};
 use nut_monitor::{Monitor, Notice};
 use nut_monitor_loop::{Given, MonWorld, Next};
@@ -81,13 +82,13 @@ impl MonWorld for FailingMonWorld {
         if written == Written::Later {
             self.is_late = true;
         }
-        show_written(i, written, bytes, &mut self.deeds);
+        show_written(Kind::Link, i as u64, written, bytes, &mut self.deeds);
         Ok(written)
     }
 
     fn close(&mut self, _monitor: &Monitor, i: usize) -> Result<(), Fault> {
         self.calls.count()?;
-        show_closed(i, &mut self.deeds);
+        show_closed(Kind::Link, i as u64, &mut self.deeds);
         Ok(())
     }
 
@@ -95,14 +96,5 @@ impl MonWorld for FailingMonWorld {
         self.calls.count()?;
         show_notice(monitor, notice, &mut self.deeds);
         Ok(())
-    }
-}
-
-/// Writes the outcome of a write to the server of a link.
-fn show_written(i: usize, written: Written, bytes: &[u8], out: &mut Answer) {
-    match written {
-        Written::Took(n) => show_took(i, bytes.get(..n).unwrap_or(bytes), out),
-        Written::Later => writeln!(out, "link {i} is late"),
-        Written::Failed => writeln!(out, "link {i} breaks"),
     }
 }

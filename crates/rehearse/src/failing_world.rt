@@ -5,8 +5,9 @@ ghost use Rattle.nut_server_spec.specs.Content.{Content};
 ghost use Rattle.nut_server_loop.specs.Record.{MayCome};
 
 use crate::answer::Answer;
+use crate::deeds::{Kind, show_closed, show_written};
 use crate::device::{Calls, Device};
-use crate::serving::{Arrivals, show_closed, show_given, show_took};
+use crate::serving::{Arrivals, show_given};
 use nut_io::{Fault, Piece, Written};
 use nut_server::Server;
 use nut_server_loop::{Given, Next, World};
@@ -148,7 +149,7 @@ impl World for FailingWorld {
         if written == Written::Later {
             self.is_client_late = true;
         }
-        show_written("connection", c, written, bytes, &mut self.deeds);
+        show_written(Kind::Connection, c, written, bytes, &mut self.deeds);
         Ok(written)
     }
 
@@ -163,28 +164,19 @@ impl World for FailingWorld {
         if written == Written::Later {
             self.is_driver_late = true;
         }
-        show_written("driver", u as u64, written, bytes, &mut self.deeds);
+        show_written(Kind::Driver, u as u64, written, bytes, &mut self.deeds);
         Ok(written)
     }
 
     fn close(&mut self, c: u64) -> Result<(), Fault> {
         self.calls.count()?;
-        show_closed("connection", c, &mut self.deeds);
+        show_closed(Kind::Connection, c, &mut self.deeds);
         Ok(())
     }
 
     fn close_driver(&mut self, u: usize) -> Result<(), Fault> {
         self.calls.count()?;
-        show_closed("driver", u as u64, &mut self.deeds);
+        show_closed(Kind::Driver, u as u64, &mut self.deeds);
         Ok(())
-    }
-}
-
-/// Writes the outcome of a write to a device.
-fn show_written(device: &str, number: u64, written: Written, bytes: &[u8], out: &mut Answer) {
-    match written {
-        Written::Took(n) => show_took(device, number, bytes.get(..n).unwrap_or(bytes), out),
-        Written::Later => writeln!(out, "{device} {number} is late"),
-        Written::Failed => writeln!(out, "{device} {number} breaks"),
     }
 }

@@ -74,10 +74,7 @@ fn ask_words(link: &mut Link, words: &Words<'_>) -> Option<Result<(), LinkFault>
 
 /// Takes out and writes the answer.
 fn answer(link: &mut Link, out: &mut Answer) {
-    let outcome = link.answer();
-    show_outcome(&outcome, out);
-    // dropped by a call, which keeps the proof of this function short
-    drop(outcome);
+    show_outcome(&link.answer(), out);
 }
 
 fn show_outcome(outcome: &Option<Outcome>, out: &mut Answer) {

@@ -29,6 +29,7 @@ use std::sync::Wait;
 
 mod answer;
 mod carrying;
+mod deeds;
 mod device;
 mod dummy;
 mod failing_mon_world;

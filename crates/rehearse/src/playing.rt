@@ -36,8 +36,6 @@ pub fn reload_with(config: Box<Config>, server: &mut Server, out: &mut Answer) {
     let ended = server.ended_by(&config);
     tell(Arrival::Reload(config), server, out);
     show_ended(&ended, out);
-    // dropped by a call, which keeps the proof of this function short
-    drop(ended);
 }
 
 /// Writes what a reload ends.

@@ -68,7 +68,7 @@ fn begin(stage: &mut Stage) {
 /// Plays the steps of a call, and writes what they tell.
 fn call(alloc: Global, fleet: &mut Fleet, schedule: &mut Vec<RoomStep>, out: &mut Answer) {
     show_call(fleet.play(schedule), out);
-    drop(mem::replace(schedule, Vec::new(alloc)));
+    *schedule = Vec::new(alloc);
 }
 
 /// Adds a monitor to the next room.

@@ -23,11 +23,14 @@
 //! reload is answered by that for each number that a UPS has had, with the UPS's name or `-`, and then by the drivers that
 //! it disconnects and the connections that it closes.
 
+ghost use Rattle.std.specs.Prelude.{◌≡◌, [], IfSome};
+ghost use Rattle.nut_server_spec.specs.Content.{content};
+
 use crate::answer::{Answer, put_in};
 use crate::playing::{Peer, reload_with, show_next, show_next_driver, take, tell};
 use crate::stage::Stage;
-use crate::text::{Step, shown};
-use nut_conf::{ConfFault, Ups, UpsConf, UpsdConf, UsersConf, read_ups, read_upsd, read_users};
+use crate::text::{Step, Text, shown};
+use nut_conf::{ConfFault, Ups, UpsdConf, read_ups, read_upsd, read_users};
 use nut_server::{Arrival, Config, Server};
 use std::alloc::Global;
 
@@ -50,35 +53,16 @@ impl Texts {
     }
 }
 
-/// Reads the texts. What was read is dropped by calls, which makes the check much faster.
+/// Reads the texts.
 ///
 /// # Errors
 ///
 /// The first fault of a file.
 pub fn read_config(alloc: Global, texts: &Texts) -> Result<Config, ConfFault> {
     let ups = read_ups(alloc, &texts.ups)?;
-    match read_users(alloc, &texts.users) {
-        Ok(users) => with_upsd(ups, users, read_upsd(alloc, &texts.upsd)),
-        Err(fault) => {
-            drop(ups);
-            Err(fault)
-        }
-    }
-}
-
-fn with_upsd(
-    ups: UpsConf,
-    users: UsersConf,
-    upsd: Result<UpsdConf, ConfFault>,
-) -> Result<Config, ConfFault> {
-    match upsd {
-        Ok(upsd) => Ok(Config::new(ups, users, upsd)),
-        Err(fault) => {
-            drop(ups);
-            drop(users);
-            Err(fault)
-        }
-    }
+    let users = read_users(alloc, &texts.users)?;
+    let upsd = read_upsd(alloc, &texts.upsd)?;
+    Ok(Config::new(ups, users, upsd))
 }
 
 /// Plays a step of a server or of its files, and writes the answer; `None` if it is no step.
@@ -91,7 +75,7 @@ pub fn play(stage: &mut Stage, step: Step<'_>) -> Option<()> {
         "server" => begin(stage),
         "listen" => listen(stage.alloc, &texts.upsd, out),
         "reload" => reload(stage.alloc, texts, stage.server.as_mut()?, out),
-        _ => play_on(stage.server.as_mut()?, step, out)?,
+        _ => return play_on(stage.server.as_mut()?, step, out),
     }
     Some(())
 }
@@ -118,55 +102,81 @@ fn show_endpoints(upsd: &UpsdConf, out: &mut Answer) {
     write!(out, "{first:?} {second:?}");
 }
 
-/// Replaces the server by a new one with the texts of the configuration files, or writes the first fault of a file.
+/// Replaces the server by a new one with the texts of the configuration files, or writes why there is none.
 fn begin(stage: &mut Stage) {
-    match read_config(stage.alloc, &stage.texts) {
-        Ok(config) => make(config, stage),
-        Err(fault) => stage.answer.put_file_fault(fault),
+    if let Some(made) = new_server(stage.alloc, &stage.texts, &mut stage.answer) {
+        put_in(made, &mut stage.server, &mut stage.answer);
     }
 }
 
-fn make(config: Config, stage: &mut Stage) {
-    match Server::new(stage.alloc, config) {
-        Ok(made) => put_in(made, &mut stage.server, &mut stage.answer),
+/// Makes a server with the texts of the configuration files; `None`, and why is written, if there is none.
+pub fn new_server(alloc: Global, texts: &Texts, out: &mut Answer) -> Option<Server>
+    ensures { IfSome result (λ s. s ≡ content s.configuration []) }
+{
+    match read_config(alloc, texts) {
+        Ok(config) => server_with(alloc, config, out),
+        Err(fault) => {
+            out.put_file_fault(fault);
+            None
+        }
+    }
+}
+
+fn server_with(alloc: Global, config: Config, out: &mut Answer) -> Option<Server>
+    ensures { IfSome result (λ s. s ≡ content s.configuration []) }
+{
+    match Server::new(alloc, config) {
+        Ok(server) => Some(server),
         // only memory can be lacking when a server is made
-        Err(_) => stage.answer.lack(),
+        Err(_) => {
+            out.lack();
+            None
+        }
     }
 }
 
 /// Puts the texts of the configuration files in force, and writes the answer or the first fault of a file.
 fn reload(alloc: Global, texts: &Texts, server: &mut Server, out: &mut Answer) {
-    match read_config(alloc, texts) {
-        Ok(config) => reload_on(alloc, config, server, out),
-        Err(fault) => out.put_file_fault(fault),
+    if let Some(config) = boxed_config(alloc, texts, out) {
+        reload_with(config, server, out);
     }
 }
 
-fn reload_on(alloc: Global, config: Config, server: &mut Server, out: &mut Answer) {
+/// Reads the texts of the configuration files for a reload; `None`, and why is written, if they set nothing.
+pub fn boxed_config(alloc: Global, texts: &Texts, out: &mut Answer) -> Option<Box<Config>> {
+    match read_config(alloc, texts) {
+        Ok(config) => boxed(alloc, config, out),
+        Err(fault) => {
+            out.put_file_fault(fault);
+            None
+        }
+    }
+}
+
+fn boxed(alloc: Global, config: Config, out: &mut Answer) -> Option<Box<Config>> {
     match Box::new(alloc, config) {
-        Ok(config) => reload_with(config, server, out),
-        Err(failed) => {
-            drop(failed);
+        Ok(config) => Some(config),
+        Err(_) => {
             out.lack();
+            None
         }
     }
 }
 
 /// Plays a step on a server that was made.
 fn play_on(server: &mut Server, step: Step<'_>, out: &mut Answer) -> Option<()> {
+    if step.verb == "open" {
+        tell(Arrival::Open(step.bytes), server, out);
+        return Some(());
+    }
+    let n = step.number?;
     match step.verb {
-        "take" => take(
-            Peer::Connection(step.number? as u64),
-            most(step)?,
-            server,
-            out,
-        ),
-        "driver-take" => take(Peer::Driver(step.number?), most(step)?, server, out),
-        "next" => show_next(server.next_unsettled(step.number? as u64), out),
-        "next-driver" => show_next_driver(server.next_driver_waiting(step.number?), out),
-        "open" => tell(Arrival::Open(step.bytes), server, out),
-        "device" => show_device(server.config().ups().get(step.number?), out),
-        _ => tell(arrival_of(step)?, server, out),
+        "take" => take(Peer::Connection(n as u64), most(step)?, server, out),
+        "driver-take" => take(Peer::Driver(n), most(step)?, server, out),
+        "next" => show_next(server.next_unsettled(n as u64), out),
+        "next-driver" => show_next_driver(server.next_driver_waiting(n), out),
+        "device" => show_device(server.config().ups().get(n), out),
+        _ => tell(arrival_of(step.verb, n, step.more)?, server, out),
     }
     Some(())
 }
@@ -180,9 +190,8 @@ fn show_device(ups: Option<&Ups>, out: &mut Answer) {
 }
 
 /// Returns the arrival that a step tells of a connection, a UPS or a moment, if it tells one.
-fn arrival_of<'a>(step: Step<'a>) -> Option<Arrival<'a>> {
-    let (n, more) = (step.number?, step.more);
-    match step.verb {
+fn arrival_of<'a>(verb: &str, n: usize, more: Text<'a>) -> Option<Arrival<'a>> {
+    match verb {
         "moment" => Some(Arrival::Moment(n as u64)),
         "bytes" => Some(Arrival::Bytes(n as u64, more.bytes)),
         "took" => Some(Arrival::Took(n as u64, more.number()?)),

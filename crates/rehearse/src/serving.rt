@@ -18,14 +18,15 @@
 //! a number (that many bytes are taken, and then each write fails). A run writes a line for each thing that the world did, and
 //! then `=` or, if a call was a fault, `fault`, and how many bytes wait for connection 1 and for the driver of each UPS.
 
-ghost use Rattle.std.specs.Prelude.{◌≡◌, [], IfSome};
+ghost use Rattle.std.specs.Prelude.{◌≡◌, []};
 ghost use Rattle.nut_server_spec.specs.Content.{content};
 
 use crate::answer::{Answer, put_in};
+use crate::deeds::{Kind, show_bytes, show_closed, show_event, show_took};
 use crate::device::{Calls, Device, Trouble};
 use crate::failing_world::FailingWorld;
 use crate::playing::show_waits;
-use crate::server::read_config;
+use crate::server::{boxed_config, new_server};
 use crate::stage::Stage;
 use crate::text::{Step, shown};
 use nut_io::{Piece, ServeFault};
@@ -75,8 +76,8 @@ struct Troubles {
 pub fn play(rt: &impl Wait, stage: &mut Stage, step: Step<'_>) -> Option<()> {
     match step.verb {
         "reload" => queue_reload(stage),
-        "run" => run(rt, stage),
-        "failing" => run_failing(rt, stage, troubles_of(step)?),
+        "run" => run(rt, stage, None),
+        "failing" => run(rt, stage, Some(troubles_of(step)?)),
         _ => queue(stage, given_by(step)?),
     }
     Some(())
@@ -120,20 +121,19 @@ pub fn piece_of(bytes: &[u8]) -> Option<Piece> {
     Some(piece)
 }
 
-/// Queues a reload, or writes the first fault of a file.
+/// Queues a reload, or writes why there is none.
 fn queue_reload(stage: &mut Stage) {
-    match read_config(stage.alloc, &stage.texts) {
-        Ok(config) => queue_config(stage, config),
-        Err(fault) => stage.answer.put_file_fault(fault),
+    if let Some(config) = boxed_config(stage.alloc, &stage.texts, &mut stage.answer) {
+        put_in(config, &mut stage.arrivals.reload, &mut stage.answer);
     }
 }
 
-fn queue_config(stage: &mut Stage, config: Config) {
-    match Box::new(stage.alloc, config) {
-        Ok(config) => put_in(config, &mut stage.arrivals.reload, &mut stage.answer),
-        Err(failed) => {
-            drop(failed);
-            stage.answer.lack();
+/// Lets a new server serve the queued arrivals, over a world in trouble if there are troubles, and writes what happened.
+fn run(rt: &impl Wait, stage: &mut Stage, troubles: Option<Troubles>) {
+    if let Some(mut server) = new_server(stage.alloc, &stage.texts, &mut stage.answer) {
+        match troubles {
+            None => serve_queued(rt, stage, &mut server),
+            Some(troubles) => serve_failing(rt, stage, &mut server, troubles),
         }
     }
 }
@@ -143,62 +143,18 @@ fn take_arrivals(stage: &mut Stage) -> Arrivals {
     mem::replace(&mut stage.arrivals, Arrivals::new(stage.alloc))
 }
 
-/// Makes a new server with the texts of its files; `None`, and its answer is written, if there is none.
-fn server_of(stage: &mut Stage) -> Option<Server>
-    ensures { IfSome result (λ s. s ≡ content s.configuration []) }
+fn serve_queued(rt: &impl Wait, stage: &mut Stage, server: &mut Server)
+    requires { server.old ≡ content server.old.configuration [] }
 {
-    match read_config(stage.alloc, &stage.texts) {
-        Ok(config) => make(stage, config),
-        Err(fault) => {
-            stage.answer.put_file_fault(fault);
-            None
-        }
-    }
-}
-
-fn make(stage: &mut Stage, config: Config) -> Option<Server>
-    ensures { IfSome result (λ s. s ≡ content s.configuration []) }
-{
-    match Server::new(stage.alloc, config) {
-        Ok(server) => Some(server),
-        // only memory can be lacking when a server is made
-        Err(_) => {
-            stage.answer.lack();
-            None
-        }
-    }
-}
-
-/// Lets a new server serve the queued arrivals, and writes what happened.
-fn run(rt: &impl Wait, stage: &mut Stage) {
-    if let Some(server) = server_of(stage) {
-        serve_queued(rt, stage, server);
-    }
-}
-
-fn serve_queued(rt: &impl Wait, stage: &mut Stage, server: Server)
-    requires { server ≡ content server.configuration [] }
-{
-    let mut server = server;
     let mut world = MemoryWorld::new(stage.alloc, take_arrivals(stage).first);
-    let served = serve_memory(rt, &mut server, &mut world);
+    let served = serve_memory(rt, server, &mut world);
     show_notes(world.notes(), &mut stage.answer);
-    show_end(served, &server, &mut stage.answer);
-    drop(server);
-    drop(world);
+    show_end(served, server, &mut stage.answer);
 }
 
-/// Lets a new server serve the queued arrivals over a world in trouble, and writes what happened.
-fn run_failing(rt: &impl Wait, stage: &mut Stage, troubles: Troubles) {
-    if let Some(server) = server_of(stage) {
-        serve_failing(rt, stage, server, troubles);
-    }
-}
-
-fn serve_failing(rt: &impl Wait, stage: &mut Stage, server: Server, troubles: Troubles)
-    requires { server ≡ content server.configuration [] }
+fn serve_failing(rt: &impl Wait, stage: &mut Stage, server: &mut Server, troubles: Troubles)
+    requires { server.old ≡ content server.old.configuration [] }
 {
-    let mut server = server;
     let mut world = FailingWorld {
         arrivals: take_arrivals(stage),
         calls: Calls::new(troubles.fault_at),
@@ -208,11 +164,9 @@ fn serve_failing(rt: &impl Wait, stage: &mut Stage, server: Server, troubles: Tr
         is_driver_late: false,
         deeds: Answer::new(stage.alloc),
     };
-    let served = serve(rt, &mut server, &mut world);
+    let served = serve(rt, server, &mut world);
     stage.answer.append(&world.deeds);
-    show_end(served, &server, &mut stage.answer);
-    drop(server);
-    drop(world);
+    show_end(served, server, &mut stage.answer);
 }
 
 /// Writes how a run ended, and what waits.
@@ -232,32 +186,22 @@ fn show_notes(notes: &[Note], out: &mut Answer) {
 fn show_note(note: &Note, out: &mut Answer) {
     match note {
         Note::Gave(given) => show_given(given, out),
-        Note::Took(c, part) => show_took("connection", *c, part.as_slice(), out),
-        Note::Closed(c) => show_closed("connection", *c, out),
-        Note::TookRequests(u, part) => show_took("driver", *u as u64, part.as_slice(), out),
-        Note::ClosedDriver(u) => show_closed("driver", *u as u64, out),
+        Note::Took(c, part) => show_took(Kind::Connection, *c, part.as_slice(), out),
+        Note::Closed(c) => show_closed(Kind::Connection, *c, out),
+        Note::TookRequests(u, part) => show_took(Kind::Driver, *u as u64, part.as_slice(), out),
+        Note::ClosedDriver(u) => show_closed(Kind::Driver, *u as u64, out),
     }
-}
-
-/// Writes that a device took these bytes.
-pub fn show_took(device: &str, number: u64, bytes: &[u8], out: &mut Answer) {
-    writeln!(out, "{device} {number} takes {}", shown(bytes));
-}
-
-/// Writes that a device was closed.
-pub fn show_closed(device: &str, number: u64, out: &mut Answer) {
-    writeln!(out, "{device} {number} is closed");
 }
 
 /// Writes an arrival.
 pub fn show_given(given: &Given, out: &mut Answer) {
     match given {
-        Given::Moment(t) => writeln!(out, "> moment {t}"),
+        Given::Moment(t) => show_event("moment", *t, out),
         Given::Open(address) => writeln!(out, "> open {}", shown(address.as_slice())),
-        Given::Bytes(c, bytes) => writeln!(out, "> bytes {c} {}", shown(bytes.as_slice())),
-        Given::Close(c) => writeln!(out, "> close {c}"),
-        Given::DriverUp(u) => writeln!(out, "> up {u}"),
-        Given::DriverBytes(u, bytes) => writeln!(out, "> driver {u} {}", shown(bytes.as_slice())),
-        Given::DriverDown(u) => writeln!(out, "> down {u}"),
+        Given::Bytes(c, bytes) => show_bytes("bytes", *c, bytes, out),
+        Given::Close(c) => show_event("close", *c, out),
+        Given::DriverUp(u) => show_event("up", *u as u64, out),
+        Given::DriverBytes(u, bytes) => show_bytes("driver", *u as u64, bytes, out),
+        Given::DriverDown(u) => show_event("down", *u as u64, out),
     }
 }

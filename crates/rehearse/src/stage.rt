@@ -92,15 +92,16 @@ impl Stage {
             bytes,
         };
         let (engine, rest) = text.parted();
+        let step = rest.step();
         match engine {
-            "dummy" => dummy::play(self, rest.step()),
-            "monitor" => monitor::play(self, rest.step()),
-            "link" => link::play(self, rest.step()),
-            "room" => room::play(self, rest.step()),
-            "words" => words::play(self, rest.step()),
-            "serve" => serving::play(rt, self, rest.step()),
-            "watch" => watching::play(rt, self, rest.step()),
-            "carry" => carrying::play(self, rest.number()?),
+            "dummy" => dummy::play(self, step),
+            "monitor" => monitor::play(self, step),
+            "link" => link::play(self, step),
+            "room" => room::play(self, step),
+            "words" => words::play(self, step),
+            "serve" => serving::play(rt, self, step),
+            "watch" => watching::play(rt, self, step),
+            "carry" => carrying::play(self, rest),
             _ => server::play(self, text.step()),
         }
     }

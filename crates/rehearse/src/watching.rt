@@ -17,11 +17,12 @@ ghost use Rattle.std.specs.Prelude.{◌≡◌, [], IfSome};
 ghost use Rattle.nut_monitor_spec.specs.Content.{content};
 
 use crate::answer::Answer;
+use crate::deeds::{Kind, show_bytes, show_closed, show_event, show_took};
 use crate::device::{Calls, Device, Trouble};
 use crate::failing_mon_world::FailingMonWorld;
 use crate::serving::piece_of;
 use crate::stage::Stage;
-use crate::text::{Step, shown};
+use crate::text::Step;
 use nut_conf::{UpsmonConf, read_upsmon};
 use nut_io::ServeFault;
 use nut_monitor::{Monitor, Notice, Phase};
@@ -39,17 +40,21 @@ struct Troubles {
 /// Plays a step of the loop, and writes the answer; `None` if it is no step.
 pub fn play(rt: &impl Wait, stage: &mut Stage, step: Step<'_>) -> Option<()> {
     match step.verb {
-        "run" => run(rt, stage, step.bytes),
-        "failing" => {
-            let (call, file) = step.more.parted();
-            let troubles = Troubles {
-                server: Trouble::named(step.word)?,
-                fault_at: call.parse().ok()?,
-            };
-            run_failing(rt, stage, troubles, file.bytes);
-        }
+        "run" => run(rt, stage, step.bytes, None),
+        "failing" => return run_failing(rt, stage, step),
         _ => queue(stage, given_by(step)?),
     }
+    Some(())
+}
+
+/// Plays a run over a world in trouble; `None` if the step doesn't name the troubles.
+fn run_failing(rt: &impl Wait, stage: &mut Stage, step: Step<'_>) -> Option<()> {
+    let (call, file) = step.more.parted();
+    let troubles = Troubles {
+        server: Trouble::named(step.word)?,
+        fault_at: call.parse().ok()?,
+    };
+    run(rt, stage, file.bytes, Some(troubles));
     Some(())
 }
 
@@ -100,36 +105,29 @@ fn take_events(stage: &mut Stage) -> Vec<Given> {
     mem::replace(&mut stage.events, Vec::new(stage.alloc))
 }
 
-/// Lets a monitor with this file watch the queued events, and writes what happened.
-fn run(rt: &impl Wait, stage: &mut Stage, file: &[u8]) {
-    if let Some(monitor) = monitor_of(stage, file) {
-        watch_queued(rt, stage, monitor);
+/// Lets a monitor with this file watch the queued events, over a world in trouble if there are troubles, and writes what
+/// happened.
+fn run(rt: &impl Wait, stage: &mut Stage, file: &[u8], troubles: Option<Troubles>) {
+    if let Some(mut monitor) = monitor_of(stage, file) {
+        match troubles {
+            None => watch_queued(rt, stage, &mut monitor),
+            Some(troubles) => watch_failing(rt, stage, &mut monitor, troubles),
+        }
     }
 }
 
-fn watch_queued(rt: &impl Wait, stage: &mut Stage, monitor: Monitor)
-    requires { monitor.content ≡ content monitor.content.configuration [] }
+fn watch_queued(rt: &impl Wait, stage: &mut Stage, monitor: &mut Monitor)
+    requires { monitor.old.content ≡ content monitor.old.content.configuration [] }
 {
-    let mut monitor = monitor;
     let mut world = MemoryMonWorld::new(stage.alloc, take_events(stage));
-    let led = watch_memory(rt, &mut monitor, &mut world);
-    show_notes(&monitor, world.notes(), &mut stage.answer);
-    show_end(&monitor, led, &mut stage.answer);
-    drop(monitor);
-    drop(world);
+    let led = watch_memory(rt, monitor, &mut world);
+    show_notes(monitor, world.notes(), &mut stage.answer);
+    show_end(monitor, led, &mut stage.answer);
 }
 
-/// Lets a monitor with this file watch the queued events over a world in trouble, and writes what happened.
-fn run_failing(rt: &impl Wait, stage: &mut Stage, troubles: Troubles, file: &[u8]) {
-    if let Some(monitor) = monitor_of(stage, file) {
-        watch_failing(rt, stage, monitor, troubles);
-    }
-}
-
-fn watch_failing(rt: &impl Wait, stage: &mut Stage, monitor: Monitor, troubles: Troubles)
-    requires { monitor.content ≡ content monitor.content.configuration [] }
+fn watch_failing(rt: &impl Wait, stage: &mut Stage, monitor: &mut Monitor, troubles: Troubles)
+    requires { monitor.old.content ≡ content monitor.old.content.configuration [] }
 {
-    let mut monitor = monitor;
     let mut world = FailingMonWorld {
         events: take_events(stage),
         calls: Calls::new(troubles.fault_at),
@@ -137,11 +135,9 @@ fn watch_failing(rt: &impl Wait, stage: &mut Stage, monitor: Monitor, troubles: 
         is_late: false,
         deeds: Answer::new(stage.alloc),
     };
-    let led = watch(rt, &mut monitor, &mut world);
+    let led = watch(rt, monitor, &mut world);
     stage.answer.append(&world.deeds);
-    show_end(&monitor, led, &mut stage.answer);
-    drop(monitor);
-    drop(world);
+    show_end(monitor, led, &mut stage.answer);
 }
 
 /// Writes the phase, or the fault and what waits.
@@ -163,20 +159,10 @@ fn show_notes(monitor: &Monitor, notes: &[Note], out: &mut Answer) {
 fn show_note(monitor: &Monitor, note: &Note, out: &mut Answer) {
     match note {
         Note::Gave(given) => show_given(given, out),
-        Note::Took(i, part) => show_took(*i, part.as_slice(), out),
-        Note::Closed(i) => show_closed(*i, out),
+        Note::Took(i, part) => show_took(Kind::Link, *i as u64, part.as_slice(), out),
+        Note::Closed(i) => show_closed(Kind::Link, *i as u64, out),
         Note::Told(notice) => show_notice(monitor, *notice, out),
     }
-}
-
-/// Writes that the server of a link took these bytes.
-pub fn show_took(i: usize, bytes: &[u8], out: &mut Answer) {
-    writeln!(out, "link {i} is asked {}", shown(bytes));
-}
-
-/// Writes that a link was closed.
-pub fn show_closed(i: usize, out: &mut Answer) {
-    writeln!(out, "link {i} is closed");
 }
 
 /// Writes that a notice was handed over.
@@ -194,10 +180,10 @@ fn show_told(words: &str, monitor: &Monitor, notice: Notice, out: &mut Answer) {
 /// Writes an event.
 pub fn show_given(given: &Given, out: &mut Answer) {
     match given {
-        Given::Moment(t) => writeln!(out, "> moment {t}"),
-        Given::Linked(i) => writeln!(out, "> linked {i}"),
-        Given::LinkBytes(i, piece) => writeln!(out, "> bytes {i} {}", shown(piece.as_slice())),
-        Given::LinkLost(i) => writeln!(out, "> lost {i}"),
+        Given::Moment(t) => show_event("moment", *t, out),
+        Given::Linked(i) => show_event("linked", *i as u64, out),
+        Given::LinkBytes(i, piece) => show_bytes("bytes", *i as u64, piece, out),
+        Given::LinkLost(i) => show_event("lost", *i as u64, out),
     }
 }
 

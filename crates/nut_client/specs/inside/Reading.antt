@@ -36,9 +36,10 @@ abbrev pub options_view : Read → Options
 options_view o = record { ups = o.target.ups.bytes.items; host = o.target.host.bytes.items; port = o.target.port.number; wanted = o.wanted }
 
 -- the options that are meant
-abbrev pub AreOptions : Result Options Failure → Result Read Failure → Type 0
+abbrev pub AreOptions : Result Options Failure → Result Read Refusal → Type 0
 AreOptions meant (Ok options) = meant ≡ Ok (options_view options)
-AreOptions meant (Err failure) = meant ≡ Err failure
+AreOptions meant (Err (Usage error)) = ⊥
+AreOptions meant (Err (Failed failure)) = meant ≡ Err failure
 
 -- the command line that is meant, unless memory could not be allocated
 abbrev pub IsRead : CommandLine → Result Read Refusal → Type 0
