@@ -26,7 +26,7 @@ from sockets import NUT_UPSD, VARIABLES, free_port
 
 NUT_PLACES = ("NUT_CONFPATH", "NUT_STATEPATH", "NUT_ALTPIDPATH")
 NUT_UPSMON = "/lib/nut/upsmon"
-FEW, MANY = 122, 12322
+FEW, MANY = 122, 1342
 # the seconds of a run whose work comes by the clock
 FEW_SECONDS, MANY_SECONDS = 5, 25
 STATUS = "GET VAR su700 ups.status"
