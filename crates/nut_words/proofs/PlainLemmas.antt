@@ -1,10 +1,10 @@
 -- Bare words, and the first line of a piece.
-use Rattle.std.proofs.Common.{◌≡◌, ℕ, ◌≤◌, Bool, true, List, [], ◌∷◌, ◌++◌, Ok, length, map, refl, sym, ap, ◌∙◌, append_assoc, arith}
+use Rattle.std.proofs.Common.{◌≡◌, ℕ, ◌+◌, ◌<◌, ◌≤◌, Bool, true, List, [], ◌∷◌, ◌++◌, Ok, length, map, take, get_or, refl, sym, ap, subst, ◌∙◌, arith}
 use Rattle.std.specs.Prelude.{◌==◌}
 use Rattle.std.specs.List.{IsFirstAndRest, IsLastAndRest, list_all}
 use Rattle.std.proofs.lemmas.Bool.{and_from, and_parts}
 use Rattle.std.proofs.lemmas.Bool.Decides.{nat_tests}
-use Rattle.std.proofs.lemmas.List.{append-nil}
+use Rattle.std.proofs.lemmas.List.{append-nil, take_more}
 use Rattle.std.proofs.lemmas.List.Folds.{list_all-append}
 use Rattle.nut_words.specs.Cutter.{IsFirstLine}
 use Rattle.nut_words.specs.Quoting.{IsPrintable, escaped, quoted, stands_bare, word_text}
@@ -17,13 +17,21 @@ use Rattle.nut_words.proofs.WrittenLine.{lines_of_printable}
 use Rattle.nut_words.proofs.WrittenSpells.{Writes, bare_part, bare_writes, item_of, quoted_writes}
 use Rattle.nut_words.specs.declared.limits.TheConstants.{LINE_MAX}
 
--- Bare bytes stand before the rest.
-abbrev pub Past : List ℕ → List ℕ → Type 0
-Past bytes rest = (front : List ℕ) × (bytes ≡ front ++ rest) × (list_all is_bare front ≡ true)
+-- one more byte of a bare word, or four
+pub one_more_bare : (bytes : List ℕ) (len : ℕ) → len < length bytes → is_bare (get_or bytes len 0) ≡ true → list_all is_bare (take len bytes) ≡ true → list_all is_bare (take (len + 1) bytes) ≡ true
+one_more_bare bytes len within bare before =
+    rw (take_more bytes len 0 within, list_all-append is_bare (take len bytes) (get_or bytes len 0 ∷ [])) (and_from _ _ before (and_from _ _ bare refl))
 
-pub more_bare : (bytes rest more others : List ℕ) → Past bytes rest → rest ≡ more ++ others → list_all is_bare more ≡ true → Past bytes others
-more_bare bytes rest more others (front, is, bare) parted all =
-    (front ++ more, is ∙ ap (λ r. front ++ r) parted ∙ sym (append_assoc front more others), list_all-append is_bare front more ∙ and_from _ _ bare all)
+next_bare : (bytes : List ℕ) (len next : ℕ) → len + 1 ≡ next → len < length bytes → is_bare (get_or bytes len 0) ≡ true → list_all is_bare (take len bytes) ≡ true → list_all is_bare (take next bytes) ≡ true
+next_bare bytes len next is within bare before = subst (λ n. list_all is_bare (take n bytes) ≡ true) is (one_more_bare bytes len within bare before)
+
+pub four_more_bare : (bytes : List ℕ) (len : ℕ) → len + 3 < length bytes → is_bare (get_or bytes len 0) ≡ true → is_bare (get_or bytes (len + 1) 0) ≡ true
+    → is_bare (get_or bytes (len + 2) 0) ≡ true → is_bare (get_or bytes (len + 3) 0) ≡ true → list_all is_bare (take len bytes) ≡ true → list_all is_bare (take (len + 4) bytes) ≡ true
+four_more_bare bytes len within first second third fourth before =
+    next_bare bytes (len + 3) (len + 4) (omega arith) within fourth
+    (next_bare bytes (len + 2) (len + 3) (omega arith) (omega arith) third
+    (next_bare bytes (len + 1) (len + 2) (omega arith) (omega arith) second
+    (one_more_bare bytes len (omega arith) first before)))
 
 -- a bare word as it is written
 pub bare_text : (word : List ℕ) → stands_bare word ≡ true → word_text word ≡ word

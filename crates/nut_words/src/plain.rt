@@ -10,28 +10,24 @@ use crate::quoting::{is_bare_byte, is_unescaped};
 /// Returns how many bytes of a bare word these bytes begin with. Four at a time are looked at, as long as there are as many. In
 /// its callers its loops would carry their values along.
 #[inline(never)]
+#[tactic(auto, using(crate::proofs::PlainLemmas::one_more_bare, crate::proofs::PlainLemmas::four_more_bare))]
 pub(crate) fn bare_len(bytes: &[u8]) -> usize
     ensures within { result ≤ length bytes.now }
     ensures bare { list_all is_bare (take result bytes.now) ≡ true }
 {
-    let mut rest = bytes;
-    while let Some(four) = rest.first_chunk::<4>()
-        && are_bare(four)
+    let mut len = 0;
+    while len + 3 < bytes.len()
+        && is_bare_byte(bytes[len])
+        && is_bare_byte(bytes[len + 1])
+        && is_bare_byte(bytes[len + 2])
+        && is_bare_byte(bytes[len + 3])
     {
-        rest = &rest[4..];
+        len += 4;
     }
-    while let Some((first, others)) = rest.split_first()
-        && is_bare_byte(*first)
-    {
-        rest = others;
+    while len < bytes.len() && is_bare_byte(bytes[len]) {
+        len += 1;
     }
-    bytes.len() - rest.len()
-}
-
-fn are_bare(four: &[u8; 4]) -> bool
-    ensures { result ≡ list_all is_bare four.now }
-{
-    is_bare_byte(four[0]) && is_bare_byte(four[1]) && is_bare_byte(four[2]) && is_bare_byte(four[3])
+    len
 }
 
 /// Returns the bare word with which these bytes begin, and the bytes behind `end`, if `end` follows the word. Allocates no

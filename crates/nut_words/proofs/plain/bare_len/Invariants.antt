@@ -1,15 +1,22 @@
-use Rattle.std.proofs.Common.{length}
-use Rattle.nut_words.proofs.PlainLemmas.{Past}
+use Rattle.std.proofs.Common.{◌≡◌, true, length, ◌-◌, ◌≤◌, take}
+use Rattle.std.specs.List.{list_all}
+use Rattle.nut_words.specs.Spelling.{is_bare}
 use Rattle.nut_words.proofs.plain.bare_len.Given as goal
 
-abbrev pub invariant-loop-four : goal.invariant-loop-four
-invariant-loop-four l = Past l.bytes l.rest
+abbrev pub invariant-loop-len : goal.invariant-loop-len
+invariant-loop-len l = record {
+  within : l.len ≤ length l.bytes;
+  bare : list_all is_bare (take l.len l.bytes) ≡ true;
+}
 
-abbrev pub decreases-loop-four : goal.decreases-loop-four
-decreases-loop-four l = length l.rest
+abbrev pub decreases-loop-len : goal.decreases-loop-len
+decreases-loop-len l = length l.bytes - l.len
 
-abbrev pub invariant-loop-first : goal.invariant-loop-first
-invariant-loop-first l = Past l.bytes l.rest
+abbrev pub invariant-loop-len-2 : goal.invariant-loop-len-2
+invariant-loop-len-2 l = record {
+  within : l.len ≤ length l.bytes;
+  bare : list_all is_bare (take l.len l.bytes) ≡ true;
+}
 
-abbrev pub decreases-loop-first : goal.decreases-loop-first
-decreases-loop-first l = length l.rest
+abbrev pub decreases-loop-len-2 : goal.decreases-loop-len-2
+decreases-loop-len-2 l = length l.bytes - l.len
