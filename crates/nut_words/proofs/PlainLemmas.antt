@@ -1,5 +1,5 @@
 -- Bare words, and the first line of a piece.
-use Rattle.std.proofs.Common.{◌≡◌, ℕ, ◌+◌, ◌<◌, ◌≤◌, Bool, true, List, [], ◌∷◌, ◌++◌, Ok, length, map, take, get_or, refl, sym, ap, subst, ◌∙◌, arith}
+use Rattle.std.proofs.Common.{◌≡◌, ℕ, zero, suc, ◌+◌, ◌<◌, ◌≤◌, Bool, true, List, [], ◌∷◌, ◌++◌, Ok, length, map, take, get_or, refl, sym, ap, subst, ◌∙◌, arith}
 use Rattle.std.specs.Prelude.{◌==◌}
 use Rattle.std.specs.List.{IsFirstAndRest, IsLastAndRest, list_all}
 use Rattle.std.proofs.lemmas.Bool.{and_from, and_parts}
@@ -25,13 +25,14 @@ one_more_bare bytes len within bare before =
 next_bare : (bytes : List ℕ) (len next : ℕ) → len + 1 ≡ next → len < length bytes → is_bare (get_or bytes len 0) ≡ true → list_all is_bare (take len bytes) ≡ true → list_all is_bare (take next bytes) ≡ true
 next_bare bytes len next is within bare before = subst (λ n. list_all is_bare (take n bytes) ≡ true) is (one_more_bare bytes len within bare before)
 
-pub four_more_bare : (bytes : List ℕ) (len : ℕ) → len + 3 < length bytes → is_bare (get_or bytes len 0) ≡ true → is_bare (get_or bytes (len + 1) 0) ≡ true
-    → is_bare (get_or bytes (len + 2) 0) ≡ true → is_bare (get_or bytes (len + 3) 0) ≡ true → list_all is_bare (take len bytes) ≡ true → list_all is_bare (take (len + 4) bytes) ≡ true
-four_more_bare bytes len within first second third fourth before =
-    next_bare bytes (len + 3) (len + 4) (omega arith) within fourth
-    (next_bare bytes (len + 2) (len + 3) (omega arith) (omega arith) third
-    (next_bare bytes (len + 1) (len + 2) (omega arith) (omega arith) second
-    (one_more_bare bytes len (omega arith) first before)))
+pub more_bare : (bytes : List ℕ) (len run : ℕ) → len + run ≤ length bytes → ((k : ℕ) → len ≤ k → k < len + run → is_bare (get_or bytes k 0) ≡ true)
+    → list_all is_bare (take len bytes) ≡ true → list_all is_bare (take (len + run) bytes) ≡ true
+more_bare bytes len zero within all before =
+    let none : len ≡ len + 0 = omega arith in
+    subst (λ n. list_all is_bare (take n bytes) ≡ true) none before
+more_bare bytes len (suc run) within all before =
+    next_bare bytes (len + run) (len + suc run) (omega arith) (omega arith) (all (len + run) (omega arith) (omega arith))
+    (more_bare bytes len run (omega arith) (λ k from to. all k from (omega arith)) before)
 
 -- a bare word as it is written
 pub bare_text : (word : List ℕ) → stands_bare word ≡ true → word_text word ≡ word

@@ -4,25 +4,25 @@ ghost use Rattle.std.specs.List.{list_all};
 ghost use Rattle.nut_words.specs.Quoting.{IsPrintable, quoted, stands_bare};
 ghost use Rattle.nut_words.specs.Spelling.{is_bare};
 
+use crate::lanes::{LANES, bare_run};
 use crate::printing::are_printing;
 use crate::quoting::{is_bare_byte, is_unescaped};
 
-/// Returns how many bytes of a bare word these bytes begin with. Four at a time are looked at, as long as there are as many. In
-/// its callers its loops would carry their values along.
+/// Returns how many bytes of a bare word these bytes begin with. [`LANES`] at a time are looked at, as long as there are as many.
+/// In its callers its loops would carry their values along.
 #[inline(never)]
-#[tactic(auto, using(crate::proofs::PlainLemmas::one_more_bare, crate::proofs::PlainLemmas::four_more_bare))]
+#[tactic(auto, using(crate::proofs::PlainLemmas::one_more_bare))]
 pub(crate) fn bare_len(bytes: &[u8]) -> usize
     ensures within { result ≤ length bytes.now }
     ensures bare { list_all is_bare (take result bytes.now) ≡ true }
 {
     let mut len = 0;
-    while len + 3 < bytes.len()
-        && is_bare_byte(bytes[len])
-        && is_bare_byte(bytes[len + 1])
-        && is_bare_byte(bytes[len + 2])
-        && is_bare_byte(bytes[len + 3])
-    {
-        len += 4;
+    while bytes.len() - len >= LANES {
+        let run = bare_run(bytes, len);
+        len += run;
+        if run < LANES {
+            return len;
+        }
     }
     while len < bytes.len() && is_bare_byte(bytes[len]) {
         len += 1;
