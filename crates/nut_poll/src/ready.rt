@@ -113,6 +113,13 @@ impl Ready {
         self.round = self.queue.len();
     }
 
+    /// Whether no socket is left in this round.
+    pub fn is_round_over(&self) -> bool
+        ensures { result ≡ nat_eq self.now.round 0 }
+    {
+        self.round == 0
+    }
+
     /// Whether no socket is queued, for this round or the next.
     pub fn is_empty(&self) -> bool
         ensures each_once { IsDistinct nat_eq self.now.waiting }

@@ -382,6 +382,25 @@ impl Sockets {
         ensures goes_on { IfSome result (λ n. n ≢ next.End) }
         ensures turns { ComesInTurn (unwrap_or result next.Again) self.old.rounds self.new.rounds }
     {
+        if self.rounds.ready.is_round_over() && !self.stall.is_on() {
+            return None;
+        }
+        self.look_in_turn(server, piece, net, reports)
+    }
+
+    /// Does what [`look`](Self::look) does. It stands apart, so that a round that is over takes no call.
+    #[inline(never)]
+    fn look_in_turn(
+        &mut self,
+        server: &Server,
+        piece: &mut Piece,
+        net: &impl Net,
+        reports: &mut Reports<'_>,
+    ) -> Option<Next>
+        ensures may { IfSome result (λ n. MayCome n server.now) }
+        ensures goes_on { IfSome result (λ n. n ≢ next.End) }
+        ensures turns { ComesInTurn (unwrap_or result next.Again) self.old.rounds self.new.rounds }
+    {
         self.end_stall();
         for _ in 0..SOCKETS_MAX {
             let token = self.rounds.ready.take()?;

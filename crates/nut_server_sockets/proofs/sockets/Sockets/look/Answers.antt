@@ -1,26 +1,6 @@
-use Rattle.std.proofs.Common.{[], ◌∷◌, ◌++◌, ◌∙◌}
-use Rattle.nut_server_sockets.proofs.TurnLemmas.{found_last, look_more}
+use Rattle.std.proofs.Common.{refl}
+use Rattle.nut_server_sockets.proofs.TurnLemmas.{none_came, stays}
 use Rattle.nut_server_sockets.proofs.sockets.Sockets.look.Goals as goal
 
-pub returns-in-Some-clause-turns : goal.returns-in-Some-clause-turns
-returns-in-Some-clause-turns g c =
-    let before = c.loop.invariant.0 in
-    let token = c.in_ok-token.token in
-    let came = c.look_at.ensures.turns in
-    found_last c.in-Some.next before.0 token.0 c.args.self.now.rounds c.look_at.new.self.rounds
-    (look_more before.0 token c.args.self.now.rounds.ready c.loop.self.rounds.ready c.take.new.self c.look_at.new.self.rounds.ready
-    before.1 c.in_ok-token.ensures.taken came.0)
-    (came.1 ∙ c.loop.invariant.1) c.in-Some.ensures.given
-
-pub loop-preserved : goal.loop-preserved
-loop-preserved g c =
-    let before = c.loop.invariant.0 in
-    let token = c.in_ok-token.token in
-    let came = c.look_at.ensures.turns in (
-      (
-        before.0 ++ token.0 ∷ [],
-        look_more before.0 token c.args.self.now.rounds.ready c.loop.self.rounds.ready c.take.new.self c.look_at.new.self.rounds.ready
-            before.1 c.in_ok-token.ensures.taken came.0,
-      ),
-      came.1 ∙ c.loop.invariant.1,
-    )
+pub returns-then-not-is_on-clause-turns : goal.returns-then-not-is_on-clause-turns
+returns-then-not-is_on-clause-turns g c = none_came c.args.self.now.rounds c.args.self.now.rounds (stays c.args.self.now.rounds c.args.self.now.rounds refl)
