@@ -72,13 +72,12 @@ fn mark(order: &mut Vec<Key>, count: &mut usize, at: usize, unsettled: bool)
     ensures counted { count.new ≡ count_by (λ key. key.unsettled) order.new.items }
     ensures capacity { vec_capacity order.new ≡ vec_capacity order.old }
 {
-    let key = order[at];
-    match (key.unsettled, unsettled) {
+    match (order[at].unsettled, unsettled) {
         (false, true) => *count += 1,
         (true, false) => *count -= 1,
         (false, false) | (true, true) => {}
     }
-    order[at] = Key { unsettled, ..key };
+    order[at].unsettled = unsettled;
 }
 
 /// Whether the client isn't logged in.
