@@ -7,8 +7,8 @@ lines that reported a failure or a test that was skipped.
 usage: python3 -m tests.check [--anew] | --tried FOLDER
 
 The toolchain's gate takes what an earlier run on this machine has proved, if it does so at all and nothing that it rests on has
-changed; with --anew it proves all. With --tried it runs the tests in Python alone, several at a time, on the programs that tools/tried has built in a
-folder without proof. The last line is 'N passed, M failed'."""
+changed; with --anew it proves all. With --tried it runs the tests in Python alone, several at a time, on the programs that
+tools/tried has built in a folder without proof. The last line is 'N passed, M failed'."""
 
 import os
 import re
