@@ -17,7 +17,7 @@ use Rattle.nut_words.proofs.WrittenLine.{lines_of_printable}
 use Rattle.nut_words.proofs.WrittenSpells.{Writes, bare_part, bare_writes, item_of, quoted_writes}
 use Rattle.nut_words.specs.declared.limits.TheConstants.{LINE_MAX}
 
--- one more byte of a bare word, or four
+-- one more byte of a bare word, or several
 pub one_more_bare : (bytes : List ℕ) (len : ℕ) → len < length bytes → is_bare (get_or bytes len 0) ≡ true → list_all is_bare (take len bytes) ≡ true → list_all is_bare (take (len + 1) bytes) ≡ true
 one_more_bare bytes len within bare before =
     rw (take_more bytes len 0 within, list_all-append is_bare (take len bytes) (get_or bytes len 0 ∷ [])) (and_from _ _ before (and_from _ _ bare refl))
