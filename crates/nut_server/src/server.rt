@@ -1,43 +1,38 @@
-//! The server: its state, and what it can be asked.
+//! The server: its state, what it is told, and what its loop asks at each arrival of a client. What else it can be asked is
+//! in `asking`.
 
-ghost use Rattle.std.specs.Prelude.{◌≡◌, ◌<◌, ◌≤◌, List, [], Some, Err, IfOk, IfSome, map, length, false};
-ghost use Rattle.std.specs.Option.{option_map_or};
-ghost use Rattle.nut_queue.specs.Front.{IsFrontPart};
+ghost use Rattle.std.specs.Prelude.{◌≡◌, ◌<◌, ◌≤◌, List, [], Some, Err, IfOk, IfSome, map, length};
 ghost use Rattle.nut_server_spec.specs.Configuration.{Configuration};
-ghost use Rattle.nut_server_spec.specs.Device.{is_stale};
 ghost use Rattle.nut_server_spec.specs.Event.{Event};
 ghost use Rattle.nut_server_spec.specs.Content.{content, unheard};
 ghost use Rattle.nut_server_spec.specs.Numbering.{below};
-ghost use Rattle.nut_server_spec.specs.Acceptance.{Tells, refusal, session_of, supply_of, waiting_of, asks_of, may_read, leaves, kept, is_connected, has_login};
+ghost use Rattle.nut_server_spec.specs.Acceptance.{Tells, refusal, session_of, waiting_of, may_read, leaves};
 ghost use Rattle.nut_server_spec.specs.laws.Laws.{HasFewConnections};
 ghost use Rattle.nut_server_spec.specs.laws.Limits.{IsWithin, most_waits};
 ghost use Rattle.nut_server_spec.specs.Outcome.{IsAnswer, after};
 ghost use Rattle.nut_server_spec.specs.machine.MachineOutcome.{Answers, content_after};
 ghost use Rattle.nut_server.specs.Arrival.{event_of};
-ghost use Rattle.nut_server.specs.Seats.{makes_way};
 ghost use Rattle.nut_server.specs.Settling.{IsNextUnsettled, IsNextWaiting};
 
 use crate::address::address_of;
 use crate::arrival::Arrival;
 use crate::config::Config;
-use crate::connection::Connection;
 use crate::connections::Connections;
-use crate::deeds::{Deed, Deeds};
+use crate::deeds::Deeds;
 use crate::device::Device;
 use crate::limits::ANSWER_LINE_MAX;
 use crate::numbering::{Numbers, first_numbers};
-use crate::unread::Unread;
 use arrayvec::ArrayVec;
-use nut_conf::{CONNECTIONS_MAX, UPSES_MAX};
+use nut_conf::CONNECTIONS_MAX;
 use nut_proto::PlainReader;
 use nut_queue::ASKS_MAX;
 use nut_server_spec::{OPENED_MAX, Refused, waits_are_bounded};
-use nut_words::LINE_MAX;
 use std::alloc::{AllocError, Global};
 use std::marker::Model;
 use thiserror::Error;
 
 mod arriving;
+mod asking;
 mod hearing;
 mod reloading;
 
@@ -317,23 +312,6 @@ impl Server {
         &self.parts.config
     }
 
-    /// How many UPSes there are, at most [`UPSES_MAX`].
-    pub fn number_of_upses(&self) -> usize
-        ensures len { result ≡ length self.now.configuration.upses }
-        ensures few { result ≤ UPSES_MAX }
-    {
-        self.parts.config.number_of_upses()
-    }
-
-    /// How many places for UPSes there are, at most [`UPSES_MAX`]: as many as the greatest configuration so far had UPSes.
-    /// The number of each UPS is less.
-    pub fn number_of_places(&self) -> usize
-        ensures len { result ≡ length self.now.supplies }
-        ensures few { result ≤ UPSES_MAX }
-    {
-        self.parts.devices.len()
-    }
-
     /// Returns how many bytes wait for a connection: at most 148,005,376, and 0 if it isn't open.
     pub fn waits(&self, c: u64) -> usize
         ensures value { result ≡ length (waiting_of c self.now.sessions) }
@@ -383,110 +361,12 @@ impl Server {
         }
     }
 
-    /// Whether the client of a connection is logged in to a UPS: false if the connection isn't open.
-    pub fn is_logged_in(&self, c: u64) -> bool
-        ensures { result ≡ has_login (session_of c self.now.sessions) }
-    {
-        match self.parts.connections.get(c) {
-            Some(connection) => connection.login().is_some(),
-            None => false,
-        }
-    }
-
-    /// How many bytes are kept of a connection's unfinished line, at most [`LINE_MAX`].
-    pub fn kept(&self, c: u64) -> usize
-        ensures value { result ≡ kept (session_of c self.now.sessions) }
-        ensures within { result ≤ LINE_MAX }
-    {
-        self.parts.connections.get(c).map_or(0, Connection::kept)
-    }
-
-    /// Whether the driver of a UPS is connected.
-    pub fn is_connected(&self, u: usize) -> bool
-        ensures { result ≡ is_connected (supply_of u self.now.supplies) }
-    {
-        self.parts.devices.get(u).is_some_and(Device::is_connected)
-    }
-
-    /// Whether the data of a UPS are stale. If its driver is connected, clients are then answered DATA-STALE. A place
-    /// that a reload has left without a UPS is stale. False if no place has this number.
-    pub fn is_stale(&self, u: usize) -> bool
-        ensures { result ≡ option_map_or (λ s. is_stale self.now.configuration.max_age self.now.clock s.device) (supply_of u self.now.supplies) false }
-    {
-        match self.parts.devices.get(u) {
-            Some(device) => {
-                device.is_stale(u64::from(self.parts.config.max_age()), self.parts.clock)
-            }
-            None => false,
-        }
-    }
-
-    /// Whether a shutdown of a UPS was forced (FSD). Clients then see `FSD ` before the value of its `ups.status`.
-    /// False if there is no such UPS.
-    pub fn is_forced(&self, u: usize) -> bool
-        ensures { result ≡ option_map_or (λ s. s.device.forced) (supply_of u self.now.supplies) false }
-    {
-        self.parts.devices.get(u).is_some_and(Device::is_forced)
-    }
-
-    /// Returns which variables the driver of a UPS has said something about that couldn't be read, if there is such a place:
-    /// since the server was made, or since a reload gave the place another UPS or driver.
-    pub fn unread(&self, u: usize) -> Option<&Unread> {
-        self.parts.devices.get(u).map(Device::unread)
-    }
-
-    /// How many deeds of clients there were: requests that were handed on to a driver, LOGIN, LOGOUT and FSD that were
-    /// granted, and answers ACCESS-DENIED.
-    pub fn deeds(&self) -> u64 {
-        self.parts.deeds.count()
-    }
-
-    /// Returns the last deed of a client, if there was one.
-    pub fn last_deed(&self) -> Option<&Deed> {
-        self.parts.deeds.last()
-    }
-
-    /// How many bytes wait for the driver of a UPS, at most [`ASKS_MAX`]: 0 where there is no such UPS.
-    pub fn waits_for_driver(&self, u: usize) -> usize
-        ensures value { result ≡ length (asks_of u self.now.supplies) }
-        ensures within { result ≤ ASKS_MAX }
-    {
-        self.parts.devices.get(u).map_or(0, Device::waits)
-    }
-
-    /// Returns a front part of the bytes that wait for the driver of a UPS. It is empty only if none wait.
-    pub fn waiting_for_driver(&self, u: usize) -> &[u8]
-        ensures { IsFrontPart result.now (asks_of u self.now.supplies) }
-    {
-        match self.parts.devices.get(u) {
-            Some(device) => device.waiting(),
-            None => &[],
-        }
-    }
-
     /// Returns the least number, from `least` on, of a connection for which bytes wait or which is to be closed.
     pub fn next_unsettled(&self, least: u64) -> Option<u64>
         ensures next { IsNextUnsettled self.now.sessions least result }
         ensures fits { IfSome result (λ c. c < u64.MAX) }
     {
         self.parts.connections.first_unsettled(least)
-    }
-
-    /// Returns the number of the connection that is to be closed if a client calls: of those whose clients aren't logged in
-    /// the one that was opened first; those whose clients gave the name and the password of a user come last. Returns `None`
-    /// if a connection can be opened as it is, if all clients are logged in, or if [`OPENED_MAX`] connections were opened.
-    pub fn makes_way(&self) -> Option<u64>
-        ensures value { result ≡ makes_way self.now }
-        ensures not_logged_in { IfSome result (λ c. has_login (session_of c self.now.sessions) ≡ false) }
-    {
-        if self.parts.connections.len() < self.parts.config.most_connections()
-            || self.parts.opened >= OPENED_MAX
-        {
-            return None;
-        }
-        self.parts
-            .connections
-            .longest_without_login(&self.parts.config)
     }
 
     /// Returns the least number, from `least` on, of a UPS for whose driver bytes wait. In its callers its loop would carry their
