@@ -5,6 +5,7 @@
 mod memory;
 mod replay;
 mod serving;
+mod settling;
 mod streams;
 mod types;
 mod world;

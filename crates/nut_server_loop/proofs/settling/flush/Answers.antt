@@ -1,7 +1,7 @@
 use Rattle.std.proofs.Common.{refl, ◌∙◌}
 use Rattle.nut_server_loop.proofs.Steps.{at_err}
 use Rattle.nut_server_loop.proofs.Settles.{only_twice}
-use Rattle.nut_server_loop.proofs.serving.flush.Goals as goal
+use Rattle.nut_server_loop.proofs.settling.flush.Goals as goal
 
 pub loop-init : goal.loop-init
 loop-init g c = record {

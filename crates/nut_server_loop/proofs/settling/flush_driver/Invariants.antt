@@ -1,7 +1,7 @@
 use Rattle.std.proofs.Common.{◌≡◌, [], length}
 use Rattle.nut_server_spec.specs.Acceptance.{asks_of}
 use Rattle.nut_server_loop.specs.Served.{Served, OnlyAtDriver, KeepsLate, StaysLate}
-use Rattle.nut_server_loop.proofs.serving.flush_driver.Given as goal
+use Rattle.nut_server_loop.proofs.settling.flush_driver.Given as goal
 
 abbrev pub ghost-write_requests_once : goal.ghost-write_requests_once
 ghost-write_requests_once g a = g.first

@@ -1,7 +1,7 @@
 use Rattle.std.proofs.Common.{◌≡◌, ◌<◌, ◌-◌, ◌^◌, ℕ, []}
 use Rattle.nut_server_loop.specs.Record.{IsDriverSettled}
 use Rattle.nut_server_loop.specs.Served.{Served, KeepsLate}
-use Rattle.nut_server_loop.proofs.serving.settle_drivers.Given as goal
+use Rattle.nut_server_loop.proofs.settling.settle_drivers.Given as goal
 
 abbrev pub ghost-flush_driver : goal.ghost-flush_driver
 ghost-flush_driver g a = g.first

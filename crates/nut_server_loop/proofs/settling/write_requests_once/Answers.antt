@@ -1,8 +1,8 @@
-use Rattle.std.proofs.Common.{◌<◌, [], length, refl, sym, ap, subst, ◌∙◌, arith}
+use Rattle.std.proofs.Common.{◌<◌, [], length, refl, sym, subst, ◌∙◌, arith}
 use Rattle.nut_server_loop.proofs.Steps.{at_err, stays}
 use Rattle.nut_server_loop.proofs.Requests.{request_took, request_late, request_broke, closed_driver}
 use Rattle.nut_server_loop.proofs.Settles.{asks_less, front_some, none_shown, only_drained, none_asked, only_gone}
-use Rattle.nut_server_loop.proofs.serving.write_requests_once.Goals as goal
+use Rattle.nut_server_loop.proofs.settling.write_requests_once.Goals as goal
 
 pub returns-then-is_empty-clause-ok : goal.returns-then-is_empty-clause-ok
 returns-then-is_empty-clause-ok g c = c.requires.1.1

@@ -2,7 +2,7 @@ use Rattle.std.proofs.Common.{◌≡◌, ◌<◌, ◌-◌, ◌^◌, ℕ, [], fal
 use Rattle.nut_server_spec.specs.Acceptance.{session_of, leaves}
 use Rattle.nut_server_loop.specs.Record.{IsSettled}
 use Rattle.nut_server_loop.specs.Served.{Served}
-use Rattle.nut_server_loop.proofs.serving.settle_connections.Given as goal
+use Rattle.nut_server_loop.proofs.settling.settle_connections.Given as goal
 
 abbrev pub ghost-settle : goal.ghost-settle
 ghost-settle g a = g.first

@@ -3,7 +3,7 @@ use Rattle.nut_server_spec.specs.Acceptance.{session_of, waiting_in, leaves}
 use Rattle.nut_server_loop.proofs.Steps.{at_err, stays}
 use Rattle.nut_server_loop.proofs.Writes.{closed_left}
 use Rattle.nut_server_loop.proofs.Settles.{gone_after_close, only_closed, only_twice}
-use Rattle.nut_server_loop.proofs.serving.settle.Goals as goal
+use Rattle.nut_server_loop.proofs.settling.settle.Goals as goal
 
 pub returns-in_ok-close-clause-ok : goal.returns-in_ok-close-clause-ok
 returns-in_ok-close-clause-ok g c =

@@ -1,4 +1,4 @@
-use Rattle.nut_server_loop.proofs.serving.settle_all.Given as goal
+use Rattle.nut_server_loop.proofs.settling.settle_all.Given as goal
 
 abbrev pub ghost-settle_connections : goal.ghost-settle_connections
 ghost-settle_connections g a = g.first

@@ -1,6 +1,6 @@
 use Rattle.std.proofs.Common.{refl, ◌∙◌}
 use Rattle.nut_server_loop.proofs.Steps.{at_err}
-use Rattle.nut_server_loop.proofs.serving.flush_driver.Goals as goal
+use Rattle.nut_server_loop.proofs.settling.flush_driver.Goals as goal
 
 pub loop-init : goal.loop-init
 loop-init g c = record {

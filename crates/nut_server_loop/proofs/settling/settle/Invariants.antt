@@ -1,4 +1,4 @@
-use Rattle.nut_server_loop.proofs.serving.settle.Given as goal
+use Rattle.nut_server_loop.proofs.settling.settle.Given as goal
 
 abbrev pub ghost-flush : goal.ghost-flush
 ghost-flush g a = g.first

@@ -2,7 +2,7 @@ use Rattle.std.proofs.Common.{◌<◌, [], length, refl, sym, subst, ◌∙◌, 
 use Rattle.nut_server_loop.proofs.Steps.{at_err, stays, whole_is_front}
 use Rattle.nut_server_loop.proofs.Writes.{write_took, write_late, write_broke, closed_ended}
 use Rattle.nut_server_loop.proofs.Settles.{waits_less, waits_some, only_took, none_waits, only_broke}
-use Rattle.nut_server_loop.proofs.serving.write_once.Goals as goal
+use Rattle.nut_server_loop.proofs.settling.write_once.Goals as goal
 
 pub returns-then-is_empty-clause-ok : goal.returns-then-is_empty-clause-ok
 returns-then-is_empty-clause-ok g c = c.requires.1.1

@@ -1,6 +1,6 @@
 use Rattle.std.proofs.Common.{◌+◌, ◌∙◌, ap, is_ok, if◌then◌else◌}
 use Rattle.nut_server_loop.proofs.Steps.{at_err}
-use Rattle.nut_server_loop.proofs.serving.settle_all.Goals as goal
+use Rattle.nut_server_loop.proofs.settling.settle_all.Goals as goal
 
 pub returns-in_err-settle_connections-clause-err : goal.returns-in_err-settle_connections-clause-err
 returns-in_err-settle_connections-clause-err g c = at_err _ g.first _ _ _ c.in_err-settle_connections.ensures.err.1

@@ -1,7 +1,7 @@
 use Rattle.std.proofs.Common.{◌≡◌, [], length}
 use Rattle.nut_server_spec.specs.Acceptance.{waiting_of}
 use Rattle.nut_server_loop.specs.Served.{Served, OnlyAt, StaysLate}
-use Rattle.nut_server_loop.proofs.serving.flush.Given as goal
+use Rattle.nut_server_loop.proofs.settling.flush.Given as goal
 
 abbrev pub ghost-write_once : goal.ghost-write_once
 ghost-write_once g a = g.first
