@@ -14,7 +14,6 @@ ghost use Rattle.nut_server_spec.specs.machine.MachineOutcome.{Answers, content_
 ghost use Rattle.nut_server.specs.Arrival.{event_of};
 ghost use Rattle.nut_server.specs.Settling.{IsNextUnsettled, IsNextWaiting};
 
-use crate::address::address_of;
 use crate::arrival::Arrival;
 use crate::config::Config;
 use crate::connections::Connections;
