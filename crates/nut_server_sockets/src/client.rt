@@ -4,12 +4,12 @@ ghost use Rattle.std.specs.Prelude.{length};
 ghost use Rattle.nut_io.specs.Writes.{IsWithin};
 
 use crate::batches::Batches;
-use crate::login::Login;
 use mio::event::Event;
 use mio::net::TcpStream;
 use nut_io::{Piece, Written};
 use nut_poll::{Heard, Link};
 use nut_server::Server;
+use slab::Slab;
 use std::net::IpAddr;
 
 /// How many seconds a client may be silent.
@@ -24,12 +24,12 @@ pub struct Client {
     /// The number of its connection.
     number: u64,
     address: IpAddr,
-    /// Its login, if it has one.
-    login: Option<Login>,
+    /// The key of its login, if it has one.
+    login: Option<usize>,
     link: Link<TcpStream>,
     batches: Batches,
-    /// What was read from it and the server hasn't been given.
-    held: Piece,
+    /// The key of what was read from it and the server hasn't been given, if there is any.
+    held: Option<usize>,
     /// Whether there is something to read, which isn't read while an answer waits.
     is_parked: bool,
     /// Whether the server was given bytes of it and hasn't offered it any since.
@@ -47,7 +47,7 @@ impl Client {
             login: None,
             link: Link::new(stream),
             batches: Batches::new(),
-            held: Piece::new(),
+            held: None,
             is_parked: false,
             is_unanswered: false,
             spoke: second,
@@ -64,13 +64,13 @@ impl Client {
         self.address
     }
 
-    /// Notes that it is logged in.
-    pub fn note_login(&mut self, login: Login) {
-        self.login = Some(login);
+    /// Notes that it is logged in: its login has this key.
+    pub fn note_login(&mut self, key: usize) {
+        self.login = Some(key);
     }
 
-    /// Returns its login, if it had one, which has ended.
-    pub fn end_login(&mut self) -> Option<Login> {
+    /// Returns the key of its login, if it had one, which has ended.
+    pub fn end_login(&mut self) -> Option<usize> {
         self.login.take()
     }
 
@@ -86,12 +86,11 @@ impl Client {
     }
 
     /// Reads up to a piece, and returns as much of it as the server is given at once. The rest is held, and returned
-    /// before anything more is read.
-    pub fn hear(&mut self, piece: &mut Piece, second: u64) -> Heard {
-        let heard = if self.held.is_empty() {
-            self.link.hear(piece)
-        } else {
-            self.take_held(piece)
+    /// before anything more is read. If there is no room to hold it, that is the end of the connection.
+    pub fn hear(&mut self, piece: &mut Piece, held: &mut Slab<Piece>, second: u64) -> Heard {
+        let heard = match self.held.take() {
+            Some(key) => take_held(held, key, piece),
+            None => self.link.hear(piece),
         };
         if heard == Heard::Nothing || heard == Heard::End {
             return heard;
@@ -105,17 +104,17 @@ impl Client {
         if later.is_empty() {
             return heard;
         }
-        let _ = self.held.try_extend_from_slice(later);
+        self.held = hold(held, later);
+        if self.held.is_none() {
+            return Heard::End;
+        }
         piece.truncate(end);
         Heard::Part
     }
 
-    /// Returns what is held. There may be more to read.
-    fn take_held(&mut self, piece: &mut Piece) -> Heard {
-        piece.clear();
-        let _ = piece.try_extend_from_slice(self.held.as_slice());
-        self.held.clear();
-        Heard::Part
+    /// Returns the key of what was read from it and won't be given to the server, if there is any.
+    pub fn end_held(&mut self) -> Option<usize> {
+        self.held.take()
     }
 
     /// Puts off reading until a write to the client succeeds.
@@ -157,6 +156,25 @@ impl Client {
     pub fn last_of(&self, patience: u64) -> u64 {
         self.spoke.saturating_add(patience)
     }
+}
+
+/// Holds bytes, and returns their key, or `None` if there is no room for them. It stands apart, so that no piece that is handed
+/// on whole pays for the place of another.
+#[inline(never)]
+fn hold(held: &mut Slab<Piece>, bytes: &[u8]) -> Option<usize> {
+    let mut piece = Piece::new();
+    piece.try_extend_from_slice(bytes).ok()?;
+    held.insert(piece).ok()
+}
+
+/// Puts the bytes that are held under this key into the piece. There may be more to read.
+#[inline(never)]
+fn take_held(held: &mut Slab<Piece>, key: usize, piece: &mut Piece) -> Heard {
+    piece.clear();
+    if let Some(bytes) = held.try_remove(key) {
+        let _ = piece.try_extend_from_slice(bytes.as_slice());
+    }
+    Heard::Part
 }
 
 /// Whether these bytes end a line. Most end with one.

@@ -1,6 +1,6 @@
 //! The sockets of clients.
 
-ghost use Rattle.std.specs.Prelude.{◌≡◌, true, length, IfSome};
+ghost use Rattle.std.specs.Prelude.{◌≡◌, ◌<◌, true, length, IfSome};
 ghost use Rattle.nut_io.specs.Writes.{IsWithin};
 ghost use Rattle.nut_server_spec.specs.Acceptance.{may_read, session_of};
 
@@ -11,15 +11,18 @@ use crate::login::Login;
 use crate::source::Source;
 use mio::event::Event;
 use mio::{Interest, Registry};
+use nut_conf::CONNECTIONS_MAX;
 use nut_io::{Piece, Written};
 use nut_poll::Heard;
 use nut_server::Server;
 use slab::Slab;
-use std::alloc::Global;
-use std::collections::HashMap;
+use std::alloc::{AllocError, Global};
 use std::io;
 use std::io::ErrorKind;
 use std::net::IpAddr;
+
+/// The greatest number of clients.
+const CLIENTS_MAX: usize = CONNECTIONS_MAX as usize;
 
 /// A client that has been silent for longer than it may.
 #[derive(Clone, Copy)]
@@ -37,7 +40,13 @@ pub struct Silent {
 #[derive(Drop)]
 pub struct Clients {
     sockets: Slab<Client>,
-    keys: HashMap<u64, usize>,
+    /// The number of each connection, and the key of its socket, by rising number: the newest is the last.
+    keys: Vec<(u64, usize)>,
+    /// The logins of clients. Each client has at most one, and most have none, so a client keeps its key: nothing is written to
+    /// the room of all others.
+    logins: Slab<Login>,
+    /// What was read from clients and the server hasn't been given, kept as the logins are.
+    held: Slab<Piece>,
     /// The key of the socket that was read last. Most bytes are offered to that connection.
     last_heard: usize,
     /// How many seconds the server has been awake. Seconds in which it was stopped don't count as silence of a client.
@@ -47,27 +56,29 @@ pub struct Clients {
 }
 
 impl Clients {
-    /// Returns an empty set of sockets.
-    pub fn new(alloc: Global) -> Clients {
-        Clients {
-            sockets: Slab::new(alloc),
-            keys: HashMap::new(alloc),
-            last_heard: 0,
-            second: 0,
-            patient: u64::MAX,
-        }
-    }
-
-    /// Makes room for one more socket. Returns false if memory cannot be allocated.
-    pub fn make_room(&mut self) -> bool {
-        self.sockets.reserve(1).is_ok() && self.keys.try_reserve(1).is_ok()
-    }
-
-    /// Keeps the socket of a connection and registers it with the poll.
+    /// Returns an empty set of sockets, with room for those of all connections that may be open at once. So no client needs
+    /// memory to be let in.
     ///
     /// # Errors
     ///
-    /// The error of the registration, or a lack of memory. The socket is closed then.
+    /// [`AllocError`] if memory cannot be allocated.
+    pub fn with_room(alloc: Global) -> Result<Clients, AllocError> {
+        Ok(Clients {
+            sockets: Slab::with_capacity(alloc, CLIENTS_MAX)?,
+            keys: Vec::with_capacity(alloc, CLIENTS_MAX)?,
+            logins: Slab::with_capacity(alloc, CLIENTS_MAX)?,
+            held: Slab::with_capacity(alloc, CLIENTS_MAX)?,
+            last_heard: 0,
+            second: 0,
+            patient: u64::MAX,
+        })
+    }
+
+    /// Keeps the socket of a connection and registers it with the poll. Its number is greater than those of all others.
+    ///
+    /// # Errors
+    ///
+    /// The error of the registration. The socket is closed then.
     pub fn add(&mut self, registry: &Registry, number: u64, guest: Guest) -> io::Result<()> {
         let Guest {
             mut stream,
@@ -80,14 +91,21 @@ impl Clients {
         keep_alive(&stream);
         let client = Client::new(number, address, stream, self.second);
         self.patient = self.patient.min(client.last_of(PATIENCE));
-        if self.keys.insert(number, key).is_err() {
-            return Err(io::Error::from(ErrorKind::OutOfMemory));
-        }
         if self.sockets.insert(client).is_err() {
-            self.keys.remove(&number);
             return Err(io::Error::from(ErrorKind::OutOfMemory));
         }
+        self.keys.push((number, key))?;
         Ok(())
+    }
+
+    /// Returns the place of a connection in the list of keys.
+    fn place(&self, number: u64) -> Option<usize>
+        ensures { IfSome result (λ place. place < length self.now.keys.items) }
+    {
+        self.keys
+            .as_slice()
+            .binary_search_by_key(&number, |key| key.0)
+            .ok()
     }
 
     /// Returns the key of the socket of a connection. That of the socket that was read last is found without a search.
@@ -97,7 +115,7 @@ impl Clients {
         {
             return Some(self.last_heard);
         }
-        self.keys.get(&number).copied()
+        Some(self.keys[self.place(number)?].1)
     }
 
     /// Reads from a socket, if the server may read its connection. If not, that is put off until a write to it succeeds.
@@ -112,7 +130,7 @@ impl Clients {
             return None;
         }
         self.last_heard = key;
-        Some((number, client.hear(piece, self.second)))
+        Some((number, client.hear(piece, &mut self.held, self.second)))
     }
 
     /// Notes an event of a socket.
@@ -167,38 +185,52 @@ impl Clients {
         None
     }
 
-    /// Closes the socket of a connection to let another client in. Returns the address of its client.
-    pub fn turn_out(&mut self, number: u64) -> Option<IpAddr> {
-        let key = self.keys.remove(&number)?;
-        let client = self.sockets.try_remove(key)?;
-        Some(client.address())
+    /// Takes the client of a connection out, and forgets its login and what is held of it.
+    fn remove(&mut self, number: u64) -> Option<Client> {
+        let place = self.place(number)?;
+        let (_, key) = self.keys.remove(place);
+        let mut client = self.sockets.try_remove(key)?;
+        if let Some(login) = client.end_login() {
+            self.logins.try_remove(login);
+        }
+        if let Some(held) = client.end_held() {
+            self.held.try_remove(held);
+        }
+        Some(client)
     }
 
-    /// Returns the client of a connection.
-    fn client_mut(&mut self, number: u64) -> Option<&mut Client> {
-        let key = self.key(number)?;
-        self.sockets.get_mut(key)
+    /// Closes the socket of a connection to let another client in. Returns the address of its client.
+    pub fn turn_out(&mut self, number: u64) -> Option<IpAddr> {
+        let client = self.remove(number)?;
+        Some(client.address())
     }
 
     /// Notes that the client of a connection is logged in. Returns the login if the connection isn't open any more.
     pub fn note_login(&mut self, number: u64, login: Login) -> Option<Login> {
-        match self.client_mut(number) {
-            Some(client) => {
-                client.note_login(login);
+        let Some(key) = self.key(number) else {
+            return Some(login);
+        };
+        let Some(client) = self.sockets.get_mut(key) else {
+            return Some(login);
+        };
+        match self.logins.insert(login) {
+            Ok(key) => {
+                client.note_login(key);
                 None
             }
-            None => Some(login),
+            Err(failed) => Some(failed.value),
         }
     }
 
     /// Returns the login of the client of a connection, if it had one, which has ended.
     pub fn end_login(&mut self, number: u64) -> Option<Login> {
-        self.client_mut(number)?.end_login()
+        let key = self.key(number)?;
+        let login = self.sockets.get_mut(key)?.end_login()?;
+        self.logins.try_remove(login)
     }
 
     /// Closes the socket of a connection. Returns the address of its client if that is unanswered.
     pub fn close(&mut self, number: u64) -> Option<IpAddr> {
-        let key = self.keys.remove(&number)?;
-        self.sockets.try_remove(key)?.unanswered()
+        self.remove(number)?.unanswered()
     }
 }

@@ -1,6 +1,6 @@
 //! All sockets of a server, watched by one poll.
 
-ghost use Rattle.std.specs.Prelude.{◌≡◌, ◌≢◌, ℕ, [], length, IfSome, IfOk, unwrap_or, false, None};
+ghost use Rattle.std.specs.Prelude.{◌≡◌, ◌≢◌, [], length, IfSome, IfOk, unwrap_or};
 ghost use Rattle.std.specs.declared.time.Duration.{Duration};
 ghost use Rattle.mio.specs.Events.{items};
 ghost use Rattle.nut_io.specs.Writes.{IsWithin};
@@ -9,12 +9,12 @@ ghost use Rattle.nut_poll.specs.Queue.{Looks, all_joined, reported};
 ghost use Rattle.nut_server_loop.specs.Record.{MayCome};
 ghost use Rattle.nut_server_loop.specs.declared.types.Next.TheVariants as next;
 ghost use Rattle.nut_server_sockets.specs.declared.source.Source.TheVariants as source;
-ghost use Rattle.nut_server_sockets.specs.Turns.{Comes, ComesInTurn, IsGivenBy, is_piece, moment_of, token_of};
+ghost use Rattle.nut_server_sockets.specs.Turns.{Comes, ComesInTurn, IsGivenBy, token_of};
 ghost use Rattle.nut_server_spec.specs.Content.{Content};
 
 use crate::audit::{Audit, left};
 use crate::clients::Clients;
-use crate::door::{Admission, Door, Guest, concerns_one};
+use crate::door::Door;
 use crate::driver::Driver;
 use crate::drivers::Drivers;
 use crate::hindrances::Hindrances;
@@ -23,19 +23,19 @@ use crate::reloader::Reloader;
 use crate::report::{End, Report};
 use crate::source::Source;
 use crate::stall::Stall;
-use arrayvec::ArrayVec;
 use mio::{Events, Token};
 use nut_io::{Piece, Written};
 use nut_poll::{Heard, LookUps, Ready, Reports, Rounds, SOCKETS_MAX, may_be_read};
-use nut_server::{Config, Server, silence_before_ping};
+use nut_server::Server;
 use nut_server_loop::Next;
-use nut_server_spec::ADDRESS_MAX;
 use std::alloc::Global;
 use std::io;
-use std::io::{ErrorKind, Write};
-use std::net::{IpAddr, Net};
+use std::net::Net;
 use std::process::Processes;
 use std::time::Clock;
+
+mod entrance;
+mod seconds;
 
 /// What the sockets are watched with, which the program gives.
 #[derive(Drop)]
@@ -80,6 +80,7 @@ impl Sockets {
         listeners: Listeners,
         drivers: Drivers,
     ) -> io::Result<Sockets> {
+        let clients = Clients::with_room(alloc)?;
         let stall = Stall::new(alloc)?;
         let audit = Audit::new(alloc)?;
         let rounds = Rounds::new(rt, alloc, listeners.len())?;
@@ -87,7 +88,7 @@ impl Sockets {
         let mut sockets = Sockets {
             rounds,
             door,
-            clients: Clients::new(alloc),
+            clients,
             hindrances: Hindrances::none(),
             audit,
             drivers,
@@ -198,120 +199,6 @@ impl Sockets {
         }
     }
 
-    /// Keeps the socket of a connection that the server accepted, and reports that it refused one. Returns the number of a
-    /// connection that the server accepted and whose socket can't be kept.
-    fn seat(&mut self, server: &Server, reports: &mut Reports<'_>) -> Option<u64>
-        ensures { self.new.rounds ≡ self.old.rounds }
-    {
-        if !self.door.has_arrival() {
-            return None;
-        }
-        self.seat_arrival(server, reports)
-    }
-
-    /// Does what [`seat`](Self::seat) does. It stands apart, so that no other arrival pays for the place of a guest.
-    #[inline(never)]
-    fn seat_arrival(&mut self, server: &Server, reports: &mut Reports<'_>) -> Option<u64>
-        ensures { self.new.rounds ≡ self.old.rounds }
-    {
-        match self.door.admission(server)? {
-            Admission::Accepted(number, guest) => self.keep(number, guest, reports),
-            Admission::Refused => {
-                self.hindrances.tell_refusal(server, reports);
-                None
-            }
-        }
-    }
-
-    /// Keeps the socket of a connection. Returns its number if that is impossible.
-    fn keep(&mut self, number: u64, guest: Guest, reports: &mut Reports<'_>) -> Option<u64>
-        ensures { self.new.rounds ≡ self.old.rounds }
-    {
-        match self.clients.add(self.rounds.registry(), number, guest) {
-            Ok(()) => {
-                self.hindrances.end();
-                None
-            }
-            Err(error) => {
-                self.hindrances.tell_error(error, reports);
-                Some(number)
-            }
-        }
-    }
-
-    /// Has the server told of a client that was accepted. If the server is full, one that isn't logged in is closed first,
-    /// so that nobody locks the monitors out; after a reload that lowered MAXCONN, one after the other is.
-    fn admit(
-        &mut self,
-        server: &Server,
-        piece: &mut Piece,
-        reports: &mut Reports<'_>,
-    ) -> Option<Next>
-        ensures may { IfSome result (λ n. MayCome n server.now) }
-        ensures goes_on { IfSome result (λ n. n ≢ next.End) }
-        ensures none { IfSome result (λ n. (is_piece n ≡ false) × (moment_of n ≡ None)) }
-        ensures given { IfSome result (λ n. (token : ℕ) → IsGivenBy token n) }
-        ensures turns { self.new.rounds ≡ self.old.rounds }
-    {
-        if !self.door.has_guest() {
-            return None;
-        }
-        self.admit_guest(server, piece, reports)
-    }
-
-    /// Does what [`admit`](Self::admit) does, if a client was accepted. It stands apart as [`seat_arrival`](Self::seat_arrival).
-    #[inline(never)]
-    fn admit_guest(
-        &mut self,
-        server: &Server,
-        piece: &mut Piece,
-        reports: &mut Reports<'_>,
-    ) -> Option<Next>
-        ensures may { IfSome result (λ n. MayCome n server.now) }
-        ensures goes_on { IfSome result (λ n. n ≢ next.End) }
-        ensures none { IfSome result (λ n. (is_piece n ≡ false) × (moment_of n ≡ None)) }
-        ensures given { IfSome result (λ n. (token : ℕ) → IsGivenBy token n) }
-        ensures turns { self.new.rounds ≡ self.old.rounds }
-    {
-        if let Some(number) = server.makes_way() {
-            self.turn_out(server, number, reports);
-            return Some(Next::Close(number));
-        }
-        let address = self.door.announce(server.opened())?;
-        show_address(address, piece);
-        Some(Next::Open)
-    }
-
-    /// Closes the socket of a connection to let another client in, and reports it.
-    fn turn_out(&mut self, server: &Server, number: u64, reports: &mut Reports<'_>)
-        ensures { self.new.rounds ≡ self.old.rounds }
-    {
-        if let Some(address) = self.clients.turn_out(number) {
-            self.hindrances.tell_way(address, server, reports);
-        }
-    }
-
-    /// Closes the socket of a client that was silent for too long. Returns the number of its connection.
-    fn shed(&mut self, server: &Server, reports: &mut Reports<'_>) -> Option<u64>
-        ensures { self.new.rounds ≡ self.old.rounds }
-    {
-        if !self.clients.may_be_silent() {
-            return None;
-        }
-        self.shed_silent(server, reports)
-    }
-
-    /// Does what [`shed`](Self::shed) does. It stands apart as [`seat_arrival`](Self::seat_arrival).
-    #[inline(never)]
-    fn shed_silent(&mut self, server: &Server, reports: &mut Reports<'_>) -> Option<u64>
-        ensures { self.new.rounds ≡ self.old.rounds }
-    {
-        let silent = self.clients.find_silent(server)?;
-        reports.tell(Report::Shed(silent.address, silent.seconds));
-        self.drop_client(silent.number, reports);
-        Some(silent.number)
-    }
-
     /// Closes the socket of a client that hasn't logged out, and reports that if it was logged in.
     fn drop_client(&mut self, number: u64, reports: &mut Reports<'_>)
         ensures { self.new.rounds ≡ self.old.rounds }
@@ -320,54 +207,6 @@ impl Sockets {
             reports.tell(left(&login));
         }
         let _ = self.clients.close(number);
-    }
-
-    /// Returns a new configuration, if one is asked for in this second.
-    fn reload(
-        &mut self,
-        server: &Server,
-        reloader: &mut impl Reloader,
-        reports: &mut Reports<'_>,
-    ) -> Option<Box<Config>>
-        ensures { self.new.rounds ≡ self.old.rounds }
-    {
-        if !self.asks {
-            return None;
-        }
-        self.asks = false;
-        let config = reloader.look(server, reports)?;
-        self.has_given = true;
-        Some(config)
-    }
-
-    /// Once the server has been told a new configuration, has that reported, and takes the drivers of the UPSes that the
-    /// server has now.
-    fn end_reload(
-        &mut self,
-        server: &Server,
-        reloader: &mut impl Reloader,
-        reports: &mut Reports<'_>,
-    )
-        ensures { Comes self.old.rounds self.new.rounds }
-    {
-        if self.has_given {
-            self.has_given = false;
-            reloader.tell(server, reports);
-            self.drivers.follow(server);
-            self.call_drivers();
-        }
-    }
-
-    /// Has each driver that isn't connected dialled in this round.
-    fn call_drivers(&mut self)
-        ensures { Comes self.old.rounds self.new.rounds }
-    {
-        for u in 0..self.drivers.len() {
-            if self.drivers.is_unconnected(u) {
-                self.rounds.ready.insert(Source::Driver(u).token());
-            }
-        }
-        self.rounds.begin();
     }
 
     /// Looks at the sockets of this round until one has something to tell.
@@ -429,42 +268,6 @@ impl Sockets {
             Source::Listener(i) => self.look_at_listener(server, i, piece, reports),
             Source::Driver(u) => self.look_at_driver(u, piece, net, reports),
             Source::Client(key) => self.look_at_client(server, key, piece, reports),
-        }
-    }
-
-    /// Accepts a client. If there is no memory or no descriptor for one, that is reported, whether or not a client waits,
-    /// and tried again in the next second.
-    #[inline(never)]
-    fn look_at_listener(
-        &mut self,
-        server: &Server,
-        i: usize,
-        piece: &mut Piece,
-        reports: &mut Reports<'_>,
-    ) -> Option<Next>
-        ensures may { IfSome result (λ n. MayCome n server.now) }
-        ensures goes_on { IfSome result (λ n. n ≢ next.End) }
-        ensures given { IfSome result (λ n. (token : ℕ) → IsGivenBy token n) }
-        ensures turns { Comes self.old.rounds self.new.rounds }
-    {
-        if !self.clients.make_room() {
-            self.hindrances
-                .tell_error(io::Error::from(ErrorKind::OutOfMemory), reports);
-            return None;
-        }
-        match self.door.let_in(i) {
-            Ok(()) => {
-                self.rounds.ready.insert(Source::Listener(i).token());
-                self.admit(server, piece, reports)
-            }
-            Err(error) => {
-                if concerns_one(&error) {
-                    self.rounds.ready.insert(Source::Listener(i).token());
-                } else if error.kind() != ErrorKind::WouldBlock {
-                    self.hindrances.tell_error(error, reports);
-                }
-                None
-            }
         }
     }
 
@@ -560,46 +363,6 @@ impl Sockets {
         self.rounds.turn(clock)
     }
 
-    /// Begins a second: the reloader is to be asked, and the drivers that aren't connected are to be dialled. If more than
-    /// one second and more than a third of MAXAGE passed at once, the drivers are sent PING now, and clients wait until
-    /// they have answered, two seconds at most.
-    fn begin_second(&mut self, server: &Server, moment: u64, reports: &mut Reports<'_>)
-        ensures { Comes self.old.rounds self.new.rounds }
-    {
-        let passed = moment.saturating_sub(self.moment);
-        self.moment = moment;
-        self.clients.second();
-        self.hindrances.second();
-        self.audit.second(reports);
-        self.drivers.catch_up(server);
-        self.tell_changes(server, reports);
-        self.call_drivers();
-        self.asks = true;
-        let max_age = u64::from(server.config().max_age());
-        if passed > 1 && passed > silence_before_ping(max_age) {
-            self.drivers.await_words();
-            self.stall.begin();
-        } else {
-            self.stall.second(&mut self.rounds.ready);
-        }
-    }
-
-    /// Reports the UPSes whose data have become stale in the last second or are no longer stale, and what their drivers
-    /// said that can't be read. What passes within a second isn't told: the data of each driver are stale from its
-    /// connection to the end of its first dump, and a driver that changed its mind with every line would fill the log.
-    fn tell_changes(&mut self, server: &Server, reports: &mut Reports<'_>)
-        ensures { self.new.rounds ≡ self.old.rounds }
-    {
-        for u in 0..self.drivers.len() {
-            if let Some(driver) = self.drivers.get_mut(u) {
-                tell_staleness(driver, server.is_stale(u), reports);
-                if let Some(unread) = server.unread(u) {
-                    driver.tell_unread(unread, reports);
-                }
-            }
-        }
-    }
-
     /// Lets clients be read again, once each driver has said something.
     fn end_stall(&mut self)
         ensures { Comes self.old.rounds self.new.rounds }
@@ -622,22 +385,6 @@ fn end_of(driver: &Driver, is_reload: bool) -> End {
     }
 }
 
-/// Reports what has become of the data of a UPS, if that is new.
-fn tell_staleness(driver: &mut Driver, is_stale: bool, reports: &mut Reports<'_>) {
-    if driver.note_staleness(is_stale) {
-        reports.tell(staleness(driver.name(), is_stale));
-    }
-}
-
-/// Returns the report that the data of a UPS are stale, or no longer are.
-fn staleness(name: &str, is_stale: bool) -> Report<'_> {
-    if is_stale {
-        Report::Stale(name)
-    } else {
-        Report::Fresh(name)
-    }
-}
-
 /// Notes the events of the sockets.
 fn note(events: &Events, ready: &mut Ready, clients: &mut Clients, drivers: &mut Drivers)
     ensures { ready.new ≡ all_joined (reported (items events.now)) ready.old }
@@ -656,12 +403,4 @@ fn note(events: &Events, ready: &mut Ready, clients: &mut Clients, drivers: &mut
             ready.insert(event.token());
         }
     }
-}
-
-/// Puts the address of a client, as the server knows it, into the piece.
-fn show_address(address: IpAddr, piece: &mut Piece) {
-    let mut shown = ArrayVec::<u8, ADDRESS_MAX>::new();
-    let _ = write!(shown, "{address}");
-    piece.clear();
-    let _ = piece.try_extend_from_slice(shown.as_slice());
 }

@@ -1,0 +1,151 @@
+//! Lets clients in.
+
+ghost use Rattle.std.specs.Prelude.{◌≡◌, ◌≢◌, ℕ, IfSome, false, None};
+ghost use Rattle.nut_server_loop.specs.Record.{MayCome};
+ghost use Rattle.nut_server_loop.specs.declared.types.Next.TheVariants as next;
+ghost use Rattle.nut_server_sockets.specs.Turns.{Comes, IsGivenBy, is_piece, moment_of};
+
+use crate::door::{Admission, Guest, concerns_one};
+use crate::sockets::Sockets;
+use crate::source::Source;
+use arrayvec::ArrayVec;
+use nut_io::Piece;
+use nut_poll::Reports;
+use nut_server::Server;
+use nut_server_loop::Next;
+use nut_server_spec::ADDRESS_MAX;
+use std::io::{ErrorKind, Write};
+use std::net::IpAddr;
+
+impl Sockets {
+    /// Keeps the socket of a connection that the server accepted, and reports that it refused one. Returns the number of a
+    /// connection that the server accepted and whose socket can't be kept.
+    pub(super) fn seat(&mut self, server: &Server, reports: &mut Reports<'_>) -> Option<u64>
+        ensures { self.new.rounds ≡ self.old.rounds }
+    {
+        if !self.door.has_arrival() {
+            return None;
+        }
+        self.seat_arrival(server, reports)
+    }
+
+    /// Does what [`seat`](Self::seat) does. It stands apart, so that no other arrival pays for the place of a guest.
+    #[inline(never)]
+    fn seat_arrival(&mut self, server: &Server, reports: &mut Reports<'_>) -> Option<u64>
+        ensures { self.new.rounds ≡ self.old.rounds }
+    {
+        match self.door.admission(server)? {
+            Admission::Accepted(number, guest) => self.keep(number, guest, reports),
+            Admission::Refused => {
+                self.hindrances.tell_refusal(server, reports);
+                None
+            }
+        }
+    }
+
+    /// Keeps the socket of a connection. Returns its number if that is impossible.
+    fn keep(&mut self, number: u64, guest: Guest, reports: &mut Reports<'_>) -> Option<u64>
+        ensures { self.new.rounds ≡ self.old.rounds }
+    {
+        match self.clients.add(self.rounds.registry(), number, guest) {
+            Ok(()) => {
+                self.hindrances.end();
+                None
+            }
+            Err(error) => {
+                self.hindrances.tell_error(error, reports);
+                Some(number)
+            }
+        }
+    }
+
+    /// Has the server told of a client that was accepted. If the server is full, one that isn't logged in is closed first,
+    /// so that nobody locks the monitors out; after a reload that lowered MAXCONN, one after the other is.
+    pub(super) fn admit(
+        &mut self,
+        server: &Server,
+        piece: &mut Piece,
+        reports: &mut Reports<'_>,
+    ) -> Option<Next>
+        ensures may { IfSome result (λ n. MayCome n server.now) }
+        ensures goes_on { IfSome result (λ n. n ≢ next.End) }
+        ensures none { IfSome result (λ n. (is_piece n ≡ false) × (moment_of n ≡ None)) }
+        ensures given { IfSome result (λ n. (token : ℕ) → IsGivenBy token n) }
+        ensures turns { self.new.rounds ≡ self.old.rounds }
+    {
+        if !self.door.has_guest() {
+            return None;
+        }
+        self.admit_guest(server, piece, reports)
+    }
+
+    /// Does what [`admit`](Self::admit) does, if a client was accepted. It stands apart as [`seat_arrival`](Self::seat_arrival).
+    #[inline(never)]
+    fn admit_guest(
+        &mut self,
+        server: &Server,
+        piece: &mut Piece,
+        reports: &mut Reports<'_>,
+    ) -> Option<Next>
+        ensures may { IfSome result (λ n. MayCome n server.now) }
+        ensures goes_on { IfSome result (λ n. n ≢ next.End) }
+        ensures none { IfSome result (λ n. (is_piece n ≡ false) × (moment_of n ≡ None)) }
+        ensures given { IfSome result (λ n. (token : ℕ) → IsGivenBy token n) }
+        ensures turns { self.new.rounds ≡ self.old.rounds }
+    {
+        if let Some(number) = server.makes_way() {
+            self.turn_out(server, number, reports);
+            return Some(Next::Close(number));
+        }
+        let address = self.door.announce(server.opened())?;
+        show_address(address, piece);
+        Some(Next::Open)
+    }
+
+    /// Closes the socket of a connection to let another client in, and reports it.
+    fn turn_out(&mut self, server: &Server, number: u64, reports: &mut Reports<'_>)
+        ensures { self.new.rounds ≡ self.old.rounds }
+    {
+        if let Some(address) = self.clients.turn_out(number) {
+            self.hindrances.tell_way(address, server, reports);
+        }
+    }
+
+    /// Accepts a client. If there is no descriptor for one, that is reported, and tried again in the next second.
+    #[inline(never)]
+    pub(super) fn look_at_listener(
+        &mut self,
+        server: &Server,
+        i: usize,
+        piece: &mut Piece,
+        reports: &mut Reports<'_>,
+    ) -> Option<Next>
+        ensures may { IfSome result (λ n. MayCome n server.now) }
+        ensures goes_on { IfSome result (λ n. n ≢ next.End) }
+        ensures given { IfSome result (λ n. (token : ℕ) → IsGivenBy token n) }
+        ensures turns { Comes self.old.rounds self.new.rounds }
+    {
+        match self.door.let_in(i) {
+            Ok(()) => {
+                self.rounds.ready.insert(Source::Listener(i).token());
+                self.admit(server, piece, reports)
+            }
+            Err(error) => {
+                if concerns_one(&error) {
+                    self.rounds.ready.insert(Source::Listener(i).token());
+                } else if error.kind() != ErrorKind::WouldBlock {
+                    self.hindrances.tell_error(error, reports);
+                }
+                None
+            }
+        }
+    }
+}
+
+/// Puts the address of a client, as the server knows it, into the piece.
+fn show_address(address: IpAddr, piece: &mut Piece) {
+    let mut shown = ArrayVec::<u8, ADDRESS_MAX>::new();
+    let _ = write!(shown, "{address}");
+    piece.clear();
+    let _ = piece.try_extend_from_slice(shown.as_slice());
+}

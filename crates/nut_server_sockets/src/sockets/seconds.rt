@@ -1,0 +1,140 @@
+//! What is done once a second: silent clients are closed, a new configuration is asked for, drivers are dialled, and what has
+//! changed is reported.
+
+ghost use Rattle.std.specs.Prelude.{◌≡◌};
+ghost use Rattle.nut_server_sockets.specs.Turns.{Comes};
+
+use crate::driver::Driver;
+use crate::reloader::Reloader;
+use crate::report::Report;
+use crate::sockets::Sockets;
+use crate::source::Source;
+use nut_poll::Reports;
+use nut_server::{Config, Server, silence_before_ping};
+
+impl Sockets {
+    /// Closes the socket of a client that was silent for too long. Returns the number of its connection.
+    pub(super) fn shed(&mut self, server: &Server, reports: &mut Reports<'_>) -> Option<u64>
+        ensures { self.new.rounds ≡ self.old.rounds }
+    {
+        if !self.clients.may_be_silent() {
+            return None;
+        }
+        self.shed_silent(server, reports)
+    }
+
+    /// Does what [`shed`](Self::shed) does. It stands apart, so that no other arrival pays for its place.
+    #[inline(never)]
+    fn shed_silent(&mut self, server: &Server, reports: &mut Reports<'_>) -> Option<u64>
+        ensures { self.new.rounds ≡ self.old.rounds }
+    {
+        let silent = self.clients.find_silent(server)?;
+        reports.tell(Report::Shed(silent.address, silent.seconds));
+        self.drop_client(silent.number, reports);
+        Some(silent.number)
+    }
+
+    /// Returns a new configuration, if one is asked for in this second.
+    pub(super) fn reload(
+        &mut self,
+        server: &Server,
+        reloader: &mut impl Reloader,
+        reports: &mut Reports<'_>,
+    ) -> Option<Box<Config>>
+        ensures { self.new.rounds ≡ self.old.rounds }
+    {
+        if !self.asks {
+            return None;
+        }
+        self.asks = false;
+        let config = reloader.look(server, reports)?;
+        self.has_given = true;
+        Some(config)
+    }
+
+    /// Once the server has been told a new configuration, has that reported, and takes the drivers of the UPSes that the
+    /// server has now.
+    pub(super) fn end_reload(
+        &mut self,
+        server: &Server,
+        reloader: &mut impl Reloader,
+        reports: &mut Reports<'_>,
+    )
+        ensures { Comes self.old.rounds self.new.rounds }
+    {
+        if self.has_given {
+            self.has_given = false;
+            reloader.tell(server, reports);
+            self.drivers.follow(server);
+            self.call_drivers();
+        }
+    }
+
+    /// Has each driver that isn't connected dialled in this round.
+    pub(super) fn call_drivers(&mut self)
+        ensures { Comes self.old.rounds self.new.rounds }
+    {
+        for u in 0..self.drivers.len() {
+            if self.drivers.is_unconnected(u) {
+                self.rounds.ready.insert(Source::Driver(u).token());
+            }
+        }
+        self.rounds.begin();
+    }
+
+    /// Begins a second: the reloader is to be asked, and the drivers that aren't connected are to be dialled. If more than
+    /// one second and more than a third of MAXAGE passed at once, the drivers are sent PING now, and clients wait until
+    /// they have answered, two seconds at most.
+    pub(super) fn begin_second(&mut self, server: &Server, moment: u64, reports: &mut Reports<'_>)
+        ensures { Comes self.old.rounds self.new.rounds }
+    {
+        let passed = moment.saturating_sub(self.moment);
+        self.moment = moment;
+        self.clients.second();
+        self.hindrances.second();
+        self.audit.second(reports);
+        self.drivers.catch_up(server);
+        self.tell_changes(server, reports);
+        self.call_drivers();
+        self.asks = true;
+        let max_age = u64::from(server.config().max_age());
+        if passed > 1 && passed > silence_before_ping(max_age) {
+            self.drivers.await_words();
+            self.stall.begin();
+        } else {
+            self.stall.second(&mut self.rounds.ready);
+        }
+    }
+
+    /// Reports the UPSes whose data have become stale in the last second or are no longer stale, and what their drivers
+    /// said that can't be read. What passes within a second isn't told: the data of each driver are stale from its
+    /// connection to the end of its first dump, and a driver that changed its mind with every line would fill the log.
+    fn tell_changes(&mut self, server: &Server, reports: &mut Reports<'_>)
+        ensures { self.new.rounds ≡ self.old.rounds }
+    {
+        for u in 0..self.drivers.len() {
+            if let Some(driver) = self.drivers.get_mut(u) {
+                tell_staleness(driver, server.is_stale(u), reports);
+                if let Some(unread) = server.unread(u) {
+                    driver.tell_unread(unread, reports);
+                }
+            }
+        }
+    }
+}
+
+/// Reports what has become of the data of a UPS, if that is new.
+fn tell_staleness(driver: &mut Driver, is_stale: bool, reports: &mut Reports<'_>) {
+    if driver.note_staleness(is_stale) {
+        reports.tell(staleness(driver.name(), is_stale));
+    }
+}
+
+/// Returns the report that the data of a UPS are stale, or no longer are.
+fn staleness(name: &str, is_stale: bool) -> Report<'_> {
+    if is_stale {
+        Report::Stale(name)
+    } else {
+        Report::Fresh(name)
+    }
+}
