@@ -646,24 +646,22 @@ class Tests(Shimmed):
                 expect(client.ask(status_of(b"old")), NOT_CONNECTED, "what was read")
 
     def test_clients_without_memory(self):
-        """Clients for which there is no memory wait. It is told once, also with -q, and they are served as soon as there is some."""
+        """Clients are let in without memory, and wait for nothing but their answers."""
         once = os.path.join(self.folder, "thirsty")
-        env = self.refusing_memory(once)
-        told = "upsd: cannot let a client in: out of memory"
         with self.room() as room:
-            lines = room.serve("-q", env=env)
+            lines, (upsd,) = room.serve("-q", env=self.refusing_memory(once)), room.running
+            before = room.settled(upsd)
             with contextlib.ExitStack() as closing:
                 first = closing.enter_context(room.client())
                 expect(first.ask(b"VER\n"), VERSION, "before")
                 open(once, "w").close()
                 clients = [closing.enter_context(room.client()) for _ in range(40)]
-                until(lambda: lines.count(told), "a client can't be let in")
-                time.sleep(LOOKS)
-                expect(first.ask(b"VER\n"), VERSION, "one that is there already")
+                until(lambda: descriptors(upsd.pid) == before + 41, "all are let in")
+                expect(first.ask(b"VER\n"), VERSION, "one that was there before")
                 os.remove(once)
                 for client in clients:
-                    expect(client.ask(b"VER\n"), VERSION, "one that waited")
-            expect(lines.lines, [told], "what is told")
+                    expect(client.ask(b"VER\n"), VERSION, "one that was let in without memory")
+            expect(lines.lines, [], "what is told")
 
     def test_connections_closed_for_lack_of_memory(self):
         """It is told, of clients at most once a second, and of those that leave by themselves never."""
