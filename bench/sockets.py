@@ -19,6 +19,7 @@ import time
 HERE = os.path.dirname(os.path.abspath(__file__))
 sys.path.insert(0, os.path.dirname(HERE))
 
+from tests.programs.hostile_clients import Hostile
 from tests.support.harness import processor_time
 from tests.support.room import free_port
 
@@ -48,7 +49,7 @@ class Server:
 
     def __init__(self, name, folder, dummy, command, environment=None):
         self.name = name
-        self.port = free_port()
+        self.host, self.port = "127.0.0.1", free_port()
         self.folder = os.path.join(folder, name)
         os.mkdir(self.folder)
         for file, text in (
@@ -68,7 +69,7 @@ class Server:
         self.wait()
 
     def connect(self):
-        return socket.create_connection(("127.0.0.1", self.port))
+        return socket.create_connection((self.host, self.port))
 
     def wait(self):
         for _ in range(200):
@@ -92,10 +93,11 @@ class Server:
         rate, middle, worst = (int(word) for word in done.stdout.split())
         return rate, middle, worst, (processor_time(self.process.pid) - before) * 1e6 / (rate * seconds)
 
-    def resident(self):
-        """Returns the resident memory in KiB."""
+    def show_memory(self, when):
+        """Prints how much memory is resident, and how much of it is no part of a file that other programs share."""
         with open(f"/proc/{self.process.pid}/status") as status:
-            return next(int(line.split()[1]) for line in status if line.startswith("VmRSS:"))
+            kib = {name: value.split()[0] for name, value in (line.split(":", 1) for line in status) if name in ("VmRSS", "RssAnon")}
+        print(f"{self.name}: {kib['VmRSS']} KiB resident, {kib['RssAnon']} of these its own, {when}")
 
     def stop(self):
         for process in (self.process, self.driver):
@@ -108,7 +110,7 @@ class Limit(Server):
 
     def __init__(self, program):
         self.name = "limit"
-        self.port = free_port()
+        self.host, self.port = "127.0.0.1", free_port()
         self.process = subprocess.Popen([program, str(self.port), LIMIT_REPLY])
         self.driver = self.process
         self.wait()
@@ -172,12 +174,18 @@ def main():
             else:
                 print("NUT's upsd isn't installed (Debian's package nut-server): no ratios")
             for server in servers:
-                print(f"{server.name}: {server.resident()} KiB resident, idle")
+                server.show_memory("idle")
                 clients = [server.connect() for _ in range(256)]
                 time.sleep(1)
-                print(f"{server.name}: {server.resident()} KiB resident, with 256 idle connections")
+                server.show_memory("with 256 idle connections")
                 for client in clients:
                     client.close()
+                time.sleep(1)
+                clients = [Hostile(server, b"LIST VAR su700\n" * 34) for _ in range(255)]
+                time.sleep(1)
+                server.show_memory("with 255 that ask for lists and read nothing")
+                for client in clients:
+                    client.socket.close()
             time.sleep(1)
             measure(servers, program, seconds)
             limit = Limit(compiled(folder, "limit"))
