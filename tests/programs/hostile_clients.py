@@ -86,6 +86,12 @@ class Hostile:
     def close(self):
         self.socket.close()
 
+    def __enter__(self):
+        return self
+
+    def __exit__(self, *_):
+        self.close()
+
 
 @contextlib.contextmanager
 def closing(clients):
@@ -172,6 +178,29 @@ class Tests:
                 client.send(asked * 40)
                 client.socket.shutdown(socket.SHUT_WR)
                 expect(client.file.read(), b"".join(wanted * 40), "all at once, and the end behind them")
+
+    def test_what_is_held_of_clients_that_come_and_go(self):
+        """Each is answered what it asked, in order, whoever has gone or come while its requests were held back."""
+
+        def request(i):
+            return b"LIST VAR su700\n" * 10 + b"GET VAR su700 ambient.%d.status\n" % i
+
+        with self.room() as room:
+            room.dummy(LONG)
+            upsd = room.upsd()
+            room.until(STATUS, ONLINE)
+            with contextlib.ExitStack() as leaving:
+                asking = {i: leaving.enter_context(Hostile(room, request(i))) for i in range(60)}
+                for first in range(3):
+                    until(lambda: is_quiet(upsd.pid), "all wait for a reader")
+                    for i in [i for i in asking if i % 3 == first]:
+                        asking.pop(i).close()
+                    until(lambda: is_quiet(upsd.pid), "the server has noticed who has gone")
+                    for i in range(60 + 20 * first, 80 + 20 * first):
+                        asking[i] = leaving.enter_context(Hostile(room, request(i)))
+                for i, client in asking.items():
+                    client.lists(10)
+                    expect(client.file.readline(), b'VAR su700 ambient.%d.status "%s"\n' % (i, b"x" * 100), f"client {i}")
 
     def test_silent_clients(self):
         """A minute of the server's clock lasts four seconds here."""

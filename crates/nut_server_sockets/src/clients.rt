@@ -78,7 +78,8 @@ impl Clients {
     ///
     /// # Errors
     ///
-    /// The error of the registration. The socket is closed then.
+    /// The error of the registration. The socket is closed then. Memory isn't lacking: there is room for as many sockets as
+    /// connections may be open.
     pub fn add(&mut self, registry: &Registry, number: u64, guest: Guest) -> io::Result<()> {
         let Guest {
             mut stream,
@@ -91,10 +92,11 @@ impl Clients {
         keep_alive(&stream);
         let client = Client::new(number, address, stream, self.second);
         self.patient = self.patient.min(client.last_of(PATIENCE));
+        self.keys.push((number, key))?;
         if self.sockets.insert(client).is_err() {
+            self.keys.pop();
             return Err(io::Error::from(ErrorKind::OutOfMemory));
         }
-        self.keys.push((number, key))?;
         Ok(())
     }
 
