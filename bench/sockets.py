@@ -145,6 +145,15 @@ def best(rounds):
     return max(rates), min(middles), min(worsts), min(costs)
 
 
+def show_memory_with(server, what, clients):
+    """Prints how much memory is resident while these clients are connected."""
+    time.sleep(1)
+    server.show_memory(f"with {what}")
+    for client in clients:
+        client.close()
+    time.sleep(1)
+
+
 def measure(servers, program, seconds):
     for name, request, lines, clients, in_flight in LOADS:
         found = {server.name: [] for server in servers}
@@ -175,18 +184,10 @@ def main():
                 print("NUT's upsd isn't installed (Debian's package nut-server): no ratios")
             for server in servers:
                 server.show_memory("idle")
-                clients = [server.connect() for _ in range(256)]
-                time.sleep(1)
-                server.show_memory("with 256 idle connections")
-                for client in clients:
-                    client.close()
-                time.sleep(1)
-                clients = [Hostile(server, b"LIST VAR su700\n" * 34) for _ in range(255)]
-                time.sleep(1)
-                server.show_memory("with 255 that ask for lists and read nothing")
-                for client in clients:
-                    client.socket.close()
-            time.sleep(1)
+                show_memory_with(server, "256 idle connections", [server.connect() for _ in range(256)])
+            # (NUT's accepts fewer)
+            deaf = [Hostile(servers[0], b"LIST VAR su700\n" * 34) for _ in range(255)]
+            show_memory_with(servers[0], "255 clients that ask for lists and read nothing", deaf)
             measure(servers, program, seconds)
             limit = Limit(compiled(folder, "limit"))
             try:
