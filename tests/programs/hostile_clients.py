@@ -86,12 +86,6 @@ class Hostile:
     def close(self):
         self.socket.close()
 
-    def __enter__(self):
-        return self
-
-    def __exit__(self, *_):
-        self.close()
-
 
 @contextlib.contextmanager
 def closing(clients):
@@ -182,22 +176,23 @@ class Tests:
     def test_what_is_held_of_clients_that_come_and_go(self):
         """Each is answered what it asked, in order, whoever has gone or come while its requests were held back."""
 
-        def request(i):
-            return b"LIST VAR su700\n" * 10 + b"GET VAR su700 ambient.%d.status\n" % i
+        def asking_of(i):
+            request = b"LIST VAR su700\n" * 10 + b"GET VAR su700 ambient.%d.status\n" % i
+            return leaving.enter_context(contextlib.closing(Hostile(room, request)))
 
         with self.room() as room:
             room.dummy(LONG)
             upsd = room.upsd()
             room.until(STATUS, ONLINE)
             with contextlib.ExitStack() as leaving:
-                asking = {i: leaving.enter_context(Hostile(room, request(i))) for i in range(60)}
+                asking = {i: asking_of(i) for i in range(60)}
                 for first in range(3):
                     until(lambda: is_quiet(upsd.pid), "all wait for a reader")
                     for i in [i for i in asking if i % 3 == first]:
                         asking.pop(i).close()
                     until(lambda: is_quiet(upsd.pid), "the server has noticed who has gone")
                     for i in range(60 + 20 * first, 80 + 20 * first):
-                        asking[i] = leaving.enter_context(Hostile(room, request(i)))
+                        asking[i] = asking_of(i)
                 for i, client in asking.items():
                     client.lists(10)
                     expect(client.file.readline(), b'VAR su700 ambient.%d.status "%s"\n' % (i, b"x" * 100), f"client {i}")
