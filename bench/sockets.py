@@ -11,6 +11,7 @@ import getpass
 import os
 import shutil
 import socket
+import statistics
 import subprocess
 import sys
 import tempfile
@@ -20,7 +21,6 @@ HERE = os.path.dirname(os.path.abspath(__file__))
 sys.path.insert(0, os.path.dirname(HERE))
 
 from tests.programs.hostile_clients import Hostile
-from tests.support.harness import processor_time
 from tests.support.room import free_port
 
 NUT_UPSD = "/lib/nut/upsd"
@@ -42,6 +42,12 @@ LIMIT_LOAD = ("GET VAR, 10 clients, 8 at a time", "GET VAR su700 ups.status", 1,
 
 def script():
     return "ups.status: OL\n" + "".join(f"ambient.{i}.temperature: 21.{i}\n" for i in range(VARIABLES))
+
+
+def processor_time(pid):
+    """Returns how many seconds of processor time a process has used. The ticks of /proc/PID/stat miss bursts between two of them."""
+    with open(f"/proc/{pid}/schedstat") as file:
+        return int(file.read().split()[0]) / 1e9
 
 
 class Server:
@@ -127,15 +133,17 @@ def compiled(folder, name):
 
 
 def compare_with_limit(servers, limit, program, seconds):
-    """Prints what an answer takes of the server's processor, as a ratio to what it takes of the loop's."""
+    """Prints what an answer takes of the server's processor, and what it takes of the loop's: the least of the rounds, and the
+    ratio in the middle of them, since other work of the machine can double either from one second to the next."""
     name, request, lines, clients, in_flight = LIMIT_LOAD
-    rounds = {it.name: [] for it in [limit, *servers]}
+    costs = {it.name: [] for it in [limit, *servers]}
     for _ in range(ROUNDS):
         for it in [limit, *servers]:
-            rounds[it.name].append(it.load(program, seconds, request, lines, clients, in_flight))
-    costs = {it: best(found)[3] for it, found in rounds.items()}
-    for it, cost in costs.items():
-        print(f"{name:32} {it:6} processor {cost:6.2f} us an answer, {cost / costs['limit']:.2f} of the bare loop's")
+            costs[it.name].append(it.load(program, seconds, request, lines, clients, in_flight)[3])
+    for it, found in costs.items():
+        ratio = statistics.median(mine / loop for mine, loop in zip(found, costs["limit"]))
+        least = min(found)
+        print(f"{name:32} {it:6} processor {least:6.2f} us an answer, {least / min(costs['limit']):.2f} of the bare loop's; {ratio:.2f} in the middle")
 
 
 def best(rounds):
