@@ -44,8 +44,9 @@ def script():
     return "ups.status: OL\n" + "".join(f"ambient.{i}.temperature: 21.{i}\n" for i in range(VARIABLES))
 
 
-def processor_time(pid):
-    """Returns how many seconds of processor time a process has used. The ticks of /proc/PID/stat miss bursts between two of them."""
+def exact_processor_time(pid):
+    """Returns how many seconds of processor time a process of one thread has used, to the nanosecond. What processor_time of the
+    tests counts are ticks, which miss bursts between two of them."""
     with open(f"/proc/{pid}/schedstat") as file:
         return int(file.read().split()[0]) / 1e9
 
@@ -94,10 +95,10 @@ class Server:
         """Returns the answers a second, the median and 99th percentile of the time to one in microseconds, and the server's
         processor time for one in microseconds."""
         words = [program, self.port, clients, in_flight, lines, seconds, request]
-        before = processor_time(self.process.pid)
+        before = exact_processor_time(self.process.pid)
         done = subprocess.run([str(word) for word in words], stdout=subprocess.PIPE, check=True)
         rate, middle, worst = (int(word) for word in done.stdout.split())
-        return rate, middle, worst, (processor_time(self.process.pid) - before) * 1e6 / (rate * seconds)
+        return rate, middle, worst, (exact_processor_time(self.process.pid) - before) * 1e6 / (rate * seconds)
 
     def show_memory(self, when):
         """Prints how much memory is resident, and how much of it is no part of a file that other programs share."""

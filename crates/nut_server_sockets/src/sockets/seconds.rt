@@ -23,7 +23,7 @@ impl Sockets {
         self.shed_silent(server, reports)
     }
 
-    /// Does what [`shed`](Self::shed) does. It stands apart, so that no other arrival pays for its place.
+    /// Does what [`shed`](Self::shed) does. It stands apart, so that no other arrival pays for the place of a silent client.
     #[inline(never)]
     fn shed_silent(&mut self, server: &Server, reports: &mut Reports<'_>) -> Option<u64>
         ensures { self.new.rounds ≡ self.old.rounds }
