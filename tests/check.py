@@ -7,8 +7,9 @@ lines that reported a failure or a test that was skipped.
 usage: python3 -m tests.check [--anew] | --tried FOLDER
 
 The toolchain's gate takes what an earlier run on this machine has proved, if it does so at all and nothing that it rests on has
-changed; with --anew it proves all. With --tried it runs the tests in Python alone, several at a time, on the programs that
-tools/tried has built in a folder without proof. The last line is 'N passed, M failed'."""
+changed, and no wrong body that one refused is tried again; with --anew all is done. With --tried it runs the tests in Python
+alone, several at a time, on the programs that tools/tried has built in a folder without proof. The last line is 'N passed, M
+failed'."""
 
 import os
 import re
@@ -26,6 +27,7 @@ TESTS = (
     ("gate.believe", ()),
     ("gate.front_pages", ()),
     ("gate.pages", ()),
+    ("gate.surface", ()),
     ("gate.builders", ()),
     ("programs.upsd_stdio", ("upsd",)),
     ("programs.files", ("upsd", "upsmon")),
@@ -61,13 +63,14 @@ FAILURE = re.compile(
 )
 FAILURES_SHOWN = 60
 
-# What the toolchain's gate says if it took nothing from an earlier run.
+# What the toolchain's gate says if it took nothing from an earlier run, and what is said where wrong bodies were known from one.
 WHOLE = "every proof and must-fail edit was done in this run"
+KNOWN = re.compile(r"\d+ edits tried, [1-9]\d* known")
 
 
 class Count:
-    """How many tests passed and failed, the lines that reported a failure or a skipped test, and whether the toolchain's gate took
-    nothing from an earlier run."""
+    """How many tests passed and failed, the lines that reported a failure or a skipped test, and whether nothing was taken from an
+    earlier run."""
 
     def __init__(self):
         self.passed, self.failed, self.failures, self.skipped, self.is_whole = 0, 0, [], [], False
@@ -94,7 +97,7 @@ class Count:
                 self.failures.append(line.rstrip("\n"))
             if line.startswith("skipped "):
                 self.skipped.append(f"{command[2]}: {line.rstrip()}")
-            self.is_whole |= WHOLE in line
+            self.is_whole = (self.is_whole or WHOLE in line) and not KNOWN.match(line)
             last = line
         status = run.wait()
         counts = re.fullmatch(r"(\d+) passed, (\d+) failed\s*", last)
@@ -166,7 +169,7 @@ def run_all(count, words):
         count.run_beside(lambda: count.run(["rt", "ci", *words]), test_command("gate.wrong_bodies_test"))
     if count.failed == 0:
         # these tests mostly wait, and the rounds use the processors meanwhile
-        count.run_beside(lambda: run_programs(count), test_command("gate.wrong_bodies", "--after-gate"))
+        count.run_beside(lambda: run_programs(count), test_command("gate.wrong_bodies", "--after-gate", *words))
 
 
 def run_gate(count, words):
@@ -177,7 +180,7 @@ def run_gate(count, words):
         gate_times.write(stopwatch.seconds(), gate_times.LAST)
         gate_times.main([])
     else:
-        print("no times of crates, since something failed or was proved by an earlier run")
+        print("no times of crates, since something failed or was done by an earlier run")
 
 
 def main(words):

@@ -1,22 +1,27 @@
 #!/usr/bin/env python3
 """Tests that the prover refuses wrong bodies: many of them in one check, each in the function that it edits.
 
-usage: python3 -m tests.gate.wrong_bodies [--look | --one-by-one] [--after-gate] [CRATE ..]
+usage: python3 -m tests.gate.wrong_bodies [--look | --one-by-one | --anew] [--after-gate] [CRATE ..]
 
-The edits are crates/NAME/wrong-bodies/*.edit, and crates/NAME/must-fail/*.edit, which the toolchain's own gate tries too.
+The edits are crates/NAME/wrong-bodies/*.edit, and crates/NAME/must-fail/*.edit, which the toolchain's own gate tries.
 docs/tests.md says how to write one. Most are tried in one check of their crate: one edit of each function in its place, and
 others in copies of the function beside it. All other functions have empty bodies and open proofs there. What is left is tried
 in rounds: edits of different functions together, and most edits of a definition alone. The functions have been proved as they
 are. Copies without edits, and a method of a trait without one, have to pass in the same check: so a function doesn't fail
 because others have empty bodies. Edits of definitions share a round if each names another goal that has to stay open.
 
+An edit that an earlier run on this machine saw refused isn't tried again while all that decides about it is the same, if the
+toolchain keeps its own edits like that. --anew and --one-by-one try all. What no run asked for in 30 days is forgotten.
+
 --look only lists the edits that cannot be applied. --one-by-one also tries each edit as the toolchain's gate does, in a
 check of the whole crate, and fails if the two disagree. Both need the crates built, which proves them, and those that they
-depend on: what the gate has built since the last change is used, and the rest is built. --after-gate is for the gate itself,
-which may have taken a library from an earlier run, with older times. The last line is 'N passed, M failed'."""
+depend on: what the gate has built since the last change is used, and the rest is built. --after-gate is for the gate itself:
+it has tried the edits of must-fail/, and may have taken a library from an earlier run, with older times. The last line is
+'N passed, M failed'."""
 
 import argparse
 import collections
+import contextlib
 import glob
 import itertools
 import os
@@ -26,11 +31,16 @@ import subprocess
 import sys
 import tempfile
 import threading
+import time
 
 from tests.gate.functions import check_command, functions_of, toolchain
 from tests.support.harness import ROOT
 
 FOLDERS = ("wrong-bodies", "must-fail")
+# How long a refusal is kept that no run asks for, in seconds, and how many are kept at most.
+KEPT_FOR, KEPT_MOST = 30 * 24 * 3600, 20_000
+# This tool's own files.
+TOOL = [f"{ROOT}/tests/gate/{it}" for it in ("wrong_bodies.py", "functions.py")]
 # A goal of a function that is open, on a line above the function's own.
 GOAL = re.compile(r"note: (src/\S+: .*\(`\S+`\).*)")
 # The beginnings of what a check says of a function whose proof passes, and of one that those which it calls may make fail.
@@ -83,16 +93,20 @@ class Edit:
         start, end = place_after(changes, function.start), place_after(changes, function.end)
         return text[start:end]
 
+    def is_of_gate(self):
+        """Whether the toolchain's own gate tries it."""
+        return os.path.basename(os.path.dirname(self.path)) == "must-fail"
+
     def is_of_bodies(self):
         """Whether it edits only bodies, which no other function's proof looks into, and one of these functions has to refuse
         it."""
         return None not in self.edited and self.wanted <= self.edited
 
     def meets(self, other):
-        """Whether it can't share a round with another edit: both edit the body of a function; or one is of a definition, unless
-        both are and name two goals."""
-        if self.is_of_bodies() and other.is_of_bodies():
-            return bool(self.edited & other.edited)
+        """Whether it can't share a round with another edit: only one of them is of bodies; or both edit the body of a function;
+        or both are of definitions, and don't name two goals."""
+        if self.is_of_bodies() or other.is_of_bodies():
+            return self.is_of_bodies() != other.is_of_bodies() or bool(self.edited & other.edited)
         return not (self.goal and other.goal) or (self.wanted, self.goal) == (other.wanted, other.goal)
 
 
@@ -481,6 +495,63 @@ def refusal(edit, report, paths=None):
     return f"refused, as it must be{by}: {next(filter(None, found))[:160]}" if any(found) else None
 
 
+class Refusals:
+    """The edits that earlier runs on this machine refused. They are kept as the toolchain keeps its own, in a directory beside
+    these: each under a sum of all that decides about it, so none fits what has changed. What isn't whole there counts for
+    nothing."""
+
+    def __init__(self, crates, anew):
+        self.kept = toolchain().Kept(crates, anew) if hasattr(toolchain(), "Kept") else None
+        if self.kept and self.kept.at:
+            self.kept.at += "/wrong-bodies"
+            with contextlib.suppress(OSError):
+                os.makedirs(self.kept.at, exist_ok=True)
+                self.forget()
+        self.tools = [toolchain().rtlib.sum_of(it) for it in (*TOOL, toolchain().rtlib.RATTLE)]
+        # the edits' files before any is read, what decides about the crates, and where each edit is kept
+        self.files, self.sums, self.names, self.known = {it: files_of_edits(it) for it in crates}, {}, {}, {}
+
+    def forget(self):
+        """Removes what no run asked for in a long time, and what is too many."""
+        newest = sorted(((it.stat().st_mtime, it.path) for it in os.scandir(f"{self.kept.at}/edits")), reverse=True)
+        for number, (asked, path) in enumerate(newest):
+            if number >= KEPT_MOST or time.time() - asked > KEPT_FOR:
+                os.remove(path)
+
+    def sum_of(self, crate):
+        """Returns what decides about every edit of a crate: the toolchain, this tool, the crate's files and line in crates.txt, and
+        the libraries below as they were built, whose formats hold sums of their files. Also returns what tells whether one of these
+        was built again."""
+        below = [(it.name, toolchain().rtlib.sum_of(f"{it.rlib}/format")) for it in crate.below()]
+        return (self.tools, toolchain().own_sum(crate), below), [self.kept.mark(it) for it in crate.below()]
+
+    def look(self, crate, edits):
+        """Returns the results of those of a crate's edits that are known. The libraries below are built."""
+        self.sums[crate] = self.sum_of(crate) if self.kept else None
+        for edit in edits if self.kept else ():
+            # edits of definitions that name goals share rounds, so the others may be why it was refused
+            beside = [open_text(it.path) for it in edits if edit.goal and it.goal]
+            self.names[edit] = self.kept.of_edit(edit.path, (self.sums[crate][0], beside))
+            kind, why = self.kept.tried(self.names[edit]) or (None, None)
+            if kind == toolchain().REFUSED:
+                self.known[edit] = True, why
+                with contextlib.suppress(OSError):
+                    os.utime(f"{self.kept.at}/edits/{self.names[edit]}")
+        return {it: self.known[it] for it in edits if it in self.known}
+
+    def keep(self, crate, said):
+        """Keeps the edits of a crate that were just refused, unless a file that decides about them was touched meanwhile."""
+        now = self.kept and (self.kept.is_untouched(crate), files_of_edits(crate), self.sum_of(crate))
+        for edit in said if now == (True, self.files[crate], self.sums[crate]) else ():
+            if said[edit][0]:
+                self.kept.keep_tried(self.names[edit], toolchain().REFUSED, said[edit][1])
+
+
+def files_of_edits(crate):
+    """Returns what tells whether a file in the directories of a crate's edits was changed, lost or added."""
+    return [toolchain().listing(f"{crate.folder}/{it}") for it in FOLDERS]
+
+
 def edits_of(crate):
     """Returns the crate's edits, and other files beside them."""
     good, bad = [], []
@@ -524,14 +595,18 @@ def look(crates):
     return found, faults
 
 
-def in_rounds(crate, functions, edits, printing):
-    """Runs the rounds of a crate, and returns the result for each edit's path."""
+def in_rounds(crate, functions, edits, printing, refusals):
+    """Runs the rounds of a crate for the edits that aren't known to be refused, and returns the result for each edit's path."""
+    known = refusals.look(crate, edits)
     with tempfile.TemporaryDirectory(prefix="wrong-bodies-") as folder:
-        rounds = Rounds(crate, edits, functions, folder)
+        rounds = Rounds(crate, [it for it in edits if it not in known], functions, folder)
         said = rounds.run()
+    refusals.keep(crate, said)
+    said.update(known)
     with printing:
         print(*[why for _, why in said.values()], sep="\n")
-        print(f"{crate.name}: {len(edits)} edits, {rounds.together} in the first check, {rounds.count} rounds: {rounds.seconds:.0f} processor seconds", flush=True)
+        counts = f"{len(edits)} edits, {len(known)} known, {rounds.together} in the first check, {rounds.count} rounds"
+        print(f"{crate.name}: {counts}: {rounds.seconds:.0f} processor seconds", flush=True)
     return {edit.path: refused for edit, (refused, _) in said.items()}
 
 
@@ -564,7 +639,8 @@ def read_words(words):
     ways = reader.add_mutually_exclusive_group()
     ways.add_argument("--look", action="store_true", help="only list the edits that cannot be applied")
     ways.add_argument("--one-by-one", action="store_true", help="also try each edit in a check of its whole crate, and compare")
-    reader.add_argument("--after-gate", action="store_true", help="take the libraries that the toolchain's gate has just built")
+    ways.add_argument("--anew", action="store_true", help="also try what an earlier run on this machine saw refused")
+    reader.add_argument("--after-gate", action="store_true", help="take what the toolchain's gate has just built, and leave out what it has tried")
     reader.add_argument("names", metavar="CRATE", nargs="*", help="a crate whose edits are tried; without one those of all crates are")
     return reader.parse_args(words)
 
@@ -573,16 +649,17 @@ def main(words):
     options = read_words(words)
     os.chdir(ROOT)
     crates = [it for it in toolchain().rtlib.crates_below(ROOT) if not options.names or it.name in options.names]
+    refusals = None if options.look else Refusals(crates, options.anew or options.one_by_one)
     found, faults = look(crates)
     faults += [f"{it}: crates.txt names no such crate" for it in options.names if it not in [crate.name for crate in crates]]
     print(*faults, sep="\n", end="\n" if faults else "")
+    for _, edits in found.values():
+        edits[:] = [it for it in edits if not it.fault and not (options.after_gate and it.is_of_gate())]
     found = {crate: it for crate, it in found.items() if it[1]}
     passed, failed = 0, len(faults)
     if not options.look:
         build_libraries(found, options.after_gate)
-        for crate, (_, edits) in found.items():
-            edits[:] = [it for it in edits if not it.fault]
-        said = side_by_side(found, in_rounds)
+        said = side_by_side(found, lambda *given: in_rounds(*given, refusals))
         passed, failed = sum(said.values()), failed + len(said) - sum(said.values())
         if options.one_by_one:
             alone = side_by_side(found, lambda crate, _, edits, printing: one_by_one(crate, edits, printing))
@@ -590,6 +667,7 @@ def main(words):
             for it in differ:
                 print(f"{os.path.relpath(it, ROOT)}: the rounds and the toolchain's gate disagree")
             failed += len(differ)
+        print(f"{len(said) - len(refusals.known)} edits tried, {len(refusals.known)} known from earlier runs on this machine")
     print(f"{passed} passed, {failed} failed")
     return 1 if failed else 0
 

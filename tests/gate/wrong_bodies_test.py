@@ -1,14 +1,18 @@
 #!/usr/bin/env python3
 """Tests wrong_bodies.py on crates of five functions that are written here: a wrong body is refused, and wrong constants together,
 each at its own goal; and a right body is reported, a body that its contract allows, an edit that only another function refuses,
-one that nothing follows from, and one of a function that isn't proved. The last line is 'N passed, M failed'."""
+one that nothing follows from, and one of a function that isn't proved. Of two more crates, one above the other, it tests which
+edits are known from earlier runs. The last line is 'N passed, M failed'."""
 
+import contextlib
+import io
 import os
+import re
 import sys
 import tempfile
 
-from tests.gate import functions
 from tests.gate import wrong_bodies
+from tests.gate.functions import toolchain
 
 CODE = """//! Functions whose bodies are edited.
 #![tactic(auto)]
@@ -96,6 +100,31 @@ CRATES = {
     "unproved": (["unproved"], 0, 0),
 }
 
+# The files of two crates, of a tool and of a page, by their paths. Two edits of `high` name goals, and the third is in must-fail/.
+FILES = {
+    "crates.txt": "low:\nhigh: low\n",
+    "crates/low/src/lib.rt": "//! Nothing.\n#![tactic(auto)]\n",
+    "crates/low/specs/Lib.antt": "pub mod More\n",
+    "crates/low/specs/More.antt": "use Rattle.std.specs.Prelude.{ℕ, ◌+◌}\n\nabbrev pub more : ℕ → ℕ\nmore count = count + 1\n",
+    "crates/high/src/lib.rt": CODE.replace("NAME", "high"),
+    "crates/high/proofs/as_second/Answers.antt": ANSWER.replace("NAME", "high"),
+    "crates/high/must-fail/wrong.edit": f"file: src/lib.rt\nold: {EDITS['wrong'][0]}\n",
+    **{f"crates/high/wrong-bodies/{it}.edit": f"file: src/lib.rt\nold: {EDITS[it][0]}\n" for it in ("least", "most")},
+    "tool.py": "# A tool.\n",
+    "page.md": "A page.\n",
+}
+
+# Changes of these files, by an old text and a new one, and which edits are known then of those that were refused before.
+CHANGES = {
+    "page.md": ("A page", "Another page", ["least", "most", "wrong"]),
+    "tool.py": ("A tool", "Another tool", []),
+    "crates/high/src/lib.rt": ("/// Two more too.", "/// Two more.", []),
+    "crates/high/proofs/as_second/Answers.antt": ("pub returns", "-- Two more.\npub returns", []),
+    "crates/low/specs/More.antt": ("count + 1", "1 + count", []),
+    "crates/high/must-fail/wrong.edit": ("count + 2", "count + 3", ["least", "most"]),
+    "crates/high/wrong-bodies/most.edit": ("usize = 7", "usize = 9", ["wrong"]),
+}
+
 
 def write(path, text):
     os.makedirs(os.path.dirname(path), exist_ok=True)
@@ -118,7 +147,7 @@ def said_of_edits(root):
     refused in its first check, and how many rounds there were."""
     write_crates(root)
     os.chdir(root)
-    found, said = wrong_bodies.look(functions.toolchain().rtlib.crates_below(root))
+    found, said = wrong_bodies.look(toolchain().rtlib.crates_below(root))
     counts = {}
     for crate, (bodies, edits) in found.items():
         with tempfile.TemporaryDirectory(prefix="wrong-bodies-") as folder:
@@ -129,14 +158,71 @@ def said_of_edits(root):
     return dict(line.partition(".edit: ")[::2] for line in said), counts
 
 
+def begin(root, anew=False):
+    """Begins a run for the crate `high`, and returns it, the crate, its edits, and the names of those that are known."""
+    crate = next(it for it in toolchain().rtlib.crates_below(root) if it.name == "high")
+    refusals = wrong_bodies.Refusals([crate], anew)
+    edits = wrong_bodies.look([crate])[0][crate][1]
+    with contextlib.redirect_stdout(io.StringIO()) as crate.deps[0].out:
+        wrong_bodies.build_libraries(crate.deps, False)
+    return refusals, crate, edits, sorted(it.name[len("high/") : -len(".edit")] for it in refusals.look(crate, edits))
+
+
+def run(*words):
+    """Returns how many edits of the crate `high` a whole run tries, how many it knows, and how many passed."""
+    with contextlib.redirect_stdout(io.StringIO()) as said:
+        wrong_bodies.main(["high", *words])
+    return [int(it) for it in re.findall(r"(?m)^(\d+) edits tried, (\d+) known .*\n(\d+) passed, 0 failed\n", said.getvalue())[0]]
+
+
+def faults_of_known(root):
+    """Returns after which steps other edits are known than should be, or share a round, and how many steps there were."""
+    wrong_bodies.ROOT, wrong_bodies.TOOL, toolchain().STORE = root, [f"{root}/tool.py"], f"{root}/kept"
+    # a disk that is nearly full keeps nothing
+    toolchain().STORE_LEAVES = 0
+    for path, text in FILES.items():
+        write(f"{root}/{path}", text)
+    steps = [("a first run", run(), [3, 0, 3]), ("a second run", run(), [0, 3, 3]), ("a run after the gate", run("--after-gate"), [0, 2, 2])]
+    steps.append(("--anew", begin(root, True)[-1], []))
+    for path, (old, new, wanted) in CHANGES.items():
+        write(f"{root}/{path}", FILES[path].replace(old, new))
+        steps.append((f"a change of {path}", begin(root)[-1], wanted))
+        write(f"{root}/{path}", FILES[path])
+    kit_sum, toolchain().kit_sum = toolchain().kit_sum, lambda: "another"
+    steps.append(("another toolchain", begin(root)[-1], []))
+    toolchain().kit_sum = kit_sum
+    steps.append(("all changed back", begin(root)[-1], ["least", "most", "wrong"]))
+    for name in os.listdir(f"{root}/kept/wrong-bodies/edits"):
+        os.truncate(f"{root}/kept/wrong-bodies/edits/{name}", 99)
+    steps.append(("files cut off", begin(root)[-1], []))
+    for path in ("src/lib.rt", "wrong-bodies/most.edit"):
+        refusals, crate, edits, _ = begin(root)
+        os.utime(f"{crate.folder}/{path}")
+        refusals.keep(crate, {it: (True, "refused") for it in edits})
+        steps.append((f"{path} touched meanwhile", begin(root)[-1], []))
+    refusals, crate, edits, _ = begin(root)
+    refusals.keep(crate, {it: (it.goal == "", "said") for it in edits})
+    steps.append(("two not refused", begin(root)[-1], ["wrong"]))
+    for it in os.scandir(f"{root}/kept/wrong-bodies/edits"):
+        os.utime(it, (0, 0))
+    steps.append(("many years", begin(root)[-1], []))
+    body = next(it for it in edits if it.is_of_bodies())
+    body.goal = "returns"
+    steps.append(("an edit of a body named a goal", [body.meets(it) for it in edits], [True] * len(edits)))
+    return [f"after {what}: found {found}, wanted {wanted}" for what, found, wanted in steps if found != wanted], len(steps)
+
+
 def main():
     with tempfile.TemporaryDirectory(prefix="edited-") as root:
         said, counts = said_of_edits(root)
+    with tempfile.TemporaryDirectory(prefix="edited-") as root:
+        faults, steps = faults_of_known(root) if hasattr(toolchain(), "Kept") else ([], 0)
     wanted = {f"{name}/{edit}": EDITS[edit][1] for name, (edits, *_) in CRATES.items() for edit in edits}
     failed = [f"{it}: found {said.get(it)!r}, wanted {wanted[it]!r}" for it in wanted if not said.get(it, "").startswith(wanted[it])]
     failed += [f"{name}: in the first check and in rounds {counts[name]}, wanted {of_crate[1:]}" for name, of_crate in CRATES.items() if counts[name] != of_crate[1:]]
+    failed += faults
     print(*failed, sep="\n", end="\n" if failed else "")
-    print(f"{len(wanted) + len(CRATES) - len(failed)} passed, {len(failed)} failed")
+    print(f"{len(wanted) + len(CRATES) + steps - len(failed)} passed, {len(failed)} failed")
     return 1 if failed else 0
 
 
