@@ -66,7 +66,7 @@ part_of() {
     esac
     case ${1##*/} in
         upsd | upsd.* | *-upsd.service | ups.conf) echo server ;;
-        dummy-ups | dummy-ups.* | *-dummy-ups@.service | su700.dev | *nut-drivers* | until-ready) echo server ;;
+        dummy-ups | dummy-ups.* | *-dummy-ups@.service | su700.dev | *nut-drivers*) echo server ;;
         *) echo client ;;
     esac
 }

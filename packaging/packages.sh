@@ -157,12 +157,13 @@ make_tar() {
         install -m 755 "$work/programs/$program" "$tree/bin/$program"
     done
     install -m 644 "$work/programs/third-party-notices" "$tree/bin/third-party-notices"
-    for file in install.sh configure.sh completions.bash mulgefa-check until-ready mulgefa.sysusers \
+    for file in install.sh configure.sh completions.bash mulgefa-check mulgefa-nut-drivers until-ready mulgefa.sysusers \
         mulgefa-upsd.service mulgefa-upsmon.service mulgefa-dummy-ups@.service; do
         install -m 644 "packaging/$file" "$tree/packaging/$file"
     done
-    chmod 755 "$tree/packaging/install.sh" "$tree/packaging/mulgefa-check" "$tree/packaging/until-ready"
-    cp -R man examples README.md CHANGELOG.md SECURITY.md "$tree/"
+    (cd "$tree/packaging" && chmod 755 install.sh mulgefa-check mulgefa-nut-drivers until-ready)
+    cp -R man examples CHANGELOG.md SECURITY.md "$tree/"
+    install -m 644 packaging/archive.md "$tree/README.md"
     install -D -m 755 tools/nutroom "$tree/tools/nutroom"
     install -d "$tree/tools/nutroom_modules"
     install -m 644 tools/nutroom_modules/*.py "$tree/tools/nutroom_modules/"

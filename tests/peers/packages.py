@@ -10,8 +10,9 @@ import os
 import re
 import shutil
 import sys
+import time
 
-from tests.support.debian_root import Booted, fresh_root
+from tests.support.debian_root import Booted, Root, fresh_root
 from tests.support.harness import Missing, ensure, expect
 from tests.programs.packages import ROOT, main
 
@@ -32,14 +33,15 @@ TOLD = [
 ]
 
 
-def shown_commands(block):
-    """Returns the three commands of one of the blocks that docs/from-nut.md has under Examples: those to replace NUT, and
-    those to go back."""
+def shown(section, block):
+    """Returns one of the blocks of code that a section of docs/from-nut.md has."""
     with open(os.path.join(ROOT, "docs", "from-nut.md")) as file:
-        section = re.search(r"^## Examples\n(.*?)^## ", file.read(), re.MULTILINE | re.DOTALL)[1]
-    commands = re.findall(r"^```\n(.*?)^```", section, re.MULTILINE | re.DOTALL)[block].splitlines()
-    expect(len(commands), 3, f"commands: {commands}")
-    return commands
+        text = re.search(rf"^## {section}\n(.*?)^## ", file.read(), re.MULTILINE | re.DOTALL)[1]
+    return re.findall(r"^```\n(.*?)^```", text, re.MULTILINE | re.DOTALL)[block]
+
+
+def shown_commands(section, block):
+    return shown(section, block).splitlines()
 
 
 class Tests:
@@ -84,6 +86,9 @@ class Tests:
             machine.restart()
             self.is_served_here(machine)
             self.nothing_was_lost_at_the_boot(machine)
+            self.journal_names_the_programs(machine)
+            self.restarts(machine)
+            self.stops_early(machine)
             self.reloads(machine)
             self.refuses_to_reload_faults(machine)
             self.goes_on_after_hangup(machine)
@@ -147,14 +152,15 @@ class Tests:
         machine = Booted(folder)
         try:
             machine.wait_for("upsc copy ups.status 2> /dev/null", "OL", 90)
-            machine.do("/root/mulgefa-*/packaging/mulgefa-check --upsd -w /etc/mulgefa")
-            machine.do("/root/mulgefa-*/packaging/mulgefa-check --upsmon -i")
-            machine.do("dpkg-deb -x ./mulgefa-server_*.deb unpacked && unpacked/usr/sbin/mulgefa-nut-drivers /var/cache/apt/archives/nut-server_*.deb")
-            os.makedirs(machine.path("/etc/systemd/system/mulgefa-upsd.service.d"))
-            machine.write("/etc/systemd/system/mulgefa-upsd.service.d/folder.conf", "[Service]\nEnvironment=NUT_CONFPATH=/etc/mulgefa\n", 0o644)
             before = machine.read("/etc/nut/ups.conf")
-            machine.do("apt-get install ./mulgefa-*.deb")
-            machine.do("systemctl enable --now mulgefa-upsd mulgefa-upsmon nut-driver@su700 nut-driver@copy")
+            check, _, drivers, exchange = shown_commands("Drivers", 0)
+            machine.do(check)
+            # there is no network, and what was fetched is kept
+            machine.do(drivers.replace("nut-server_", "/var/cache/apt/archives/nut-server_"))
+            said = machine.do(exchange)
+            ensure("/etc/nut/upsd.users any more" in said, f"upsd's directory isn't told: {said}")
+            ensure("take it out" not in said and "has no " not in said, f"what apt tells: {said}")
+            machine.restart()
             machine.wait_for("upsc copy ups.status 2> /dev/null", "OL", 60)
             machine.wait_for("upsc su700 ups.status 2> /dev/null", "OL", 60)
             expect(machine.do("upsc copy driver.name"), "clone\n", "the driver")
@@ -172,6 +178,95 @@ class Tests:
             machine.wait_for("upsc copy ups.status 2> /dev/null", "OL", 60)
         finally:
             machine.stop()
+
+    def test_driver_that_went_with_nut(self):
+        """A machine with one UPS whose driver is NUT's: apt's last lines say that nobody watches it, and what to type, which brings the
+        driver back. The driver is NUT's dummy-ups under another name."""
+        folder = self.nut_installed("went")
+        root = Root(folder)
+        root.do("cp /lib/nut/dummy-ups /lib/nut/usbhid-ups && mv /etc/nut/su700.dev /etc/nut/eaton.dev")
+        root.write("/etc/nut/ups.conf", '[eaton]\n  driver = usbhid-ups\n  port = eaton.dev\n  desc = "Server room"\n  pollinterval = 1\n')
+        root.write("/etc/nut/upsd.conf", "")
+        root.write("/etc/nut/upsd.users", "[monuser]\n  password = m1\n  upsmon primary\n")
+        root.write("/etc/nut/upsmon.conf", UPSMON_CONF.replace("su700", "eaton").replace("master", "primary").replace("RUN_AS_USER root\n", ""))
+        # a package of NUT's with that driver
+        package = "/var/cache/apt/archives/nut-server_*.deb"
+        root.do(f"dpkg-deb -R {package} nut && cp /lib/nut/dummy-ups nut/lib/nut/usbhid-ups && mkdir made && dpkg-deb -b nut made && rm -r nut")
+        machine = Booted(folder)
+        try:
+            machine.wait_for("upsc eaton ups.status 2> /dev/null", "OL", 90)
+            nothing = "nothing stops this machine in a power failure"
+            # the client alone takes server and drivers away
+            said = machine.do("apt-get install ./mulgefa-client_*.deb").splitlines()
+            gone = f"the UPS eaton has no server and no driver here (both went with nut-server): until they run, {nothing}"
+            expect(said[-2], gone, "what apt says last")
+            machine.write("/etc/nut/ups.conf", machine.read("/etc/nut/ups.conf").replace("  pollinterval = 1\n", ""))
+            said = machine.do("apt-get install ./mulgefa-server_*.deb").splitlines()
+            gone = f'the UPS eaton has no driver (usbhid-ups is NUT\'s, and went with nut-server): until one runs, {nothing}; see from-nut(7), "Drivers"'
+            expect(said[-2], gone, "what apt says last but one")
+            back = "apt-get download nut-server && mulgefa-nut-drivers nut-server_*.deb && apt-get install ./mulgefa-nut-drivers_*.deb"
+            expect(said[-1], f"these bring NUT's drivers back: {back}", "what apt says last")
+            machine.write("/etc/nut/ups.conf", machine.read("/etc/nut/ups.conf") + "  pollinterval = 1\n")
+            said = machine.do(back.replace("apt-get download nut-server", "cd made"))
+            ensure("has no " not in said, f"what apt says: {said}")
+            machine.wait_for("upsc eaton ups.status 2> /dev/null", "OL")
+            machine.restart()
+            machine.wait_for("upsc eaton ups.status 2> /dev/null", "OL")
+            expect(machine.do("systemctl is-active nut-driver@eaton mulgefa-upsd mulgefa-upsmon"), "active\n" * 3, "what runs")
+            ensure("no driver yet" not in machine.do("journalctl --boot -t upsd"), "upsd starts after the driver")
+            said = machine.do("apt-get install --reinstall ./mulgefa-server_*.deb")
+            ensure("has no " not in said, f"what apt says of a UPS with a status: {said}")
+        finally:
+            machine.stop()
+
+    def restarts(self, machine):
+        """A restart with a fault fails, and however often a service is restarted, it runs."""
+        for program, name in (("upsd", "upsd.users"), ("upsmon", "upsmon.conf")):
+            unit = f"mulgefa-{program}"
+            text = machine.read(f"/etc/nut/{name}")
+            machine.write(f"/etc/nut/{name}", text + "faulty\n")
+            status, said = machine.run(f"systemctl restart {unit}")
+            ensure(status != 0, f"a restart of {unit} with a fault: {said}")
+            machine.write(f"/etc/nut/{name}", text)
+            machine.wait_for(f"systemctl is-active {unit}", "active")
+            machine.do(f"for i in 1 2 3 4 5 6 7; do systemctl restart {unit} || exit 1; done")
+            expect(machine.do(f"systemctl is-active {unit}"), "active\n", f"{unit} after seven restarts")
+        began = time.monotonic()
+        machine.do("systemctl stop mulgefa-dummy-ups@su700 && systemctl restart mulgefa-upsd")
+        ensure(time.monotonic() - began < 9, "a server without a driver starts within five seconds")
+        machine.do("systemctl start mulgefa-dummy-ups@su700")
+        machine.wait_for("upsc su700 ups.status 2> /dev/null", "OL")
+        machine.wait_for("upsc -c su700 2> /dev/null", "127.0.0.1")
+
+    def stops_early(self, machine):
+        """The script of the page stops the machine some time after mains went, also after it failed once. Once mains is back, it doesn't."""
+        text = machine.read("/etc/nut/upsmon.conf")
+        machine.write("/etc/nut/early", shown("upssched", 0).replace("5min", "3s"), 0o755)
+        quick = re.sub("^POLLFREQ .*$", "POLLFREQ 1", text, flags=re.MULTILINE)
+        machine.write("/etc/nut/upsmon.conf", quick + "NOTIFYCMD /etc/nut/early\nNOTIFYFLAG ONBATT SYSLOG+EXEC\nNOTIFYFLAG ONLINE SYSLOG+EXEC\n")
+        machine.do("systemctl restart mulgefa-upsmon")
+        machine.wait_for("upsc -c su700 2> /dev/null", "127.0.0.1")
+        service = "on-battery-su700@localhost.service"
+        units = "systemctl list-units --all --plain --no-legend 'on-battery*'"
+        battery, mains = (f"upscmd -u admin -p pw su700 test.failure.{it}" for it in ("start", "stop"))
+        # no file, so that it fails; it tries again until mains is back
+        machine.do(f"{battery} && sleep 2 && mv /etc/nut/upsmon.conf /etc/nut/away && sleep 8")
+        ensure(int(machine.do(f"systemctl show --property NRestarts --value {service}")) > 0, "it tries again")
+        machine.do(f"mv /etc/nut/away /etc/nut/upsmon.conf && {mains}")
+        machine.wait_for(units, "")
+        expect(machine.run("ls /root/halted")[0], 2, "whether the machine was stopped")
+        # mains that is back in time
+        machine.do(f"{battery} && sleep 2 && {mains}")
+        machine.wait_for(units, "")
+        expect(machine.do("upsc su700 ups.status"), "OL\n", "the status")
+        machine.do(battery)
+        machine.wait_for("ls /root/halted 2> /dev/null", "/root/halted", 60)
+        machine.wait_for("upsc su700 ups.status 2> /dev/null", "FSD OB")
+        machine.wait_for(units, "")
+        machine.write("/etc/nut/upsmon.conf", text)
+        machine.do("rm /root/halted; systemctl restart mulgefa-dummy-ups@su700 mulgefa-upsd && systemctl restart mulgefa-upsmon")
+        machine.wait_for("upsc su700 ups.status 2> /dev/null", "OL")
+        machine.wait_for("upsc -c su700 2> /dev/null", "127.0.0.1")
 
     def flag_is_found(self, machine):
         """A script at the end of a halt asks upsmon without the environment of its unit."""
@@ -208,9 +303,11 @@ class Tests:
         ensure("m1" not in said, f"a password is told: {said}")
         expect(machine.do("systemctl is-active nut-server nut-monitor"), "active\nactive\n", "NUT is running")
 
-        _, said, _ = [machine.do(it) for it in shown_commands(0)]
+        _, said, _ = [machine.do(it) for it in shown_commands("Examples", 0)]
 
         ensure("nut-client" in said and "nut-server" in said and "REMOVED" in said, f"apt removes NUT's packages: {said}")
+        last = "the UPS su700 has no driver: until 'systemctl enable --now mulgefa-dummy-ups@su700' starts its dummy, nothing stops this machine in a power failure"
+        expect(said.splitlines()[-1], last, "apt's last line")
         expect(machine.do("dpkg --verify mulgefa-client mulgefa-server"), "", "files that differ")
         status, said = machine.run("mulgefa-check")
         expect((status, said), (0, ""), "mulgefa-check")
@@ -236,6 +333,13 @@ class Tests:
         said = machine.do("journalctl --boot --output cat --unit mulgefa-upsd --unit mulgefa-upsmon")
         for words in ("no driver yet", "no server yet", "lost", "refused"):
             ensure(words not in said, f"{words!r} at a boot: {said}")
+
+    def journal_names_the_programs(self, machine):
+        """Whoever filters by the name of a program finds its lines."""
+        for name, words in (("upsd", "asked the driver to set ups.id"), ("upsmon", "UPS su700@localhost: server connected"), ("dummy-ups", "")):
+            said = machine.do(f"journalctl --boot --output cat -t {name}")
+            ensure(words in said and "-- No entries --" not in said, f"the journal of {name}: {said}")
+        expect(machine.do("journalctl --boot -t env"), "-- No entries --\n", "lines of env")
 
     def reloads(self, machine):
         """upsd reads its files again, though its user can't write to their folder, and by the monitor's reload too."""
@@ -310,7 +414,7 @@ class Tests:
         ensure("\nmulgefa-upsd.service still runs its earlier program: " in said, f"what apt tells: {said}")
 
     def bring_back(self, machine):
-        for command in shown_commands(1):
+        for command in shown_commands("Examples", 1):
             machine.do(command)
         self.nut_serves(machine)
 

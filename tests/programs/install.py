@@ -7,6 +7,7 @@ A file is used in place of a program that isn't given. The last line is 'N passe
 
 import os
 import re
+import resource
 import shlex
 import shutil
 import signal
@@ -58,6 +59,15 @@ esac
 """,
 }
 
+# What mulgefa-check says of a driver of NUT's, and, without the folder's name, how upsd gets files of its own.
+GOES = "note: the driver {} is NUT's, and goes with nut-server unless mulgefa-nut-drivers keeps it; see from-nut(7)"
+OWN_DIRECTORY = (
+    "NUT's drivers read ups.conf as it is, so give upsd a directory of its own:",
+    "    mulgefa-check --upsd -w /etc/mulgefa",
+    "    systemctl edit mulgefa-upsd    with the two lines [Service] and Environment=NUT_CONFPATH=/etc/mulgefa",
+    "Nobody then reads upsd.conf and upsd.users any more.",
+)
+
 # Calls of the script that units wait by, in a room whose driver starts late.
 UNTIL_READY = """
 ip link set lo up || exit 77
@@ -91,6 +101,17 @@ echo 'LISTEN 127.0.0.1 24931' > upsd.conf
 "$prefix/sbin/upsd" --conf . -s . -q &
 "$until_ready" $! server
 echo "a server elsewhere: $?"
+
+printf 'MINSUPPLIES 0\nSHUTDOWNCMD true\n' > upsmon.conf
+"$prefix/sbin/upsmon" --conf . -q &
+monitor=$!
+"$until_ready" $monitor monitor
+echo "the shells that wait: $(wc -w < /proc/$monitor/task/$monitor/children)"
+end $monitor
+echo faulty > upsmon.conf
+"$prefix/sbin/upsmon" --conf . -q 2> /dev/null &
+"$until_ready" $! monitor
+kill -0 $! 2> /dev/null || echo "a monitor that failed: gone"
 
 true &
 ended=$!
@@ -482,6 +503,10 @@ class Tests:
         for name in ("ups.conf", "upsd.conf"):
             os.remove(os.path.join(folder, name))
         expect(self.check(folder), (0, ""), "a machine without a server")
+        none = f"mulgefa-check: {folder}: it has none of ups.conf, upsd.conf and upsd.users\n"
+        expect(self.check("--upsd", folder), (2, none), "the server of a machine without one")
+        os.remove(os.path.join(folder, "upsmon.conf"))
+        expect(self.check(folder), (2, f"mulgefa-check: {folder}: it has none of NUT's files\n"), "a folder of others")
         for words in (("--none",), ("-w",), (folder, folder), ("-i", "-w", folder), ("-w", folder, folder), (os.path.join(folder, "none"),)):
             expect(self.check(*words)[0], 2, f"mulgefa-check {words}")
 
@@ -603,12 +628,16 @@ class Tests:
         expect(self.check("--upsd", folder), (1, told), "a byte that is read")
 
     def test_check_takes_out_a_type_of_notice(self):
+        """Those that aren't given here, and those of later versions of NUT."""
         lines = 'MINSUPPLIES 0\nNOTIFYFLAG NOPARENT SYSLOG+WALL\n NOTIFYMSG "NOPARENT" "upsmon parent died"\nNOTIFYFLAG ONBATT EXEC\n'
+        lines += "NOTIFYFLAG NOTOFF SYSLOG\nOFFDURATION 30\n"
         folder = self.nuts_files("types", upsmon_conf=lines)
         to = os.path.join(self.folder, "types-changed")
         status, said = self.check("--upsmon", "-w", to, folder)
         with open(os.path.join(to, "upsmon.conf")) as file:
-            expect((status, file.read()), (0, "MINSUPPLIES 0\n\n\nNOTIFYFLAG ONBATT EXEC\n"), f"what it wrote: {said}")
+            expect((status, file.read()), (0, "MINSUPPLIES 0\n\n\nNOTIFYFLAG ONBATT EXEC\n\n\n"), f"what it wrote: {said}")
+        ensure("NOTIFYFLAG NOTOFF SYSLOG\n    take it out: no notice of NUT 2.8.0 has this type\n" in said, f"what it tells: {said}")
+        ensure("OFFDURATION ..\n    take it out: NUT 2.8.0 has no such directive either\n" in said, f"what it tells: {said}")
         ensure("NOTIFYFLAG NOPARENT SYSLOG+WALL\n    take it out: not taken: " in said, f"what it tells: {said}")
 
     def test_check_tells_every_line(self):
@@ -620,13 +649,14 @@ class Tests:
             upsmon_conf='RUN_AS_USER nut\nMONITOR apc 1 mon "s3 cret" master # mine\nMONITOR apc@rack 0 guest m2 slave\nNOTIFYCMD /sbin/upssched\n',
         )
         before = state_of(folder)
+        leave = "    leave it to NUT's drivers, and give upsd a directory of its own, as said below"
         told = [
             "ups.conf:1: OutsideSection: maxretry = 3",
-            "    take it out: not taken: units start a driver again without end",
+            leave,
             "ups.conf:5: UnknownDirective: vendorid = 051d",
-            "    take it out: not taken: it is a driver's",
+            leave,
             "ups.conf:6: UnknownDirective: override.battery.charge.low = 30",
-            "    take it out: not taken: it is a driver's",
+            leave,
             "upsd.users:3: UnknownWord: actions = set",
             "    change it to: actions = SET",
             "upsd.users:4: BadForm: upsmon = master",
@@ -636,10 +666,10 @@ class Tests:
             "upsd.users:7: UnknownWord: upsmon slave # ours",
             "    change it to: upsmon secondary # ours",
             "upsd.conf:1: Unreadable: # ..",
-            "    change it to: # ..",
+            "    each byte of the comment that isn't printing ASCII becomes a question mark",
             "upsd.conf:3: UnknownDirective: STATEPATH /run/nut",
             "    take it out: not taken: the option -s names the folder of the sockets, and the unit has it",
-            "note: the driver usbhid-ups is NUT's, and isn't part of these packages; see from-nut(7)",
+            GOES.format("usbhid-ups"),
             "upsmon.conf:1: UnknownDirective: RUN_AS_USER nut",
             "    take it out: not taken: there is one process, which the unit runs as root",
             "upsmon.conf:2: BadName: MONITOR apc 1 .. master",
@@ -647,15 +677,19 @@ class Tests:
             "upsmon.conf:3: UnknownWord: MONITOR apc@rack 0 .. slave",
             "    change it to: MONITOR apc@rack 0 .. secondary",
             "note: upssched is NUT's, and isn't part of these packages; see from-nut(7)",
+            *OWN_DIRECTORY,
         ]
         status, said = self.check(folder)
         expect((status, said.replace(f"{folder}/", "").splitlines()), (1, told), "what is told")
         status, said = self.check("-i", folder)
-        expect((status, said.splitlines()[-1][:49]), (1, "nothing is written: the drivers of NUT want " + folder[:5]), "NUT's drivers keep their file")
+        kept = f"nothing is written: drivers of NUT want {folder}/ups.conf as it is; -w writes another directory for upsd"
+        expect((status, said.splitlines()[-1]), (1, kept), "NUT's drivers keep their file")
         expect(state_of(folder), before, "what it changed")
 
         to = os.path.join(self.folder, "written")
-        expect(self.check("-w", to, folder)[0], 0, "mulgefa-check -w")
+        status, said = self.check("-w", to, folder)
+        dead = f"nobody reads {folder}/upsd.conf and {folder}/upsd.users any more once upsd reads {to}"
+        expect((status, said.splitlines()[-1]), (0, dead), "mulgefa-check -w")
         expect(self.check(to)[0], 0, "mulgefa-check of what it wrote")
         written = {path: (it[0], it[3].decode()) for path, it in state_of(to).items()}
         wanted = {
@@ -665,6 +699,93 @@ class Tests:
             "upsmon.conf": (0o600, '\nMONITOR apc@localhost 1 mon "s3 cret" primary # mine\nMONITOR apc@rack 0 guest m2 secondary\nNOTIFYCMD /sbin/upssched\n'),
         }
         expect((written, state_of(folder)), (wanted, before), "what it wrote")
+
+    def test_check_splits_lists(self):
+        """A line for each word, which NUT takes in one. The numbers stay those of the file that is read."""
+        users = "[a]\n actions = set fsd # both\n instcmds = load.on, load.off\n upsmon master\n actions = \"SET FSD\"\n"
+        folder = self.nuts_files("lists", upsd_users=users)
+        told = f"{folder}/upsd.users:2: BadForm: actions = set fsd # both\n    change it to: actions = SET # both\n"
+        told += f"                  actions = FSD\n{folder}/upsd.users:3: BadForm: instcmds = load.on, load.off\n"
+        told += f"    change it to: instcmds = load.on\n                  instcmds = load.off\n"
+        told += f"{folder}/upsd.users:4: UnknownWord: upsmon master\n    change it to: upsmon primary\n"
+        left = f'{folder}/upsd.users:5: UnknownWord: actions = "SET FSD"\n    upsd.users(5) says what may stand there\n'
+        expect(self.check("--upsd", folder), (1, told + left), "what it tells")
+        with open(os.path.join(folder, "upsd.users"), "w") as file:
+            file.write("".join(users.splitlines(True)[:-1]))
+        status, said = self.check("--upsd", "-i", folder)
+        with open(os.path.join(folder, "upsd.users")) as file:
+            written = "[a]\n actions = SET # both\n actions = FSD\n instcmds = load.on\n instcmds = load.off\n upsmon primary\n"
+            expect((status, file.read()), (0, written), f"what it wrote: {said}")
+
+    def test_check_quotes_passwords(self):
+        """Those that have a '=', as base64 does, at both ends."""
+        users = "[a]\n password = secret=1==\n"
+        monitors = "MINSUPPLIES 0\nMONITOR a@h 1 mon secret=1== primary\nMONITOR b 1 mon secret2= slave # b\n"
+        folder = self.nuts_files("quotes", upsd_users=users, upsmon_conf=monitors)
+        why = "    put the password in quotes, at the server and in each MONITOR line: NUT's programs end it at its '='\n"
+        told = f"{folder}/upsd.users:2: BadForm: password = ..\n{why}{folder}/upsmon.conf:2: BadForm: MONITOR a@h 1 .. primary\n{why}"
+        told += f"{folder}/upsmon.conf:3: BadForm: MONITOR b 1 .. slave\n    change it to: MONITOR b@localhost 1 .. secondary\n"
+        expect(self.check(folder), (1, told), "what it tells")
+        expect(self.check("-i", folder)[0], 0, "mulgefa-check -i")
+        with open(os.path.join(folder, "upsd.users")) as file:
+            expect(file.read(), '[a]\n password = "secret=1=="\n', "the server's file")
+        with open(os.path.join(folder, "upsmon.conf")) as file:
+            lines = 'MINSUPPLIES 0\nMONITOR a@h 1 mon "secret=1==" primary\nMONITOR b@localhost 1 mon "secret2=" secondary # b\n'
+            expect(file.read(), lines, "the monitor's file")
+
+    def test_check_tells_a_section_and_a_mark_apart(self):
+        """The lines below a section with a fault have none, and the mark of an editor is taken out."""
+        folder = self.nuts_files("sections", ups_conf='[the rack]\n driver = dummy-ups\n desc = "x"\n')
+        told = f"{folder}/ups.conf:1: OutsideSection: [the rack]\n    ups.conf(5) says what may stand there\n"
+        expect(self.check("--upsd", folder), (1, told), "what it tells")
+        folder = self.nuts_files("sectionless", ups_conf="driver = dummy-ups\n[a]\n")
+        told = f"{folder}/ups.conf:1: OutsideSection: driver = dummy-ups\n    take it out: it belongs below a section\n"
+        expect(self.check("--upsd", folder), (1, told), "a directive above all sections")
+        folder = self.nuts_files("marked", ups_conf="\ufeff[a]\n")
+        told = f"{folder}/ups.conf:1: Unreadable: [a]\n    take out the three bytes before it, the byte order mark of UTF-8\n"
+        expect(self.check("--upsd", folder), (1, told), "what it tells of a mark")
+        expect(self.check("--upsd", "-i", folder)[0], 0, "mulgefa-check -i")
+        with open(os.path.join(folder, "ups.conf"), "rb") as file:
+            expect(file.read(), b"[a]\n", "what it wrote")
+
+    def test_check_leaves_a_driver_its_lines(self):
+        """Those of NUT's dummy-ups too. Nothing is said of a driver that the package mulgefa-nut-drivers has."""
+        folder = self.nuts_files("dummy of NUT", ups_conf="maxretry = 3\n[a]\n driver = dummy-ups\n mode = dummy-loop\n override.ups.id = x\n")
+        before = state_of(folder)
+        status, said = self.check("--upsd", "-i", folder)
+        kept = f"nothing is written: drivers of NUT want {folder}/ups.conf as it is; -w writes another directory for upsd"
+        expect((status, said.splitlines()[-1], state_of(folder)), (1, kept, before), "what it changed")
+        folder = self.nuts_files("kept drivers", ups_conf="[a]\n driver = usbhid-ups\n[b]\n driver = snmp-ups\n")
+        notes = [GOES.format(driver) + "\n" for driver in ("snmp-ups", "usbhid-ups")]
+        expect(self.check("--upsd", folder), (0, "".join(notes)), "without that package")
+        prefix = self.installed("kept/usr")
+        for path in ("systemd/system/mulgefa-upsd.service.d/nut-drivers.conf", "nut/usbhid-ups"):
+            at = os.path.join(self.folder, "kept/lib", path)
+            os.makedirs(os.path.dirname(at))
+            with open(at, "w"):
+                pass
+        said = subprocess.run([os.path.join(prefix, "sbin/mulgefa-check"), "--upsd", folder], stdin=subprocess.DEVNULL, capture_output=True, timeout=60)
+        expect((said.returncode, said.stdout.decode()), (0, notes[0]), "with one of them in it")
+
+    def test_check_changes_all_or_nothing(self):
+        """Where a disk becomes full, each file is what it was, and none is left over."""
+        if not {"upsd", "upsmon"} <= set(self.built):
+            raise Missing("no built programs were handed in")
+        folder = self.nuts_files("all or nothing", upsd_users="[a]\n actions = set\n", upsd_conf="DEBUG_MIN 1\n" + "# what is in the rack\n" * 300)
+        before = state_of(folder)
+        prefix = self.installed("checked-small")
+        small, left = (os.path.join(self.folder, name) for name in ("small disk", "left"))
+        for path in (small, left):
+            os.mkdir(path)
+        # nine pages: six for the files, and not enough for what upsd.conf was and for what it becomes
+        mount = apart("--mount", "sh", "-c", 'mount -t tmpfs -o size=36k none "$0" && exec "$@"', small)
+        script = 'cp -p "$1"/*.* "$0" && status=0 && { "$2" -i "$0" || status=$?; } && cp -p "$0"/* "$3" && exit "$status"'
+        words = [*mount, "sh", "-c", script, small, folder, os.path.join(prefix, "sbin/mulgefa-check"), left]
+        done = subprocess.run(words, stdin=subprocess.DEVNULL, capture_output=True, timeout=60)
+        ensure(done.stderr.decode().endswith(f"mulgefa-check: {small}: cannot write, and no file is changed\n"), f"what it tells: {done.stderr.decode()}")
+        expect(done.returncode, 2, "its status")
+        found, wanted = ({name: it[3] for name, it in state.items() if "/" not in name} for state in (state_of(left), before))
+        expect(found, wanted, "what is there")
 
     def test_check_changes_in_place(self):
         old, new = "actions = set\n", "actions = SET\n"
@@ -704,7 +825,7 @@ class Tests:
         status, said = self.check("--upsd", folder)
         told = [
             f"{folder}/cmdvartab:2: UnknownDirective: VARIABLE ups.load \"Load\"",
-            "    take it out",
+            "    take it out: NUT 2.8.0 has no such directive either",
             f"{folder}/cmdvartab:3: BadForm: VARDESC ups.temperature",
             "    upsd(8) says what may stand there",
         ]
@@ -781,7 +902,7 @@ class Tests:
             with open(os.path.join(prefix, "lib/systemd/system", UNITS[program])) as file:
                 text = file.read()
             expect("@PREFIX@" in text or "@CONFDIR@" in text, False, f"{program}: places left open")
-            started = re.findall(r"^ExecStart=/usr/bin/env --ignore-signal=HUP (\S+)", text, re.MULTILINE)
+            started = re.findall(r"^ExecStart=/usr/bin/env --ignore-signal=HUP,XFSZ (\S+)", text, re.MULTILINE)
             expect(started, [os.path.join(prefix, folder_of(program), program)], f"{program} is started")
             expect(os.access(started[0], os.X_OK), True, f"{started[0]} can be run")
             expect(re.findall("^Environment=NUT_CONFPATH=(.*)$", text, re.MULTILINE), ["/etc/nut"], f"{program}: the folder of the configuration")
@@ -795,19 +916,31 @@ class Tests:
                 text = file.read()
             expect(("=/srv/ups\n" in text, "/etc/nut" in text), (True, False), f"{program}: another folder")
 
+    def test_units_name_their_programs_in_the_journal(self):
+        """The journal would show 'env', by which the units start their programs."""
+        for program, unit in UNITS.items():
+            with open(os.path.join(ROOT, "packaging", unit)) as file:
+                text = file.read()
+            expect(re.findall("^SyslogIdentifier=(.*)$", text, re.MULTILINE), [program], f"{unit}: the name in the journal")
+        units = [name for name in os.listdir(os.path.join(ROOT, "packaging")) if name.endswith(".service")]
+        expect(sorted(units), sorted(UNITS.values()), "all units")
+
     def test_units_start_again_and_wait_for_no_network(self):
-        """A network may come up long after a power failure."""
+        """A network may come up long after a power failure. However often a program failed, it is started again, and whoever starts
+        it sees that it failed."""
         for unit in UNITS.values():
             with open(os.path.join(ROOT, "packaging", unit)) as file:
                 text = file.read()
             ensure("Restart=on-failure\nRestartSec=5\n" in text, f"{unit}: when it starts again")
+            ensure("\nStartLimitIntervalSec=0\n" in text.partition("[Service]")[0], f"{unit}: how often it starts again")
+            expect(len(re.findall("^ExecStartPost=-/usr/bin/timeout 5 .*/until-ready [$]{MAINPID} ", text, re.MULTILINE)), 1, f"{unit}: its start")
             ensure("network-online" not in text, f"{unit} waits for a network")
 
     def test_units_wait_until_they_answer(self):
         """What starts after a driver or a server finds its socket or its values, and waits for none that has ended or listens
         elsewhere."""
         needed("ip", "iproute2")
-        if not {"upsd", "dummy-ups", "upsc"} <= set(self.built):
+        if not {"upsd", "dummy-ups", "upsc", "upsmon"} <= set(self.built):
             raise Missing("no built programs were handed in")
         prefix = self.installed("ready")
         room = os.path.join(self.folder, "waiting")
@@ -819,10 +952,11 @@ class Tests:
         if done.returncode == 77:
             raise Missing("no network of its own can be had")
         wanted = "the socket of a late driver: there\nthe status of a late driver: OL\n"
-        wanted += "a server elsewhere: 0\na driver that ended: 0\na server that ended: 0\n"
+        wanted += "a server elsewhere: 0\nthe shells that wait: 1\na monitor that failed: gone\n"
+        wanted += "a driver that ended: 0\na server that ended: 0\n"
         expect((done.returncode, done.stdout.decode()), (0, wanted), done.stderr.decode())
 
-    def run_by_unit(self, prefix, program, setting, room):
+    def run_by_unit(self, prefix, program, setting, room, **options):
         """Starts what a setting of a unit runs, with a room in place of the folders that it names. Returns the processes."""
         with open(os.path.join(prefix, "lib/systemd/system", UNITS[program])) as file:
             commands = re.findall(f"^{setting}=[-+]?(.*)$", file.read(), re.MULTILINE)
@@ -830,42 +964,53 @@ class Tests:
         for command in commands:
             words = [re.sub("|".join(map(re.escape, meant)), lambda it: meant[it[0]], word) for word in shlex.split(command)]
             yield subprocess.Popen(
-                words, env={**os.environ, "NUT_CONFPATH": room}, stdin=subprocess.DEVNULL, stdout=subprocess.PIPE, stderr=subprocess.STDOUT,
-                start_new_session=True,
+                words, env={**os.environ, "NUT_CONFPATH": room}, stdin=subprocess.DEVNULL, start_new_session=True,
+                **{"stdout": subprocess.PIPE, "stderr": subprocess.STDOUT, **options},
             )
 
     def test_units_ignore_hangup(self):
         """SIGHUP to all processes of a unit ends none of them, and keeps no machine from being stopped."""
+        self.halt_by_units("hangup", lambda process: os.killpg(process.pid, signal.SIGHUP))
+
+    def test_units_outlive_the_room_for_their_log(self):
+        """A log file that may not grow any more ends no program of a unit, and keeps no machine from being stopped."""
+        most = (1, 1)
+        with tempfile.TemporaryFile(dir=self.folder) as log:
+            options = {"stdout": log, "stderr": log, "preexec_fn": lambda: resource.setrlimit(resource.RLIMIT_FSIZE, most)}
+            self.halt_by_units("full-log", lambda _: expect(os.fstat(log.fileno()).st_size, 1, "the log"), **options)
+
+    def halt_by_units(self, name, disturb, **options):
+        """Runs the units' programs, which have to outlive this disturbance, and then halts the machine."""
         if not {"upsd", "dummy-ups", "upsmon"} <= set(self.built):
             raise Missing("no built programs were handed in")
-        prefix = self.installed("hangup")
-        room = os.path.join(self.folder, "hung up")
+        prefix = self.installed(name)
+        room = os.path.join(self.folder, f"room of {name}")
         shutil.copytree(os.path.join(ROOT, "examples"), room)
         port = free_port()
         with open(os.path.join(room, "upsd.conf"), "w") as file:
             file.write(f"LISTEN 127.0.0.1 {port}\n")
         with open(os.path.join(room, "upsmon.conf"), "w") as file:
-            file.write(f'MONITOR su700@127.0.0.1:{port} 1 monuser m1 primary\nSHUTDOWNCMD "echo halted"\n')
+            file.write(f'MONITOR su700@127.0.0.1:{port} 1 monuser m1 primary\nSHUTDOWNCMD "mkdir \'{room}/halted\'"\n')
             file.write("FINALDELAY 0\nHOSTSYNC 0\nPOLLFREQ 1\n")
         with open(os.path.join(room, "su700.dev"), "w") as file:
             file.write("ups.status: OL\n")
         running = {}
         try:
             for program in UNITS:
-                (running[program],) = self.run_by_unit(prefix, program, "ExecStart", room)
+                (running[program],) = self.run_by_unit(prefix, program, "ExecStart", room, **options)
                 until(lambda: os.path.basename(os.readlink(f"/proc/{running[program].pid}/exe")) == program, f"{program} has begun")
                 time.sleep(1)
             for process in running.values():
-                os.killpg(process.pid, signal.SIGHUP)
+                disturb(process)
             time.sleep(1)
-            expect([program for program, process in running.items() if process.poll() is not None], [], "what SIGHUP ended")
+            expect([program for program, process in running.items() if process.poll() is not None], [], "what has ended")
             running["dummy-ups"].kill()
             running["dummy-ups"].wait()
             with open(os.path.join(room, "su700.dev"), "w") as file:
                 file.write("ups.status: OB LB\n")
-            (running["dummy-ups"],) = self.run_by_unit(prefix, "dummy-ups", "ExecStart", room)
-            said = running["upsmon"].communicate(timeout=60)[0].decode()
-            expect((running["upsmon"].returncode, said.splitlines()[-1]), (0, "halted"), f"the halt: {said}")
+            (running["dummy-ups"],) = self.run_by_unit(prefix, "dummy-ups", "ExecStart", room, **options)
+            said, _ = running["upsmon"].communicate(timeout=60)
+            expect((running["upsmon"].returncode, os.path.isdir(f"{room}/halted")), (0, True), f"the halt: {said}")
         finally:
             for process in running.values():
                 process.kill()

@@ -22,7 +22,7 @@ from tests.support.harness import built_without_proof, ensure, expect, Missing, 
 
 PACKAGES = ("mulgefa-client", "mulgefa-server")
 # the files of each section of the manual, and the examples, that belong to the server
-SERVERS = ("upsd", "dummy-ups", "ups.conf", "upsd.conf", "upsd.users", "su700.dev", "until-ready")
+SERVERS = ("upsd", "dummy-ups", "ups.conf", "upsd.conf", "upsd.users", "su700.dev")
 NAMES_OF_UNITS = {"nut-server.service": "mulgefa-upsd.service", "nut-monitor.service": "mulgefa-upsmon.service", "nut-client.service": "mulgefa-upsmon.service"}
 
 # what a fresh Debian changes by itself while packages are installed and removed
@@ -230,6 +230,10 @@ class Tests:
         subprocess.run(["tar", "-xf", archive, "-C", folder], check=True, timeout=60)
         (top,) = os.listdir(folder)
         expect(f"{top}.tar.gz", os.path.basename(archive), "its folder")
+        with open(os.path.join(folder, top, "README.md")) as file:
+            named = re.findall(r"`([a-z]+(?:/[a-z.-]+)?|docs/\S+|[A-Z]+[.]md)(?: [a-z]+)?`", file.read())
+        ensure({"packaging/mulgefa-check", "packaging/mulgefa-nut-drivers", "docs/from-nut.md"} <= set(named), f"what its README names: {named}")
+        expect([it for it in named if not os.path.exists(os.path.join(folder, top, it))], [], "what its README names and it lacks")
         wanted = os.path.join(self.packages.folder, "wanted")
         self.packages.make("install-built", f"DESTDIR={wanted}", "PREFIX=/opt/mulgefa")
         found = os.path.join(self.packages.folder, "found")
@@ -360,8 +364,9 @@ class Tests:
             ],
             "mulgefa-server": [
                 "/etc/nut/ups.conf:1: OutsideSection: maxretry = 3",
-                "    take it out: not taken: units start a driver again without end",
-                "note: the driver usbhid-ups is NUT's, and isn't part of these packages; see from-nut(7)",
+                "    leave it to NUT's drivers, and give upsd a directory of its own, as said below",
+                install.GOES.format("usbhid-ups"),
+                *(re.sub(r"(?=\bups[a-z]*[.](conf|users))", "/etc/nut/", line) for line in install.OWN_DIRECTORY),
                 "mulgefa-upsd.service can't start until this is changed; if it is enabled, systemd tries it every 5 seconds",
             ],
         }
@@ -385,6 +390,85 @@ class Tests:
             expect(enabled, mode != "none", f"whether the monitor is enabled with MODE={mode}")
             root.do("dpkg --purge mulgefa-server mulgefa-client")
             shutil.rmtree(root.path("/etc/nut"))
+
+    def package_of_nut(self):
+        """Makes what stands for Debian's nut-server: two drivers, and what starts them."""
+        tree = os.path.join(self.packages.folder, "nut-server")
+        files = {
+            "lib/nut/usbhid-ups": "#!/bin/sh\n", "lib/nut/dummy-ups": "#!/bin/sh\n", "lib/nut/upsd": "", "sbin/upsdrvctl": "#!/bin/sh\n", "sbin/upsd": "",
+            "usr/share/doc/nut-server/copyright": "c\n", "usr/share/doc/nut-server/changelog.Debian.gz": "",
+            "DEBIAN/control": "Package: nut-server\nVersion: 2.8.0-7\nArchitecture: all\nMaintainer: m <m@m.example>\nDepends: nut-client, adduser, dpkg\nDescription: d\n",
+        }
+        for path, text in files.items():
+            os.makedirs(os.path.dirname(os.path.join(tree, path)), exist_ok=True)
+            with open(os.path.join(tree, path), "w") as file:
+                file.write(text)
+            os.chmod(file.name, 0o755 if text.startswith("#!") else 0o644)
+        for folder, _, _ in os.walk(tree):
+            os.chmod(folder, 0o755)
+        status, said = run([needed("dpkg-deb", "dpkg"), "--root-owner-group", "--build", tree, f"{tree}.deb"])
+        expect(status, 0, f"a package of NUT: {said}")
+        return f"{tree}.deb"
+
+    def drivers_package(self):
+        """Makes the package of NUT's drivers with the script in the archive, before anything is installed."""
+        folder = os.path.join(self.packages.folder, "from-archive")
+        if not os.path.isdir(folder):
+            os.mkdir(folder)
+            subprocess.run(["tar", "-xf", self.packages.made("tar")["mulgefa"], "-C", folder], check=True, timeout=60)
+        (top,) = [it for it in os.listdir(folder) if not it.endswith(".deb")]
+        script = os.path.join(folder, top, "packaging/mulgefa-nut-drivers")
+        status, said = run([script, "-o", folder, self.package_of_nut()], env={**os.environ, "LC_ALL": "C"})
+        expect((status, said), (0, f"{folder}/mulgefa-nut-drivers_2.8.0-7_all.deb\n"), "what it makes")
+        return said.strip()
+
+    def test_drivers_from_the_archive(self):
+        path = self.drivers_package()
+        _, said = run(["dpkg-deb", "--contents", path])
+        found = {line.split()[5] for line in said.splitlines() if not line.startswith("d")}
+        units = {f"./lib/systemd/system/{name}" for name in ("nut-driver.target", "nut-driver@.service", "mulgefa-upsd.service.d/nut-drivers.conf")}
+        wanted = {"./lib/nut/usbhid-ups", "./lib/nut/dummy-ups", "./sbin/upsdrvctl", *(f"./usr/share/doc/mulgefa-nut-drivers/{it}" for it in ("copyright", "changelog.Debian.gz"))}
+        expect(found, wanted | units, "its files")
+        _, said = run(["dpkg-deb", "--field", path, "Depends"])
+        expect(said, "mulgefa-server, dpkg\n", "what it needs")
+        tree = os.path.join(self.packages.folder, "tree-of-drivers")
+        run(["dpkg-deb", "-x", path, tree])
+        with open(os.path.join(tree, "lib/systemd/system/mulgefa-upsd.service.d/nut-drivers.conf")) as file:
+            said = file.read()
+        expect(said, "[Unit]\nWants=nut-driver.target\nAfter=nut-driver.target\n", "upsd starts after the drivers")
+
+    def test_drivers_keep_their_file(self):
+        """With NUT's drivers installed in the same step, upsd reads files of its own, the drivers that ups.conf names are enabled, and
+        nobody is told to take out what they need. A purge of all leaves nothing of it."""
+        if not {"upsd", "upsmon"} <= set(self.packages.built):
+            raise Missing("no built programs were handed in")
+        root = self.fresh("drivers")
+        shutil.copy(self.drivers_package(), root.path("/root"))
+        os.makedirs(root.path("/etc/nut"))
+        files = {
+            "nut.conf": "MODE=standalone\n",
+            "ups.conf": "maxretry = 3\n[apc]\n driver = usbhid-ups\n port = auto\n vendorid = 051d\n[none]\n driver = snmp-ups\n port = h\n",
+            "upsd.conf": "",
+            "upsd.users": "[a]\n password = p\n upsmon primary\n",
+            "upsmon.conf": "MINSUPPLIES 0\n",
+        }
+        for name, text in files.items():
+            root.write(f"/etc/nut/{name}", text)
+        said = root.do("dpkg -i /root/mulgefa-*.deb").splitlines()
+        dead = "upsd now reads /etc/mulgefa, made from /etc/nut: nobody reads /etc/nut/upsd.conf and /etc/nut/upsd.users any more"
+        expect([line for line in said if "/etc/mulgefa" in line or "take it out" in line or "leave it" in line], [dead], f"what is told: {said}")
+        expect({name: root.read(f"/etc/nut/{name}") for name in files}, files, "the files of NUT's")
+        expect(root.read("/etc/mulgefa/ups.conf"), "\n[apc]\n driver = usbhid-ups\n port = auto\n\n[none]\n driver = snmp-ups\n port = h\n", "upsd's ups.conf")
+        drop_in = "/etc/systemd/system/mulgefa-upsd.service.d/directory.conf"
+        ensure(root.read(drop_in).endswith("[Service]\nEnvironment=NUT_CONFPATH=/etc/mulgefa\n"), "upsd's directory")
+        wants = root.path("/etc/systemd/system/nut-driver.target.wants")
+        expect(os.listdir(wants), ["nut-driver@apc.service"], "the drivers that are enabled")
+        expect(root.run("mulgefa-check --upsd /etc/mulgefa"), (0, install.GOES.format("snmp-ups") + "\n"), "the drivers that aren't kept")
+        root.do("dpkg --purge mulgefa-nut-drivers")
+        ensure(os.path.exists(root.path(drop_in)), "the server's files stay with the server")
+        root.do("dpkg --purge mulgefa-server mulgefa-client")
+        left = [path for path in (drop_in, "/etc/mulgefa", "/etc/systemd/system/nut-driver.target.wants/nut-driver@apc.service") if os.path.lexists(root.path(path))]
+        expect(left, [], "what is left")
 
     def test_installation_that_fails(self):
         """If the first configuration fails in the middle, what is made later by hand isn't the package's to remove, and
