@@ -7,7 +7,7 @@ use Rattle.nut_conf.specs.Rows.{number_set}
 use Rattle.nut_conf.specs.Settings.{Number}
 use Rattle.nut_conf.specs.Upsmon.{UpsmonHolds, monitor_setting, power_of, power, number_or, min_supplies, supplied}
 use Rattle.nut_conf.specs.declared.fault.FaultKind.TheVariants.{PastLimit}
-use Rattle.nut_conf.specs.declared.upsmon.UpsmonConf.{UpsmonConf}
+use Rattle.nut_conf.specs.declared.upsmon.MonConfig.{MonConfig}
 use Rattle.nut_conf.specs.declared.monitor.Monitored.{Monitored}
 use Rattle.nut_conf.specs.declared.text.NumberOr.{NumberOr}
 use Rattle.nut_conf.specs.declared.upsmon.UpsmonDirective.TheVariants as directives
@@ -25,7 +25,7 @@ number_or-set {default = default} n =
     cond_both n.is_set (Number n.value ∷ []) [] (λ ds. number_or default ds ≡ n.value) (λ _. refl) (λ is. sym (n.unset is))
 
 -- The power values of the file suffice if those of the configuration do.
-pub supplied-conf : (c : UpsmonConf) (lines : List Words) → UpsmonHolds c lines
+pub supplied-conf : (c : MonConfig) (lines : List Words) → UpsmonHolds c lines
     → supplied lines ≡ cond (nat_lt (sum_by (λ m. m.power.value) c.monitors.lines.items) c.min_supplies.value) (Err (0, PastLimit)) (Ok lines)
 supplied-conf c lines holds =
     let sums : power lines ≡ sum_by (λ m. m.power.value) c.monitors.lines.items = ap (sum_by power_of) (sym (holds directives.Monitor)) ∙ sum_by-monitors c.monitors.lines.items in

@@ -17,7 +17,7 @@ use Rattle.nut_conf.specs.Users.{role_word}
 use Rattle.nut_conf.specs.Notices.{message_value, message_setting, flags_value, handling_setting, same_notice, default_text, default_flags, is_text_of, is_handling_of}
 use Rattle.nut_conf.specs.declared.notice.Notice.{Notice}
 use Rattle.nut_conf.specs.declared.notice.NoticeFlags.{NoticeFlags}
-use Rattle.nut_conf.specs.declared.upsmon.UpsmonConf.{UpsmonConf}
+use Rattle.nut_conf.specs.declared.upsmon.MonConfig.{MonConfig}
 use Rattle.nut_conf.specs.declared.monitor.Monitored.{Monitored}
 use Rattle.nut_conf.specs.declared.upsmon.UpsmonDirective.{UpsmonDirective}
 use Rattle.nut_conf.specs.declared.upsmon.UpsmonDirective.TheVariants as directives
@@ -59,24 +59,24 @@ same_target (Monitor a) (Monitor b) = bytes_eq a.ups b.ups && bytes_eq a.host b.
 same_target _ _ = false
 
 -- the directives of the file
-abbrev pub upsmon_row : UpsmonDirective → Row UpsmonConf
+abbrev pub upsmon_row : UpsmonDirective → Row MonConfig
 upsmon_row directives.Monitor =
     list_row (codes "MONITOR") (distinct same_target (Some MONITORS_MAX) Plain monitor_value) monitor_setting
-    (λ (c : UpsmonConf). c.monitors.lines.items)
-upsmon_row directives.MinSupplies = number_row (codes "MINSUPPLIES") (λ (c : UpsmonConf). c.min_supplies)
-upsmon_row directives.ShutdownCmd = text_row (codes "SHUTDOWNCMD") Plain (λ (c : UpsmonConf). c.shutdown_cmd)
-upsmon_row directives.NotifyCmd = text_row (codes "NOTIFYCMD") Plain (λ (c : UpsmonConf). c.notify_cmd)
-upsmon_row directives.PowerDownFlag = text_row (codes "POWERDOWNFLAG") Plain (λ (c : UpsmonConf). c.power_down_flag)
-upsmon_row directives.PollFreq = number_row (codes "POLLFREQ") (λ (c : UpsmonConf). c.poll_freq)
-upsmon_row directives.DeadTime = number_row (codes "DEADTIME") (λ (c : UpsmonConf). c.dead_time)
-upsmon_row directives.RbWarnTime = number_row (codes "RBWARNTIME") (λ (c : UpsmonConf). c.rb_warn_time)
-upsmon_row directives.NoCommWarnTime = number_row (codes "NOCOMMWARNTIME") (λ (c : UpsmonConf). c.no_comm_warn_time)
-upsmon_row directives.HostSync = number_row (codes "HOSTSYNC") (λ (c : UpsmonConf). c.host_sync)
-upsmon_row directives.FinalDelay = number_row (codes "FINALDELAY") (λ (c : UpsmonConf). c.final_delay)
+    (λ (c : MonConfig). c.monitors.lines.items)
+upsmon_row directives.MinSupplies = number_row (codes "MINSUPPLIES") (λ (c : MonConfig). c.min_supplies)
+upsmon_row directives.ShutdownCmd = text_row (codes "SHUTDOWNCMD") Plain (λ (c : MonConfig). c.shutdown_cmd)
+upsmon_row directives.NotifyCmd = text_row (codes "NOTIFYCMD") Plain (λ (c : MonConfig). c.notify_cmd)
+upsmon_row directives.PowerDownFlag = text_row (codes "POWERDOWNFLAG") Plain (λ (c : MonConfig). c.power_down_flag)
+upsmon_row directives.PollFreq = number_row (codes "POLLFREQ") (λ (c : MonConfig). c.poll_freq)
+upsmon_row directives.DeadTime = number_row (codes "DEADTIME") (λ (c : MonConfig). c.dead_time)
+upsmon_row directives.RbWarnTime = number_row (codes "RBWARNTIME") (λ (c : MonConfig). c.rb_warn_time)
+upsmon_row directives.NoCommWarnTime = number_row (codes "NOCOMMWARNTIME") (λ (c : MonConfig). c.no_comm_warn_time)
+upsmon_row directives.HostSync = number_row (codes "HOSTSYNC") (λ (c : MonConfig). c.host_sync)
+upsmon_row directives.FinalDelay = number_row (codes "FINALDELAY") (λ (c : MonConfig). c.final_delay)
 upsmon_row directives.NotifyMsg =
-    list_row (codes "NOTIFYMSG") (distinct same_notice None Plain message_value) message_setting (λ (c : UpsmonConf). c.messages.items)
+    list_row (codes "NOTIFYMSG") (distinct same_notice None Plain message_value) message_setting (λ (c : MonConfig). c.messages.items)
 upsmon_row directives.NotifyFlag =
-    list_row (codes "NOTIFYFLAG") (distinct same_notice None Plain flags_value) handling_setting (λ (c : UpsmonConf). c.handlings.items)
+    list_row (codes "NOTIFYFLAG") (distinct same_notice None Plain flags_value) handling_setting (λ (c : MonConfig). c.handlings.items)
 
 -- the rows of the table
 abbrev pub upsmon_rows : List UpsmonDirective
@@ -94,7 +94,7 @@ abbrev pub upsmon_fault : LineFault
 upsmon_fault = line_fault (directives_of upsmon_row upsmon_rows)
 
 -- The configuration holds what the lines of the file set, for each directive.
-abbrev pub UpsmonHolds : UpsmonConf → List Words → Type 0
+abbrev pub UpsmonHolds : MonConfig → List Words → Type 0
 UpsmonHolds = RowsHold upsmon_row
 
 -- the power value that a setting has: 0 for any other than a MONITOR line's
@@ -124,9 +124,9 @@ abbrev pub upsmon_reading : List ℕ → Result (List Words) (ℕ × FaultKind)
 upsmon_reading bytes = read_file upsmon_fault bytes >>= supplied
 
 -- the text of a type of notice: its default if none is set
-abbrev pub message_of : Notice → UpsmonConf → List ℕ
+abbrev pub message_of : Notice → MonConfig → List ℕ
 message_of n c = option_map_or (λ m. m.text.bytes.items) (find (is_text_of n) c.messages.items) (default_text n)
 
 -- what is done with a type of notice: `SYSLOG+WALL` if no flags are set
-abbrev pub flags_of : Notice → UpsmonConf → NoticeFlags
+abbrev pub flags_of : Notice → MonConfig → NoticeFlags
 flags_of n c = option_map_or (λ h. h.flags) (find (is_handling_of n) c.handlings.items) default_flags

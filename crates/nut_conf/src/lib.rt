@@ -46,5 +46,5 @@ pub use text::{Name, Number, NumberOr, Port, Text};
 pub use texts::Texts;
 pub use ups::{Ups, UpsConf, UpsDirective, read_ups, ups_limits};
 pub use upsd::{Endpoint, UpsdConf, UpsdDirective, read_upsd, upsd_limits};
-pub use upsmon::{UPSMON_DIRECTIVES, UpsmonConf, UpsmonDirective, read_upsmon, upsmon_limits};
+pub use upsmon::{MonConfig, UPSMON_DIRECTIVES, UpsmonDirective, read_upsmon, upsmon_limits};
 pub use users::{Action, Commands, Role, User, UserDirective, UsersConf, read_users, user_limits};

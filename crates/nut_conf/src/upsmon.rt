@@ -6,7 +6,7 @@ ghost use Rattle.nut_conf.specs.Memory.{MayRunOut};
 ghost use Rattle.nut_conf.specs.Values.{is_text};
 ghost use Rattle.nut_conf.specs.Upsmon.{UpsmonHolds, upsmon_fault, upsmon_grows, upsmon_reading, message_of, flags_of};
 ghost use Rattle.nut_conf.specs.Rows.{lengths_of, numbers_of};
-ghost use Rattle.nut_conf.specs.declared.upsmon.UpsmonConf.{UpsmonConf};
+ghost use Rattle.nut_conf.specs.declared.upsmon.MonConfig.{MonConfig};
 
 use crate::directives::Directives;
 use crate::fault::{ConfFault, FaultKind};
@@ -22,7 +22,7 @@ use crate::values::Form;
 use std::alloc::Global;
 
 /// The configuration of upsmon.conf(5). A directive that isn't set has its default.
-pub struct UpsmonConf {
+pub struct MonConfig {
     /// MONITOR. A file that was read has no two with the same target.
     pub monitors: Lines<Monitored, MONITORS_MAX>,
     /// MINSUPPLIES: a shutdown begins if the power values of the UPSes that aren't critical sum to less than this.
@@ -53,9 +53,9 @@ pub struct UpsmonConf {
 }
 
 // A derived drop would be proved again in each crate that drops a value, with those of its parts.
-impl Drop for UpsmonConf {
+impl Drop for MonConfig {
     fn drop(self) {
-        let UpsmonConf {
+        let MonConfig {
             monitors: _monitors,
             min_supplies: _,
             shutdown_cmd: _shutdown_cmd,
@@ -73,7 +73,7 @@ impl Drop for UpsmonConf {
     }
 }
 
-impl UpsmonConf {
+impl MonConfig {
     /// Returns the text of a type of notice, or its default. The first `%s` stands for the UPS.
     pub fn message(&self, notice: Notice) -> &[u8]
         ensures value { result.now ≡ message_of notice self.now }
@@ -122,16 +122,16 @@ impl UpsmonConf {
 /// States a law and does nothing when called: the least and the greatest number that each directive takes, and its
 /// default; and the least and the greatest length of a text.
 pub fn upsmon_limits()
-    ensures min_supplies { numbers_of (λ (c : UpsmonConf). c.min_supplies) ≡ (0, 32000, 1) }
-    ensures poll_freq { numbers_of (λ (c : UpsmonConf). c.poll_freq) ≡ (1, 1000000, 5) }
-    ensures dead_time { numbers_of (λ (c : UpsmonConf). c.dead_time) ≡ (1, 1000000, 15) }
-    ensures rb_warn_time { numbers_of (λ (c : UpsmonConf). c.rb_warn_time) ≡ (1, 1000000, 43200) }
-    ensures no_comm_warn_time { numbers_of (λ (c : UpsmonConf). c.no_comm_warn_time) ≡ (1, 1000000, 300) }
-    ensures host_sync { numbers_of (λ (c : UpsmonConf). c.host_sync) ≡ (0, 1000000, 15) }
-    ensures final_delay { numbers_of (λ (c : UpsmonConf). c.final_delay) ≡ (0, 1000000, 5) }
-    ensures shutdown_cmd { lengths_of (λ (c : UpsmonConf). c.shutdown_cmd) ≡ (1, 256) }
-    ensures notify_cmd { lengths_of (λ (c : UpsmonConf). c.notify_cmd) ≡ (1, 256) }
-    ensures power_down_flag { lengths_of (λ (c : UpsmonConf). c.power_down_flag) ≡ (1, 256) }
+    ensures min_supplies { numbers_of (λ (c : MonConfig). c.min_supplies) ≡ (0, 32000, 1) }
+    ensures poll_freq { numbers_of (λ (c : MonConfig). c.poll_freq) ≡ (1, 1000000, 5) }
+    ensures dead_time { numbers_of (λ (c : MonConfig). c.dead_time) ≡ (1, 1000000, 15) }
+    ensures rb_warn_time { numbers_of (λ (c : MonConfig). c.rb_warn_time) ≡ (1, 1000000, 43200) }
+    ensures no_comm_warn_time { numbers_of (λ (c : MonConfig). c.no_comm_warn_time) ≡ (1, 1000000, 300) }
+    ensures host_sync { numbers_of (λ (c : MonConfig). c.host_sync) ≡ (0, 1000000, 15) }
+    ensures final_delay { numbers_of (λ (c : MonConfig). c.final_delay) ≡ (0, 1000000, 5) }
+    ensures shutdown_cmd { lengths_of (λ (c : MonConfig). c.shutdown_cmd) ≡ (1, 256) }
+    ensures notify_cmd { lengths_of (λ (c : MonConfig). c.notify_cmd) ≡ (1, 256) }
+    ensures power_down_flag { lengths_of (λ (c : MonConfig). c.power_down_flag) ≡ (1, 256) }
 {}
 
 /// The directives of the file.
@@ -180,7 +180,7 @@ fn lacks_power(monitors: &[Monitored], needed: u32) -> bool
     missing > 0
 }
 
-impl Directives for UpsmonConf {
+impl Directives for MonConfig {
     ghost use Rattle.nut_conf.specs.Upsmon.{upsmon_row, upsmon_rows};
     ghost use Rattle.nut_conf.specs.inside.Found.{upsmon_found};
 
@@ -197,7 +197,7 @@ impl Directives for UpsmonConf {
     }
 
     fn unset(alloc: Global) -> Self {
-        UpsmonConf {
+        MonConfig {
             monitors: Lines::new(alloc),
             min_supplies: NumberOr::new(),
             shutdown_cmd: None,
@@ -242,12 +242,12 @@ impl Directives for UpsmonConf {
 /// fault of the first line that has a fault. If no line has a fault, `PastLimit` at line 0 if the power values of all
 /// `MONITOR` lines sum to less than `MINSUPPLIES`. `Memory` comes only at a line with a backslash, or at a line without
 /// a fault that has `MONITOR`, `NOTIFYMSG` or `NOTIFYFLAG`.
-pub fn read_upsmon(alloc: Global, bytes: &[u8]) -> Result<UpsmonConf, ConfFault>
+pub fn read_upsmon(alloc: Global, bytes: &[u8]) -> Result<MonConfig, ConfFault>
     ensures means { Means (upsmon_reading bytes.now) UpsmonHolds result }
     ensures supplied { IfOk result (λ conf. conf.min_supplies.value ≤ sum_by (λ m. m.power.value) conf.monitors.lines.items) }
     ensures memory { IfErr result (λ fault. fault.kind ≡ FaultKind.Memory → MayRunOut upsmon_fault upsmon_grows bytes.now fault.line) }
 {
-    let conf: UpsmonConf = read_draft(alloc, bytes)?;
+    let conf: MonConfig = read_draft(alloc, bytes)?;
     if lacks_power(conf.monitors.lines.as_slice(), conf.min_supplies.value) {
         return Err(ConfFault {
             line: 0,

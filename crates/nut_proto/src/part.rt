@@ -9,7 +9,7 @@ ghost use Rattle.nut_proto.specs.inside.Written.{Puts};
 use crate::number::{decimal, signed_decimal};
 use crate::word::Word;
 use arrayvec::ArrayVec;
-use nut_words::{Out, put_quoted, put_word};
+use nut_words::{Out, append_quoted, append_word};
 
 /// A part of a message, and the way it is written.
 #[derive(Drop)]
@@ -52,11 +52,11 @@ impl Part<'_> {
         ensures { Puts O.most (O.held out.old) (O.held out.new) (part_text self.now) result }
     {
         match self {
-            Part::Word(word) => put_word(out, word.as_bytes()),
-            Part::Quoted(text) => put_quoted(out, text.as_bytes()),
-            Part::Number(number) => put_word(out, decimal(*number).as_slice()),
-            Part::QuotedNumber(number) => put_quoted(out, signed_decimal(*number).as_slice()),
-            Part::StringOf(limit) => put_word(out, string_of(*limit).as_slice()),
+            Part::Word(word) => append_word(out, word.as_bytes()),
+            Part::Quoted(text) => append_quoted(out, text.as_bytes()),
+            Part::Number(number) => append_word(out, decimal(*number).as_slice()),
+            Part::QuotedNumber(number) => append_quoted(out, signed_decimal(*number).as_slice()),
+            Part::StringOf(limit) => append_word(out, string_of(*limit).as_slice()),
         }
     }
 

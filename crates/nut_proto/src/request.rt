@@ -1,5 +1,6 @@
 //! The requests of a client: how the words after GET, LIST and SET are read, and how requests are written.
-ghost use Rattle.std.specs.Prelude.{◌≡◌, ◌++◌, length, OnOk, OnErr};
+ghost use Rattle.std.specs.Prelude.{◌≡◌, ◌≤◌, ◌↔◌, ◌++◌, length, IsTrue, OnOk, OnErr};
+ghost use Rattle.std.specs.Bool.{OnTrue, OnFalse};
 ghost use Rattle.nut_words.specs.Out.{Fits, Exceeds};
 ghost use Rattle.nut_proto.specs.Requests.{about, begin_line, end_line, get_forms, get_tracking, list_forms, request_line, set_forms};
 ghost use Rattle.nut_proto.specs.inside.Written.{Puts, written};
@@ -10,6 +11,7 @@ use crate::line::Line;
 use crate::part::{Part, text};
 use crate::tracking::switch_word;
 use crate::word::Word;
+use arrayvec::ArrayVec;
 use nut_words::Out;
 
 /// A request of a client to the server (RFC 9271, section 4; NUT developer guide, 9.4 to 9.15). It borrows its words.
@@ -193,6 +195,16 @@ impl<'a> Request<'a> {
         ensures full { OnErr result (Exceeds O.most (length (O.held out.old ++ request_line self.now))) }
     {
         self.line().put(out)
+    }
+
+    /// Appends the request's line with its line feed, as [`put`](Request::put) does. Returns whether there was room for the
+    /// whole: if not, `out` is as it was. Allocates no memory.
+    pub fn put_in<const N: usize>(&self, out: &mut ArrayVec<u8, N>) -> bool
+        ensures fits { IsTrue result ↔ (length (out.old.items ++ request_line self.now) ≤ N) }
+        ensures put { OnTrue result (out.new.items ≡ out.old.items ++ request_line self.now) }
+        ensures same { OnFalse result (out.new.items ≡ out.old.items) }
+    {
+        self.put(out).is_ok()
     }
 
     #[tactic(auto, unfolding(crate::specs::Requests::request_line, crate::specs::Lines::line))]

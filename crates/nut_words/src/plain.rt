@@ -43,7 +43,7 @@ pub fn bare_word(bytes: &[u8], end: u8) -> Option<(&[u8], &[u8])>
 }
 
 /// Returns the text between the quotes of a quoted word, if these bytes are that word, and each byte of the text is printing and
-/// stands there as [`put_quoted`](crate::put_quoted) writes it without a backslash. Allocates no memory.
+/// stands there as [`append_quoted`](crate::append_quoted) writes it without a backslash. Allocates no memory.
 pub fn quoted_text(bytes: &[u8]) -> Option<&[u8]>
     ensures { IfSome result (λ text. (bytes.now ≡ quoted text.now) × IsPrintable text.now) }
 {

@@ -1,6 +1,6 @@
 use Rattle.std.proofs.Common.{arith}
 use Rattle.std.proofs.lemmas.Grind.{common_steps}
-use Rattle.nut_words.proofs.quoting.put_quoted.Goals as goal
+use Rattle.nut_words.proofs.quoting.append_quoted.Goals as goal
 
 pub returns-then-is_err-clause-err : goal.returns-then-is_err-clause-err
 returns-then-is_err-clause-err g c = grind (arith, common_steps)
