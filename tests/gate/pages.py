@@ -105,6 +105,14 @@ def print_tests(words):
 # ---- what pages name
 
 
+def rows_under(heading, page):
+    """Returns the rows of the table under a heading, each as its cells."""
+    table = page.partition(f"\n{heading}\n")[2].partition("\n#")[0]
+    found = [[cell.strip() for cell in row.strip("|").split("|")] for row in re.findall(r"^\|.*\|$", table, re.M)]
+    ensure(len(found) > 2, f"there is no table under {heading!r}")
+    return found[2:]
+
+
 def prose(text):
     """Returns a page without its blocks of code."""
     return re.sub(r"^```.*?^```$", "", text, flags=re.M | re.S)
@@ -127,6 +135,12 @@ class Named:
                 # this file names what there isn't, to see that it is found
                 self.texts += [self.code(path) for path in paths if path != os.path.abspath(__file__)]
         self.words = set(self.WORD.findall("\n".join(self.texts))) | OF_OTHERS
+        # what each module of tests has, as pages name it: `upsd_sockets.notices`
+        self.tests = {
+            f"{os.path.basename(path)[:-3]}.{name}"
+            for path in files_of(os.path.join(ROOT, "tests"), ".py")
+            for name in re.findall(r"^    def test_(\w+)", read(path), re.M)
+        }
         # files of definitions and of proofs have names that stand in no text
         for folder in glob.glob(os.path.join(ROOT, "crates", "*", "specs")) + glob.glob(os.path.join(ROOT, "crates", "*", "proofs")):
             self.words |= {os.path.basename(path)[:-5] for path in files_of(folder, ".antt")}
@@ -169,6 +183,8 @@ class Named:
             return [] if self.library.code_home(item[1], item[2], None) or self.has_function(*item.groups()) else [span]
         if self.PATH.fullmatch(span):
             return [] if self.has_path(span) else [span]
+        if re.fullmatch(r"\w+\.\w+", span) and any(it.startswith(span.partition(".")[0] + ".") for it in self.tests):
+            return [] if span in self.tests or self.is_said(span) else [span]
         names = [word for word in self.WORD.findall(span) if self.IS_NAME.fullmatch(word)]
         return [word for word in names if word not in self.words and word not in self.library.order]
 
@@ -208,6 +224,14 @@ class Tests:
         expect(found[0].splitlines(), laws().splitlines(), "the laws in docs/proved.md; python3 -m tests.gate.pages --write writes them")
 
     @staticmethod
+    def test_what_differs_from_what_was_asked_is_shown():
+        """Each row of docs/DECISIONS.md on what the programs do differently names tests that are there."""
+        tests = Named().tests
+        for asked, *_, shown in rows_under("### The programs", read(os.path.join(DOCS, "DECISIONS.md"))):
+            named = re.findall(r"`([^`]+)`", shown)
+            ensure(named and tests.issuperset(named), f"docs/DECISIONS.md: {asked} is shown by {shown}")
+
+    @staticmethod
     def test_what_pages_name_is_there():
         """Files, crates, definitions, functions, tests and targets of make that a page names are there."""
         named = Named()
@@ -218,9 +242,20 @@ class Tests:
         """A page that names something that isn't there is refused."""
         named = Named()
         code = ("no_such_function", "NoSuchType", "NO_SUCH_LIMIT", "make nothing")
-        for span in (*code, "nut_words: Nothing", "nut_words::Nothing", "nut_words/src/nothing.rt", "python3 -m tests.nothing"):
+        tests = ("python3 -m tests.nothing", "upsd_sockets.nothing")
+        for span in (*code, "nut_words: Nothing", "nut_words::Nothing", "nut_words/src/nothing.rt", *tests):
             ensure(named.missing_of(f"It is `{span}`."), f"{span} counts as something")
         ensure(named.missing_of("See docs/nothing.md."), "docs/nothing.md counts as a page")
+
+    @staticmethod
+    def test_wrong_bodies_of_first_promises_are_listed():
+        """docs/tests.md lists wrong bodies that are there, and all in the crates' must-fail/, by the words of their names."""
+        rows = re.findall(r"^- (nut_\w+): (.*)$", read(os.path.join(DOCS, "tests.md")), re.M)
+        listed = {f"{crate}: {words}" for crate, row in rows for words in row.lower().replace("'", "").split("; ")}
+        for folders, is_right in ("must-fail", listed.issuperset), ("*", listed.issubset):
+            paths = glob.glob(os.path.join(ROOT, "crates", "nut_*", folders, "*.edit"))
+            found = {re.sub(".*/(.*)/.*/(.*).edit", lambda it: f"{it[1]}: {re.sub('[-_]', ' ', it[2])}", path) for path in paths}
+            ensure(is_right(found), f"docs/tests.md and {folders}/ differ: {sorted(found - listed if folders == 'must-fail' else listed - found)}")
 
     @staticmethod
     def test_pages_are_small():

@@ -119,7 +119,7 @@ class Tests:
             target = self.begin(room, b"ups.status: OL\n")
             numlogins = b"GET NUMLOGINS su700\n"
             with self.watch(target, ("mon", "wrong", "primary"), QUICK) as stranger:
-                refused = (1, "", f"upsmon: {target}: FSD failed: ACCESS-DENIED\n")
+                refused = (1, "", f"upsmon: {target}: FSD failed: LOGIN refused: ACCESS-DENIED\nupsmon: this machine goes on: {target} still supplies 1\n")
                 expect(self.force(stranger.folder), refused, "a wrong password")
             with self.watch(target, ("mon", "m1", "primary"), QUICK + HALTS) as watch:
                 room.until(numlogins, b"NUMLOGINS su700 1\n")

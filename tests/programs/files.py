@@ -400,6 +400,9 @@ MEANT = {
         (b"[a]\n  # Password = %b\xfc\n" % SECRET, "Unreadable", f"column 23: {ASCII}"),
         (b'[a]\npassword = "%b\n' % SECRET, "Unreadable", f"{UNREAD}a quote is not closed"),
         (b"[a]\nPassword = %b\n" % SECRET, "UnknownDirective", "Password isn't taken here: see from-nut(7)"),
+        (b"[a]\n%b\n" % SECRET, "UnknownDirective", "a directive of upsd.users is meant"),
+        (b"[a]\npassword%b\n" % SECRET, "UnknownDirective", "a directive of upsd.users is meant"),
+        (b"%b\n[a]\n" % SECRET, "OutsideSection", "a directive of upsd.users is meant"),
     ],
     "upsd.conf": [
         (b"LISTEN [::1]\n", "BadName", f"[::1]: {ADDRESS}"),
@@ -427,6 +430,7 @@ MEANT = {
         (b"NOTIFYFLAG ONLINE MAIL\n", "UnknownWord", f"MAIL: {FLAGS}"),
         (b"NOTIFYFLAG TEST MAIL\n", "UnknownWord", f"TEST: {TYPE}"),
         (b"RUN_AS_USER nut\n", "UnknownDirective", "RUN_AS_USER isn't taken here: see from-nut(7)"),
+        (b"monitor u@h 1 m %b primary\n" % SECRET, "UnknownDirective", "monitor isn't taken here: see from-nut(7)"),
         (numbered(b"MONITOR u%d@h 1 m p primary\n", 33), "PastLimit", "at most 32 MONITOR lines are taken"),
         # lines with a password, which may be in a wrong place
         (b"MONITOR su700 1 m %b primary\n" % SECRET, "BadName", f"su700: {TARGET}"),
@@ -442,6 +446,7 @@ MEANT = {
         (b"MONITOR u@h m %b primary\n" % SECRET, "BadForm", MONITOR),
         (b"MONITOR u@h 1 m %b\n" % SECRET, "BadForm", MONITOR),
         (b"MONITOR u@h 1 m p primary\nMONITOR u@h 1 m %b primary\n" % SECRET, "Repeated", "u@h: a line before has it"),
+        (b"MONITOR u@h 1 m p primary\n%b primary\n" % SECRET, "UnknownDirective", "a directive of upsmon.conf is meant"),
         (b"MONITOR u@h 1 m %b\xfc primary\n" % SECRET, "Unreadable", f"column 24: {ASCII}"),
         (b"#MONITOR u@h 1 m %b\xfc primary\n" % SECRET, "Unreadable", f"column 25: {MENDED}"),
     ],
@@ -488,6 +493,11 @@ class Tests:
             done = subprocess.run([program, "--check", "--conf", folder], capture_output=True, timeout=60, env={"PATH": folder})
         return done.returncode, done.stdout, done.stderr
 
+    def is_read(self, own, name, status, err, what):
+        """Ensures that no fault was found. The servers that upsmon.conf names aren't there, and upsmon says so."""
+        is_warned = b"upsmon: warning: UPS " in err
+        ensure(status == int(is_warned) and f"{own}: {name}:".encode() not in err, f"{what}: found {status}, {err!r}")
+
     def compare(self, name, program, **others):
         """Compares the first fault that a program finds in each text of a file with the table."""
         own = os.path.basename(program)
@@ -495,7 +505,7 @@ class Tests:
             status, out, err = self.checked(program, **{**others, name.replace(".", "_"): text})
             what = f"{name}, {len(text)} bytes: {text[:60]!r}"
             if fault is None:
-                ensure(status == 0 and f"{own}: {name}:".encode() not in err, f"{what}: found {status}, {err!r}")
+                self.is_read(own, name, status, err, what)
             else:
                 found = status, out, err.split(b"\n")[0]
                 expect(found, (1, b"", f"{own}: {name}:{fault}".encode()), what)
@@ -522,7 +532,7 @@ class Tests:
                 own = os.path.basename(program)
                 what = f"{page}: {text[-60:]!r}"
                 if kind is None:
-                    ensure(status == 0 and f"{own}: {page}:".encode() not in err, f"{what}: found {status}, {err!r}")
+                    self.is_read(own, page, status, err, what)
                     continue
                 said = [f"{own}: {page}:{len(text.splitlines())}: {kind}", f"{own}: {meant}"]
                 expect((status, out, err.decode().splitlines()), (1, b"", said), what)

@@ -165,7 +165,8 @@ class Tests:
             for name, text in found:
                 if name.startswith("`-"):
                     said = self.said(self.program(program), *name.strip("`").split())
-                    expect("unexpected argument" in said, text.startswith("refused"), f"{program} refuses {name}: {said}")
+                    is_refused = "unexpected argument" in said or "isn't an option here" in said
+                    expect(is_refused, text.startswith("refused"), f"{program} refuses {name}: {said}")
 
     def test_directives_are_taken_as_told(self):
         for section, found in self.sections().items():
@@ -182,7 +183,9 @@ class Tests:
                     program = "upsmon" if section == "upsmon.conf" else "upsd"
                     said = self.said(self.program(program), "--check", "--conf", folder)
                     expect("UnknownDirective" in said, text.startswith("not taken"), f"{section}: {name}: {said}")
-                    hint = f"\n{program}: {word} isn't taken here: see from-nut(7)\n"
+                    # a type of notice begins no line of NUT's, so it isn't shown: it could be a password
+                    meant = f"a directive of {section} is meant" if word == "NOPARENT" else f"{word} isn't taken here: see from-nut(7)"
+                    hint = f"\n{program}: {meant}\n"
                     expect(said.endswith(hint), text.startswith("not taken"), f"{section}: {name}: {said}")
 
     def sections(self):

@@ -8,6 +8,7 @@ line is 'N passed, M failed'."""
 
 import contextlib
 import errno
+import fcntl
 import functools
 import os
 import resource
@@ -20,7 +21,8 @@ import sys
 import tempfile
 import time
 
-from tests.support.harness import build_library, cannot_read, ensure, expect, needs_proved_build, patience, processor_time, run_tests
+from tests.support.harness import Shimmed, build_library, built_without_proof, cannot_listen, cannot_read, ensure, expect
+from tests.support.harness import needs_proved_build, patience, processor_time, run_tests
 from tests.support.room import NOT_CONNECTED, ONLINE, NO_PINGS, SOON, STATUS, VERSION, Client, Lines, Room
 from tests.support.room import accepted, descriptors, said, stopped, until
 
@@ -38,6 +40,11 @@ SILENT = "upsd: client 127.0.0.1 closed: silent for {} s"
 FULL = "upsd: cannot let a client in: MAXCONN {} is reached"
 MADE_WAY = "upsd: client 127.0.0.1 closed: it isn't logged in, and MAXCONN {} is reached"
 LOG_IN = b"USERNAME mon\nPASSWORD m1\nLOGIN su700\n"
+# why a driver can't listen where another one does, or is about to
+IN_USE = "another driver listens there"
+LOCKED = "another driver is about to listen there"
+# the mode of a driver's socket
+SHARED = 0o660
 
 
 def resident(pid):
@@ -62,6 +69,11 @@ def is_quiet(pid):
     used = processor_time(pid)
     time.sleep(0.5)
     return processor_time(pid) - used < patience(0.1)
+
+
+def mode_of(path):
+    """Returns who may connect to a socket, as the bits of a mode."""
+    return stat.S_IMODE(os.stat(path).st_mode)
 
 
 class Hostile:
@@ -97,7 +109,7 @@ def closing(clients):
             client.close()
 
 
-class Tests:
+class Tests(Shimmed):
     def __init__(self, upsd, dummy, folder):
         self.programs = (upsd, dummy)
         self.folder = folder
@@ -447,16 +459,16 @@ class Tests:
             path = room.path("dummy-ups-su700")
             with Client(path):
                 pass
-            until(lambda: stat.S_IMODE(os.stat(path).st_mode) == 0o660, "its user and its group may connect, and nobody else")
+            until(lambda: mode_of(path) == SHARED, "its user and its group may connect, and nobody else")
             second = [self.programs[1], room.path("su700.dev"), path]
-            in_use = f"dummy-ups: {path}: another driver listens there\n".encode()
+            in_use = cannot_listen("dummy-ups", path, IN_USE).encode()
             for _ in range(2):
                 done = subprocess.run(second, capture_output=True, timeout=60)
                 expect((done.returncode, done.stdout, done.stderr), (1, b"", in_use), "a second driver")
             # one that can't find out whether a driver listens there, for lack of descriptors, leaves the socket alone
             few = (6, resource.getrlimit(resource.RLIMIT_NOFILE)[1])
             done = subprocess.run(second, capture_output=True, timeout=60, preexec_fn=lambda: resource.setrlimit(resource.RLIMIT_NOFILE, few))
-            unknown = f"dummy-ups: cannot listen on {path}: {os.strerror(errno.EMFILE)} (os error {errno.EMFILE})\n".encode()
+            unknown = cannot_listen("dummy-ups", path, errno.EMFILE).encode()
             expect((done.returncode, done.stdout, done.stderr), (1, b"", unknown), "a second driver without descriptors")
             room.upsd()
             room.until(STATUS, ONLINE)
@@ -466,6 +478,121 @@ class Tests:
             ensure(os.path.exists(path), "a driver that is killed leaves its socket behind")
             room.dummy()
             room.until(STATUS, ONLINE)
+
+    def drivers_at(self, room, path, count):
+        """Starts as many drivers at a socket at once. Returns the one that serves there, once the others have ended."""
+        drivers = [room.start([self.programs[1], room.path("su700.dev"), path]) for _ in range(count)]
+        until(lambda: sum(it.poll() is None for it in drivers) <= 1, f"one of {count} drivers is left")
+        left = [it for it in drivers if it.poll() is None]
+        expect(len(left), 1, f"drivers that serve, of {count} that began at once")
+        told = {cannot_listen("dummy-ups", path, it).encode() for it in (IN_USE, LOCKED)}
+        for driver in drivers:
+            if driver is not left[0]:
+                said_last = driver.stderr.read()
+                ensure(driver.returncode == 1 and said_last in told, f"one that doesn't serve says {said_last}")
+        return left[0]
+
+    def test_drivers_that_begin_at_once(self):
+        with self.room() as room:
+            with open(room.path("su700.dev"), "w") as file:
+                file.write("ups.status: OL\n")
+            path = room.path("socket")
+            for i in range(4 if built_without_proof() else 20):
+                # where nothing is, where a driver was killed, and where an empty file is
+                if i % 4 == 2:
+                    os.remove(path)
+                elif i % 4 == 3:
+                    os.remove(path)
+                    os.close(os.open(path, os.O_CREAT | os.O_WRONLY))
+                driver = self.drivers_at(room, path, 6)
+                with Client(path) as server:
+                    expect(server.ask(b"PING\n"), b"PONG\n", "the one that is left")
+                driver.kill()
+                driver.wait()
+                ensure(not os.path.exists(f"{path}.lock"), "a lock file is left behind")
+
+    def held_up(self, room, path, call, mask=0o077):
+        """Starts a driver at a socket that stands still after its next call of this kind, until the file `hold` is removed."""
+        hold = room.path("hold")
+        os.close(os.open(hold, os.O_CREAT | os.O_WRONLY))
+        env = {**os.environ, "LD_PRELOAD": self.shim, "HOLD": call, "HOLD_WHILE": hold}
+        words = [self.programs[1], room.path("su700.dev"), path]
+        driver = room.start(words, env=env, preexec_fn=lambda: os.umask(mask))
+        until(lambda: os.path.exists(f"{path}.lock"), "a driver begins")
+        return driver
+
+    def test_drivers_that_are_held_up(self):
+        with self.room() as room:
+            with open(room.path("su700.dev"), "w") as file:
+                file.write("ups.status: OL\n")
+            path = room.path("socket")
+            second = [self.programs[1], room.path("su700.dev"), path]
+            locked = cannot_listen("dummy-ups", path, LOCKED).encode()
+            for call in ("connect", "bind"):
+                # one looks at what a driver left, or has bound and doesn't listen yet
+                room.listener("socket").close()
+                first = self.held_up(room, path, call)
+                for _ in range(2):
+                    done = subprocess.run(second, capture_output=True, timeout=60)
+                    expect((done.returncode, done.stdout, done.stderr), (1, b"", locked), f"a second driver while one is held at {call}")
+                os.remove(room.path("hold"))
+                with Client(path) as server:
+                    expect(server.ask(b"PING\n"), b"PONG\n", f"a driver that was held at {call}")
+                first.kill()
+                first.wait()
+                # one that is killed there leaves nothing that holds up the next
+                os.remove(path)
+                room.listener("socket").close()
+                first = self.held_up(room, path, call)
+                first.kill()
+                first.wait()
+                os.remove(room.path("hold"))
+                self.drivers_at(room, path, 2).kill()
+                os.remove(path)
+
+    def test_lock_of_a_socket(self):
+        with self.room() as room:
+            path = room.path("dummy-ups-su700")
+            locked = cannot_listen("dummy-ups", path, LOCKED).encode()
+            with open(f"{path}.lock", "w") as file:
+                fcntl.flock(file, fcntl.LOCK_EX)
+                driver = room.dummy()
+                expect((driver.wait(SOON), driver.stderr.read()), (1, locked), "a driver without the lock")
+                # a file that holds something is another's, and stays
+                file.write("of value")
+            room.dummy()
+            with Client(path) as server:
+                expect(server.ask(b"PING\n"), b"PONG\n", "a driver with the lock")
+            with open(f"{path}.lock") as file:
+                expect(file.read(), "of value", "a file that has the name of a lock")
+
+    def test_mode_of_a_socket(self):
+        with self.room() as room:
+            with open(room.path("su700.dev"), "w") as file:
+                file.write("ups.status: OL\n")
+            for mask in (0, 0o022, 0o077, 0o777):
+                path = room.path(f"socket-{mask}")
+                driver = self.held_up(room, path, "bind", mask)
+                until(lambda: os.path.exists(path), "a driver has bound its socket")
+                expect(mode_of(path) & ~SHARED, 0, f"more than a socket may ever allow, with the umask {mask:o}")
+                with socket.socket(socket.AF_UNIX) as early:
+                    expect(early.connect_ex(path), errno.ECONNREFUSED, "a server before the mode is set")
+                os.remove(room.path("hold"))
+                until(lambda: mode_of(path) == SHARED, f"the mode of a socket, with the umask {mask:o}")
+                driver.kill()
+
+    def test_no_watch_is_left(self):
+        """A program that can't wait for its sockets says so before it ends."""
+        with self.room() as room:
+            env = {**os.environ, "LD_PRELOAD": self.shim, "REFUSE": "watch"}
+            with open(room.path("su700.dev"), "w") as file:
+                file.write("ups.status: OL\n")
+            for words, told in (
+                ([self.programs[1], room.path("su700.dev"), room.path("socket")], b"dummy-ups: I/O failed\n"),
+                ([self.programs[0], "--conf", room.folder, "-s", room.folder, "-q"], b"upsd: I/O failed\n"),
+            ):
+                done = subprocess.run(words, env=env, capture_output=True, timeout=60)
+                ensure(done.returncode == 1 and done.stderr.endswith(told), f"{words[0]} ends with {done.returncode} and {done.stderr}")
 
     def test_files_that_are_no_scripts(self):
         path = os.path.join(self.folder, "endless.dev")

@@ -6,6 +6,7 @@ plain everywhere else.
 
 The last line is 'N passed, M failed'."""
 
+import errno
 import os
 import socket
 import subprocess
@@ -27,6 +28,7 @@ from tests.support.room import STATUS, Lines, Room, until
 
 HALTS = 'SHUTDOWNCMD "touch FOLDER/halted"\n'
 VARIABLE = "JOURNAL_STREAM"
+KEPT = "<3>not reloaded: the earlier configuration stays in force"
 
 
 def named(stream, device=0, inode=0):
@@ -104,8 +106,9 @@ class Tests:
                 journal.next("<4>UPS su700: shutdown is forced (FSD)")
             driver.kill()
             journal.next("<4>UPS su700: driver lost")
-            self.reload(room, b"[su700\n")
-            journal.next("<3>not reloaded: ups.conf:1: ")
+            self.reload(room, b"[su700]\n[su700]\n")
+            journal.next(KEPT)
+            expect(journal.found_last(3), ["<3>ups.conf:2: Repeated", "<3>[su700]: a line before has it", KEPT], "a fault")
             self.reload(room, b"[su700]\ndesc = \"another\"\n")
             journal.next("<5>reloaded: UPS su700: description")
             for line in journal.lines:
@@ -123,6 +126,10 @@ class Tests:
         why = f"{path}/ups.conf: No such file or directory (os error 2)"
         serves = [self.upsd, "--conf", path, "-s", path]
         expect(self.ended(serves), (1, ["<3>ups.conf: cannot read", f"<3>{why}"]), "upsd without its files")
+        with self.room() as room, socket.create_server(("127.0.0.1", room.port)):
+            listens = [self.upsd, "--conf", room.folder, "-s", room.folder]
+            why = f"<3>{os.strerror(errno.EADDRINUSE)} (os error {errno.EADDRINUSE})"
+            expect(self.ended(listens), (1, [f"<3>cannot listen on 127.0.0.1:{room.port}", why]), "upsd at a port in use")
         why = f"{path}/upsmon.conf: No such file or directory (os error 2)"
         watches = [self.upsmon, "--conf", path]
         expect(self.ended(watches), (1, ["<3>upsmon.conf: cannot read", f"<3>{why}"]), "upsmon without its file")
@@ -147,6 +154,12 @@ class Tests:
                 journal.next(f"<6>UPS {target}: watched as secondary, power value 1")
                 journal.next("<6>stops within ")
                 journal.next(f"<6>UPS {target}: server connected")
+                with watch.open("upsmon.conf") as file:
+                    file.write(b"POLLFREQ x\n")
+                watch.open("reload").close()
+                journal.next(KEPT)
+                fault = ["<3>upsmon.conf:1: BadNumber", "<3>x: a number from 1 to 1000000 is meant"]
+                expect(journal.found_last(3), [*fault, KEPT], "a fault")
                 server.statuses[b"su700"] = b"OB"
                 journal.next(f"<5>{ON_BATTERY % target}")
                 server.statuses[b"su700"] = b"OB LB"
@@ -156,7 +169,7 @@ class Tests:
             lines = journal.whole()
             expect([line for line in lines if line in last], last, "how the shutdown begins")
             for line in lines:
-                ensure(line[:3] in ("<4>", "<5>", "<6>") and "upsmon" not in line, f"the beginning of {line!r}")
+                ensure(line[:3] in ("<3>", "<4>", "<5>", "<6>") and "upsmon:" not in line, f"the beginning of {line!r}")
 
     def test_monitor_without_its_server(self):
         with Journal() as journal, Upstream() as server:

@@ -211,7 +211,7 @@ class Tests:
         write(folder, "upsd.users", "password = x\n")
         self.refused(path, f"{folder}/upsd.users:1: OutsideSection\nnutroom: password: a line [NAME] has to come before it")
         write(folder, "upsd.users", "maxretry = 3\n")
-        self.refused(path, f"{folder}/upsd.users:1: OutsideSection\nnutroom: maxretry isn't taken here: see from-nut(7)")
+        self.refused(path, f"{folder}/upsd.users:1: OutsideSection\nnutroom: a directive of upsd.users is meant")
 
     def test_machines_that_the_server_does_not_let_in(self):
         for user, password, text in (

@@ -394,6 +394,12 @@ class Tests:
         os.remove(path)
         expect(self.run(room, missing), unreadable("ups.conf", path, errno.ENOENT), "UPSes")
 
+    def test_texts_of_a_server_are_not_read(self):
+        """A cmdvartab with a fault, at which upsd ends, is no file of a room."""
+        room = self.room("texts", ALONE, [PRIMARY])
+        self.write("texts/cmdvartab", b"NONSENSE\n")
+        self.plays(room, ALONE_ROW, ALONE_DUE, "a room beside a faulty cmdvartab")
+
     def test_streams_that_are_closed(self):
         room = self.room("closed", ALONE, [PRIMARY])
         path = self.write("closed.sched", b"".join(map(line_of, ALONE_ROW)))

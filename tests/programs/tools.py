@@ -340,8 +340,10 @@ class Tests:
     def test_servers_that_take_too_long(self):
         lost = (1, b"", b"Error: connection lost\n")
         silent, halting, crowded = Teller([]), Teller([b"a" * LINE_MAX]), Crowded()
+        # each byte comes in time, and their line doesn't
+        dripping = Teller(itertools.repeat(b"a"), pause=4)
         asks = (("upsc", ["su700@AT"]), ("upsrw", ["su700@AT"]), ("upscmd", ["-l", "su700@AT"]))
-        cases = [(*ask, place.at) for place in (silent, halting, crowded) for ask in asks]
+        cases = [(*ask, place.at) for place in (silent, halting, dripping, crowded) for ask in asks]
         # the whole takes longer than a tool waits, and no pause does
         answer = ANSWERS[b"LIST VAR su700"]
         slow = Teller([answer[:9], answer[9:40], answer[40:80], answer[80:]], pause=4)
@@ -349,11 +351,11 @@ class Tests:
         with futures.ThreadPoolExecutor(len(cases)) as pool:
             found = list(pool.map(self.timed, cases))
         failed = [(1, b"", f"Error: connection failed\n{tool}: {crowded.at}: connection timed out\n".encode()) for tool, _ in asks]
-        wanted = [lost] * 6 + failed + [(0, VARIABLES, b"")]
+        wanted = [lost] * 9 + failed + [(0, VARIABLES, b"")]
         for (tool, _, at), (end, seconds), want in zip(cases, found, wanted):
             what = f"{tool} with the server at {at}"
             expect(end, want, what)
-            ensure(5 < seconds < 60, f"{what} took {seconds:.1f} seconds")
+            ensure(5 < seconds < (20 if want == lost else 60), f"{what} took {seconds:.1f} seconds")
 
     def test_lines_without_an_end(self):
         """A line is a bad answer at its byte 2,049, whether more follows or not, and whatever came before it."""

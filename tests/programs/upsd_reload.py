@@ -24,6 +24,7 @@ ONE = b'[su700]\ndesc = "Server room"\n'
 TWO = ONE + b"[old]\n"
 MONITOR = b"[mon]\npassword = m1\nupsmon primary\n"
 NOTHING = "upsd: reloaded: nothing changed"
+KEPT = "upsd: not reloaded: the earlier configuration stays in force"
 ORDER = "upsd: reloaded: order of UPSes"
 # a moment in which upsd looks for the file at least twice, in seconds
 LOOKS = 2.5
@@ -107,6 +108,15 @@ class Reloaded(Room):
             expect(found, said, "what changed")
         until(lambda: not self.is_asked(), "the file is removed")
         return found
+
+    def refuse(self, ups, fault):
+        """Has upsd read files again that have this fault, ups.conf with this text. It writes what a start writes, and below that it
+        keeps the earlier configuration."""
+        self.reload(ups, KEPT)
+        done = subprocess.run([self.upsd_program, "--conf", self.folder, "-s", self.folder], capture_output=True, timeout=60)
+        at_start = done.stderr.decode().splitlines()
+        expect((done.returncode, at_start[:1], len(at_start)), (1, [fault], 2), "a start with the same files")
+        expect(self.lines.found_last(3), [*at_start, KEPT], "what is told of a fault")
 
     def upses(self):
         """Returns the names of the UPSes that are served."""
@@ -278,27 +288,25 @@ class Tests(Shimmed):
             with room.client() as client:
                 client.log_in(b"mon", b"m1")
                 expect(client.ask(b"LOGIN su700\n"), b"OK\n", "LOGIN")
-                room.reload(b"[neu]\n\n[a/b]\n", "upsd: not reloaded: ups.conf:3: BadName")
-                room.lines.next("upsd: [a/b]: a name is meant")
+                room.refuse(b"[neu]\n\n[a/b]\n", "upsd: ups.conf:3: BadName")
                 expect(room.upses(), ["su700", "old"], "the old UPSes")
-                room.reload(b"[neu]\nvendorid = 1\n", "upsd: not reloaded: ups.conf:2: UnknownDirective")
-                room.lines.next("upsd: vendorid isn't taken here: see from-nut(7)")
+                room.refuse(b"[neu]\nvendorid = 1\n", "upsd: ups.conf:2: UnknownDirective")
                 room.write("ups.conf", ONE)
                 os.remove(room.path("upsd.users"))
-                room.reload(None, "upsd: not reloaded: upsd.users: cannot read")
-                room.lines.next(f"upsd: {room.path('upsd.users')}: No such file or directory (os error 2)")
+                room.refuse(None, "upsd: upsd.users: cannot read")
                 # nobody writes to it, so a read would wait for ever
                 os.mkfifo(room.path("upsd.users"))
-                room.reload(None, "upsd: not reloaded: upsd.users: cannot read")
-                room.lines.next(f"upsd: {room.path('upsd.users')}: not a plain file")
+                room.refuse(None, "upsd: upsd.users: cannot read")
                 expect(client.ask(STATUS), ONLINE, "an old client, with a pipe in place of a file")
                 os.remove(room.path("upsd.users"))
+                room.write("upsd.users", b"password = m1\n" + USERS)
+                room.refuse(None, "upsd: upsd.users:1: OutsideSection")
                 room.write("upsd.users", USERS)
                 room.write("upsd.conf", b"MAXAGE 0\n")
-                room.reload(None, "upsd: not reloaded: upsd.conf:1: BadNumber")
+                room.refuse(None, "upsd: upsd.conf:1: BadNumber")
                 room.write("upsd.conf", b"LISTEN 127.0.0.1 %d\n" % room.port)
                 room.write("cmdvartab", b"VARDESC x\n")
-                room.reload(None, "upsd: not reloaded: cmdvartab:1: BadForm")
+                room.refuse(None, "upsd: cmdvartab:1: BadForm")
                 os.remove(room.path("cmdvartab"))
                 expect(room.upses(), ["su700", "old"], "the old UPSes after each fault")
                 expect(client.ask(STATUS), ONLINE, "an old client")
@@ -470,7 +478,7 @@ class Tests(Shimmed):
             room.touch()
             until(lambda: room.upses() == ["new"], "the new UPS")
             expect(room.lines.lines, [], "nothing is told of a reload")
-            room.reload(b"[new]\n[new]\n", "upsd: not reloaded: ups.conf:2: Repeated")
+            room.refuse(b"[new]\n[new]\n", "upsd: ups.conf:2: Repeated")
             expect(room.upses(), ["new"], "the old UPS")
 
     def test_file_of_before_the_start(self):
@@ -637,7 +645,8 @@ class Tests(Shimmed):
                 client.send(4 * STATUS)
                 expect([client.line() for _ in range(4)], 4 * [ONLINE], "before")
                 open(once, "w").close()
-                room.reload(TWO, "upsd: not reloaded: out of memory")
+                room.reload(TWO, KEPT)
+                expect(room.lines.found_last(2), ["upsd: out of memory", KEPT], "what is told of a lack of memory")
                 expect(client.ask(STATUS), ONLINE, "without memory")
                 expect(client.ask(b"GET UPSDESC su700\n"), b'UPSDESC su700 "Server room"\n', "an answer that is written the first time")
                 expect(client.ask(status_of(b"old")), b"ERR UNKNOWN-UPS\n", "what couldn't be read")
@@ -762,7 +771,7 @@ class Tests(Shimmed):
             found = room.reload(ups)
             met = not re.match("upsd: reloaded: UPS u0 added", found)
             if met:
-                expect(found, "upsd: not reloaded: out of memory", f"allocation {at}")
+                expect(room.lines.found_last(2), ["upsd: out of memory", KEPT], f"allocation {at}")
                 ensure(room.reload().startswith("upsd: reloaded: UPS u0 added"), f"allocation {at}: the second reload")
             until(lambda: room.serves_all(9, [b"su700", b"u7"]), f"allocation {at}: UPSes are served, and drivers dialled")
             return met

@@ -16,7 +16,8 @@ import tempfile
 import time
 from concurrent import futures
 
-from tests.support.harness import Failed, Missing, apart, built_without_proof, cannot_read, expect, patience, processor_time, run_tests
+from tests.support.harness import Failed, Missing, apart, built_without_proof, cannot_listen, cannot_read, expect, patience
+from tests.support.harness import processor_time, run_tests
 from tests.support.room import Client, DEVICE, Lines, NOT_CONNECTED, ONLINE, Room, NO_PINGS, SOON, STATUS, VERSION
 from tests.support.room import accepted, connected, family_of, first_lines, free_port, give_address, has_ipv6, heed_modes, raise_loopback
 from tests.support.room import said, stopped, until
@@ -26,8 +27,9 @@ ONLY_IPV6 = "/proc/sys/net/ipv6/bindv6only"
 
 # what upsd says at its start if it runs as root
 AS_ROOT = "upsd: running as root, which only a port below 1024 needs"
-# what dummy-ups says if a file that isn't a socket has the name of its socket
-NOT_A_SOCKET = "dummy-ups: cannot listen on %s: it is there, and isn't a socket\n"
+# why dummy-ups can't listen where a file is of value, or where another one listens
+NOT_A_SOCKET = "it is there, and isn't a socket"
+IN_USE = "another driver listens there"
 
 
 def with_hosts(path):
@@ -48,6 +50,11 @@ def with_hosts_alone(folder):
 def why(error):
     """Returns how programs say an error of the system's."""
     return f"{os.strerror(error)} (os error {error})"
+
+
+def without_listener(host, port, reason):
+    """Returns how an upsd ends that can't listen there: its status, and what it writes."""
+    return 1, b"", cannot_listen("upsd", f"{host}:{port}", reason).encode()
 
 
 def logged_in(room):
@@ -277,6 +284,18 @@ class Tests:
                 if processor_time(upsd.pid) - used > patience(0.5):
                     raise Failed("processor time is used beside a driver that never reads")
 
+    def test_driver_that_passes_descriptors(self):
+        """Each message with a descriptor ends a read, and no event tells of the next one."""
+        with self.room(conf=NO_PINGS) as room, room.driver() as listener, open(os.devnull) as passed:
+            upsd = room.upsd()
+            with accepted(listener) as driver:
+                driver.sendall(b'SETINFO ups.status "OL"\nDATAOK\nDUMPDONE\n')
+                room.until(STATUS, ONLINE)
+                with stopped(upsd):
+                    for i in range(50):
+                        socket.send_fds(driver, [b"SETINFO ups.id %d\n" % i], [passed.fileno()])
+                room.until(b"GET VAR su700 ups.id\n", b'VAR su700 ups.id "49"\n')
+
     def test_several_drivers(self):
         ups = b"".join(b"[u%d]\n" % i for i in range(32))
         with self.room(ups=ups) as room:
@@ -294,48 +313,63 @@ class Tests:
             room.upsd()
             expect(room.ask(STATUS), NOT_CONNECTED, "a file in place of a socket")
             driver = room.dummy()
-            expect((driver.wait(SOON), driver.stderr.read().decode()), (1, NOT_A_SOCKET % path), "a driver where a file is")
-            os.remove(path)
+            there = cannot_listen("dummy-ups", path, NOT_A_SOCKET)
+            expect((driver.wait(SOON), driver.stderr.read().decode()), (1, there), "a driver where a file is")
+            os.truncate(path, 0)
             room.dummy()
             room.until(STATUS, ONLINE)
 
-    def test_dummy_removes_only_a_socket(self):
-        """Neither a plain file, nor a folder, nor a link, nor a pipe that has the name of the socket."""
+    def test_dummy_removes_nothing_of_value(self):
+        """A plain file with a byte, a directory, a link and a pipe stay, whatever has the name of the socket."""
         with self.room() as room:
             script, other = room.path("su700.dev"), room.path("other.dev")
-            for path in (script, other):
+            for path, text in ((script, DEVICE), (other, DEVICE), (room.path("empty"), b"")):
                 with open(path, "wb") as file:
-                    file.write(DEVICE)
+                    file.write(text)
             os.mkdir(room.path("folder"))
             os.mkfifo(room.path("pipe"))
             room.listener("socket").close()
-            for name, to in (("link", other), ("broken-link", room.path("none")), ("socket-link", room.path("socket"))):
-                os.symlink(to, room.path(name))
+            links = {"link": "other.dev", "broken-link": "none", "socket-link": "socket", "empty-link": "empty"}
+            for name, to in links.items():
+                os.symlink(room.path(to), room.path(name))
             before = {it.name: it.stat(follow_symlinks=False).st_ino for it in os.scandir(room.folder)}
-            for name in ("su700.dev", "other.dev", "folder", "pipe", "link", "broken-link", "socket-link"):
+            for name in ("su700.dev", "other.dev", "folder", "pipe", *links):
                 path = room.path(name)
-                expect(self.run(self.programs[1], script, path), (1, b"", (NOT_A_SOCKET % path).encode()), name)
+                there = cannot_listen("dummy-ups", path, NOT_A_SOCKET).encode()
+                expect(self.run(self.programs[1], script, path), (1, b"", there), name)
             after = {it.name: it.stat(follow_symlinks=False).st_ino for it in os.scandir(room.folder)}
             expect(after, before, "what lies there")
             for path in (script, other):
                 with open(path, "rb") as file:
                     expect(file.read(), DEVICE, path)
-            # a socket that was left is replaced, and one at which a driver listens is not
-            path = room.path("socket")
-            driver = room.start([self.programs[1], script, path])
-            with Client(path) as server:
-                expect(server.ask(b"PING\n"), b"PONG\n", "a driver at the place of a socket that was left")
-                in_use = f"dummy-ups: {path}: another driver listens there\n".encode()
-                expect(self.run(self.programs[1], other, path), (1, b"", in_use), "another driver")
-                expect((driver.poll(), server.ask(b"PING\n")), (None, b"PONG\n"), "the first driver")
+            # a socket that was left is replaced, and so is an empty file, but no socket at which a driver listens
+            for name in ("socket", "empty"):
+                path = room.path(name)
+                driver = room.start([self.programs[1], script, path])
+                with Client(path) as server:
+                    expect(server.ask(b"PING\n"), b"PONG\n", f"a driver at the place of {name}")
+                    in_use = cannot_listen("dummy-ups", path, IN_USE).encode()
+                    expect(self.run(self.programs[1], other, path), (1, b"", in_use), "another driver")
+                    expect((driver.poll(), server.ask(b"PING\n")), (None, b"PONG\n"), "the first driver")
 
     def test_port_in_use(self):
         with self.room() as room, socket.socket() as other:
             other.bind(("127.0.0.1", room.port))
             other.listen()
             found = self.run(self.programs[0], "--conf", room.folder, "-s", room.folder)
-            said = f"upsd: cannot listen on 127.0.0.1:{room.port}: {why(errno.EADDRINUSE)}\n".encode()
-            expect(found, (1, b"", said), "a port in use")
+            expect(found, without_listener("127.0.0.1", room.port, errno.EADDRINUSE), "a port in use")
+
+    def test_warning_before_a_fault(self):
+        """That everybody can read the passwords comes before the fault."""
+        with self.room() as room, socket.socket() as other:
+            other.bind(("127.0.0.1", room.port))
+            other.listen()
+            os.chmod(room.path("upsd.users"), 0o644)
+            status, out, err = self.run(self.programs[0], "--conf", room.folder, "-s", room.folder)
+            warning, fault, *_ = err.decode().splitlines()
+            expect((status, out), (1, b""), "a port in use")
+            expect(warning.startswith("upsd: warning: upsd.users holds passwords"), True, f"it comes first: {warning}")
+            expect(fault.startswith(f"upsd: cannot listen on 127.0.0.1:{room.port}"), True, f"it comes then: {fault}")
 
     def test_port_in_use_beside_a_listener(self):
         """A listener at another address doesn't stand for the one that is in use."""
@@ -345,8 +379,7 @@ class Tests:
             for hosts, taken in ((("127.0.0.2", "127.0.0.1"), "127.0.0.1"), (("127.0.0.1", "0.0.0.0"), "0.0.0.0")):
                 put_listeners(room, hosts)
                 found = self.run(self.programs[0], "--conf", room.folder, "-s", room.folder)
-                said = f"upsd: cannot listen on {taken}:{room.port}: {why(errno.EADDRINUSE)}\n".encode()
-                expect(found, (1, b"", said), f"{hosts}")
+                expect(found, without_listener(taken, room.port, errno.EADDRINUSE), f"{hosts}")
 
     def each_in_use(self, name, addresses, words=()):
         """Has another program at each address of a name in turn. If it is the first, upsd ends: at the next one it would serve
@@ -357,8 +390,8 @@ class Tests:
                     file.write(f"LISTEN {name} {room.port}\n")
                 upsd = [*words, self.programs[0], "--conf", room.folder, "-s", room.folder]
                 if taken == addresses[0]:
-                    said = f"upsd: cannot listen on {name}:{room.port}: {why(errno.EADDRINUSE)}\n".encode()
-                    expect(self.run(*upsd), (1, b"", said), f"{taken} in use, the first of {addresses}")
+                    wanted = without_listener(name, room.port, errno.EADDRINUSE)
+                    expect(self.run(*upsd), wanted, f"{taken} in use, the first of {addresses}")
                 else:
                     said = first_lines(room.start(upsd), 1)
                     expect(said[0].startswith("upsd: listening on "), True, f"{taken} in use, of {addresses}: {said}")
@@ -388,17 +421,15 @@ class Tests:
     def test_host_that_is_not_here(self):
         with self.room(conf=b"LISTEN 192.0.2.1 3493\n") as room:
             found = self.run(self.programs[0], "--conf", room.folder, "-s", room.folder)
-            said = f"upsd: cannot listen on 192.0.2.1:3493: {why(errno.EADDRNOTAVAIL)}\n".encode()
-            expect(found, (1, b"", said), "an address of another machine")
+            expect(found, without_listener("192.0.2.1", 3493, errno.EADDRNOTAVAIL), "an address of another machine")
             put_listeners(room, ("198.51.100.1", "192.0.2.1"))
             found = self.run(self.programs[0], "--conf", room.folder, "-s", room.folder)
-            said = f"upsd: cannot listen on 198.51.100.1:{room.port}: {why(errno.EADDRNOTAVAIL)}\n".encode()
-            expect(found, (1, b"", said), "two addresses of other machines")
+            expect(found, without_listener("198.51.100.1", room.port, errno.EADDRNOTAVAIL), "two addresses of other machines")
             with socket.create_server(("127.0.0.1", room.port)):
                 put_listeners(room, ("198.51.100.1", "127.0.0.1"))
                 found = self.run(self.programs[0], "--conf", room.folder, "-s", room.folder)
-                said = f"upsd: cannot listen on 127.0.0.1:{room.port}: {why(errno.EADDRINUSE)}\n".encode()
-                expect(found, (1, b"", said), "an address of another machine, and one that is in use")
+                wanted = without_listener("127.0.0.1", room.port, errno.EADDRINUSE)
+                expect(found, wanted, "an address of another machine, and one that is in use")
 
     def play_inside(self, name):
         """Plays a test of `Inside` in a network of its own."""
@@ -416,15 +447,15 @@ class Tests:
     def test_name_that_comes_late(self):
         """Nobody knows a host's name at the start. That is told once, clients are served meanwhile, and there once it is known."""
         words = with_hosts_alone(self.folder)
-        unknown = "cannot listen on late.example:%d%s: failed to lookup address information: Name or service not known"
+        unknown = "failed to lookup address information: Name or service not known"
         with self.room() as room:
             upsd = [*words, self.programs[0], "--conf", room.folder, "-s", room.folder, "-q"]
             put_listeners(room, ("late.example", "192.0.2.1"))
-            said = f"upsd: {unknown % (room.port, '')}\n".encode()
-            expect(self.run(*upsd), (1, b"", said), "no address at all")
+            expect(self.run(*upsd), without_listener("late.example", room.port, unknown), "no address at all")
             put_listeners(room, ("late.example", "127.0.0.1"))
             lines = Lines(room.start(upsd))
-            expect(lines.next("upsd: cannot listen"), f"upsd: {unknown % (room.port, ' yet')}", "what is told of it")
+            told = f"upsd: cannot listen on late.example:{room.port} yet: {unknown}"
+            expect(lines.next("upsd: cannot listen"), told, "what is told of it")
             until(room.serves, "upsd listens at the other address")
             with room.client() as client:
                 # it is looked up several times
@@ -736,7 +767,7 @@ class Tests:
                 client.log_in(b"mon", b"m1")
                 expect(client.ask(b"FSD su700\n"), b"OK FSD-SET\n", "FSD")
                 lines.next(forced)
-                # neither another FSD nor a driver that comes back is news
+                # another FSD is no news
                 expect(client.ask(b"FSD su700\n"), b"OK FSD-SET\n", "FSD once more")
                 driver.kill()
                 driver.wait()
@@ -744,7 +775,19 @@ class Tests:
                 room.dummy()
                 room.until(STATUS, b'VAR su700 ups.status "FSD OL"\n')
                 time.sleep(2.5)
-            expect(lines.lines, [forced], "what is told")
+            back = "upsd: UPS su700: a shutdown is still forced (FSD): its machines stop now"
+            expect(lines.lines, [forced, back], "what is told")
+
+    def test_a_shutdown_that_nobody_hears_of_is_told(self):
+        with self.room() as room:
+            lines = Lines(room.upsd("-q"))
+            with room.client() as client:
+                client.log_in(b"mon", b"m1")
+                expect(client.ask(b"FSD su700\n"), b"OK FSD-SET\n", "FSD")
+            lines.next("upsd: UPS su700: shutdown is forced (FSD) by mon@127.0.0.1; its machines aren't told until the driver is back")
+            room.dummy()
+            lines.next("upsd: UPS su700: a shutdown is still forced (FSD): its machines stop now")
+            room.until(STATUS, b'VAR su700 ups.status "FSD OL"\n')
 
     def test_quiet(self):
         with self.room() as room:
@@ -836,13 +879,13 @@ class Tests:
         with open(path, "wb") as file:
             file.write(DEVICE)
         for at, cause in (
-            (self.folder, "it is there, and isn't a socket"),
-            (os.path.join(self.folder, "none", "at"), why(errno.ENOENT)),
+            (self.folder, NOT_A_SOCKET),
+            (os.path.join(self.folder, "none", "at"), errno.ENOENT),
             ("x" * 200, "path must be shorter than SUN_LEN"),
             ("", "invalid input parameter"),
         ):
             found = self.run(dummy, path, at)
-            expect(found, (1, b"", f"dummy-ups: cannot listen on {at}: {cause}\n".encode()), f"socket {at!r}")
+            expect(found, (1, b"", cannot_listen("dummy-ups", at, cause).encode()), f"socket {at!r}")
 
     def test_dummy_and_its_servers(self):
         with self.room() as room:
@@ -869,6 +912,17 @@ class Tests:
                 time.sleep(1.5)
                 if processor_time(driver.pid) - used > patience(0.1):
                     raise Failed("an idle driver uses processor time")
+
+    def test_dummy_and_a_server_that_passes_descriptors(self):
+        with self.room() as room, open(os.devnull) as passed:
+            driver = room.dummy()
+            with Client(room.path("dummy-ups-su700")) as server:
+                expect(server.ask(b"PING\n"), b"PONG\n", "a PING")
+                server.socket.settimeout(SOON)
+                with stopped(driver):
+                    for _ in range(50):
+                        socket.send_fds(server.socket, [b"PING\n"], [passed.fileno()])
+                expect([server.line() for _ in range(50)], [b"PONG\n"] * 50, "an answer for each")
 
     def test_dummy_and_a_server_that_never_reads(self):
         with self.room() as room:
@@ -972,8 +1026,7 @@ class Inside(Tests):
         with self.room() as room, socket.create_server(("127.0.0.1", room.port)):
             put_listeners(room, ("::", other))
             found = self.run(self.programs[0], "--conf", room.folder, "-s", room.folder)
-            said = f"upsd: cannot listen on {other}:{room.port}: {why(errno.EADDRINUSE)}\n".encode()
-            expect(found, (1, b"", said), f"{other} in use beside ::")
+            expect(found, without_listener(other, room.port, errno.EADDRINUSE), f"{other} in use beside ::")
 
 
 def main():

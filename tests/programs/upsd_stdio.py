@@ -331,12 +331,14 @@ class Tests(Shimmed):
             ("upsd.users", b"[a]\r\nallowfrom = x\r\n", "2: UnknownDirective", "allowfrom"),
             ("upsd.conf", b"w" * 500 + b" 1\n", "1: UnknownDirective", "w" * 500),
         ):
-            said = f"upsd: {name}:{line}\n" + (f"upsd: {word} isn't taken here: see from-nut(7)\n" if word else "")
+            meant = f"{word} isn't taken here: see from-nut(7)" if word else f"a directive of {name} is meant"
+            said = f"upsd: {name}:{line}\nupsd: {meant}\n"
             found = self.run(self.conf(**{name.replace(".", "_"): text}), b"")
             expect(found, (1, b"", said.encode()), f"{text}")
 
     def test_word_that_memory_is_refused_for(self):
-        """The fault is reported, or that memory for its file is refused; and its word if there is memory for it."""
+        """The fault is reported, or that memory for its file is refused; and its word, or else the file's name, if there is
+        memory for it."""
         args = self.conf(ups_conf=b"maxretry = 3\n")
         fault = b"upsd: ups.conf:1: OutsideSection\n"
         word = b"upsd: maxretry isn't taken here: see from-nut(7)\n"
@@ -349,7 +351,8 @@ class Tests(Shimmed):
             seen.add(found)
         # some memory that is taken isn't needed by the program
         seen.discard((1, b"", fault + word))
-        expect(seen, {(1, b"", b"upsd: out of memory\n"), (1, b"", fault)}, "what is told where memory is refused")
+        meant = b"upsd: a directive of ups.conf is meant\n"
+        expect(seen, {(1, b"", b"upsd: out of memory\n"), (1, b"", fault), (1, b"", fault + meant)}, "what is told where memory is refused")
 
     def test_check(self):
         args = self.conf()[1:]

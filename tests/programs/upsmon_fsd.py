@@ -14,16 +14,42 @@ import sys
 import tempfile
 import time
 
-from tests.support.harness import Shimmed, cannot_read, ensure, expect, refusals
+from tests.support.harness import NUTS_OPTIONS, Shimmed, cannot_read, ensure, expect, refusals
 from tests.support.monitored import FLAG, FORCED, QUICK, SHUTDOWN, USERS, ByteByByte, Closing, Endless, Rubbish, Silent, Upstream, Watch, play
 from tests.support.room import STATUS, Room, free_port
 
 PASSWORD = "not-to-be-shown"
+GOES_ON = "upsmon: this machine goes on: "
 QUERIES = [b"USERNAME mon", f"PASSWORD {PASSWORD}".encode(), b"LOGIN su700", b"PRIMARY su700", b"FSD su700"]
+# what a server is asked that accepts each query
+ALL = [*QUERIES, b"GET VAR su700 ups.status", b"LOGOUT"]
+REFUSED = f"connection failed: {os.strerror(errno.ECONNREFUSED)} (os error {errno.ECONNREFUSED})"
 NO_PRIMARY = "upsmon: upsmon.conf: no MONITOR line is primary\n"
 
 
-class Answering(Upstream):
+class Forced(Upstream):
+    """It shows a forced shutdown."""
+
+    def answer(self, line):
+        if line.startswith(b"FSD"):
+            self.statuses[b"su700"] = b"FSD OL"
+        return super().answer(line)
+
+
+class Slow(Forced, ByteByByte):
+    pass
+
+
+class Dripping(Forced):
+    """It sends a byte each six seconds."""
+
+    def send(self, end, data):
+        for byte in data:
+            end.sendall(bytes([byte]))
+            time.sleep(6)
+
+
+class Answering(Forced):
     """It answers a query in its own way, and others as any server."""
 
     def __init__(self, answers):
@@ -34,7 +60,7 @@ class Answering(Upstream):
         return self.answers.get(line.split()[0]) or super().answer(line)
 
 
-class OneByOne(Upstream):
+class OneByOne(Forced):
     """It notes what a client has sent before its last query was answered."""
 
     early = b""
@@ -58,6 +84,18 @@ def failed(target, why):
     return f"upsmon: {target}: FSD failed: {why}\n"
 
 
+def untold(target, why):
+    return f"upsmon: {target}: FSD set, but its machines aren't told: {why}\n"
+
+
+def goes_on(*targets):
+    return GOES_ON + ", ".join(f"{it} still supplies 1" for it in targets) + "\n"
+
+
+def in_any_order(text):
+    return "".join(sorted(text.splitlines(keepends=True)))
+
+
 class Tests(Shimmed):
     def __init__(self, programs, folder):
         self.upsd, self.dummy, self.upsc, self.upsmon = programs
@@ -69,13 +107,14 @@ class Tests(Shimmed):
         with Room((self.upsd, self.dummy), self.folder, **options) as room:
             with open(room.path("upsd.users"), "wb") as file:
                 file.write(USERS)
-            room.dummy()
+            room.driver = room.dummy()
             room.upsd()
             room.until(STATUS, b'VAR su700 ups.status "OL"\n')
             yield room
 
     def force(self, conf, *words, **options):
-        """Runs upsmon with such a file to force shutdowns. Returns the status, and what it writes to both streams."""
+        """Runs upsmon with such a file to force shutdowns. Returns the status, and what it writes to both streams. Of several
+        servers it tells as they answer: lines are sorted here, but for the last one, by which the machine goes on."""
         with tempfile.TemporaryDirectory(dir=self.folder) as folder:
             if conf is not None:
                 with open(os.path.join(folder, "upsmon.conf"), "w") as file:
@@ -83,7 +122,11 @@ class Tests(Shimmed):
             words = [self.upsmon, "--fsd", "--conf", folder, *words]
             done = subprocess.run(words, stdin=subprocess.DEVNULL, capture_output=True, text=True, timeout=60, **options)
             ensure(PASSWORD not in done.stdout + done.stderr, "the password is shown")
-            return done.returncode, done.stdout, done.stderr.replace(folder, "FOLDER")
+            told = done.stderr.replace(folder, "FOLDER").splitlines(keepends=True)
+            last = told.pop() if told and told[-1].startswith(GOES_ON) else ""
+            if all(": FSD " in it for it in told):
+                told.sort()
+            return done.returncode, in_any_order(done.stdout), "".join(told) + last
 
     def status(self, target):
         """Returns the status that upsc shows."""
@@ -113,49 +156,95 @@ class Tests(Shimmed):
             room.until(b"GET NUMLOGINS su700\n", b"NUMLOGINS su700 0\n", within=1)
 
     def test_several_lines(self):
-        """Each primary line counts, in the order of the file, and no other."""
-        with self.room(ups=b"[su700]\n[b]\n[c]\n") as room, Upstream() as other:
+        """Each primary line counts, and no other."""
+        with self.room(ups=b"[su700]\n[b]\n[c]\n") as room, Forced() as other:
             for ups in "bc":
                 room.dummy(ups=ups)
                 room.until(b"GET VAR %s ups.status\n" % ups.encode(), b'VAR %s ups.status "OL"\n' % ups.encode())
             a, b, c = (f"{ups}@localhost:{room.port}" for ups in ("su700", "b", "c"))
             conf = line_of(b, password="m1") + line_of(other.target, role="secondary") + line_of(c, "guest", "g1", "secondary")
             found = self.force(f"MINSUPPLIES 0\nPOLLFREQ 1\n{conf}{line_of(a, password='m1')}")
-            expect(found, (0, is_set(b) + is_set(a), ""), "what is told")
+            expect(found, (0, is_set(b) + is_set(a), f"{GOES_ON}MINSUPPLIES is 0\n"), "what is told")
             expect([self.status(it) for it in (a, b, c)], [b"FSD OL\n", b"FSD OL\n", b"OL\n"], "the statuses")
             expect(other.asked, [], "what the server of a secondary line is asked")
 
     def test_one_server_is_down(self):
         """A server that fails keeps no other from being asked."""
         down = f"su700@127.0.0.1:{free_port()}"
-        with Upstream() as first, Closing() as closing, Rubbish() as rubbish, Upstream() as last:
+        with Forced() as first, Closing() as closing, Rubbish() as rubbish, Forced() as last:
             targets = [it.target for it in (first, closing, rubbish, last)]
             found = self.force("".join(map(line_of, [down, *targets])))
-            told = failed(down, "connection failed") + failed(targets[1], "connection lost") + failed(targets[2], "bad answer")
-            expect(found, (1, is_set(targets[0]) + is_set(targets[3]), told), "what is told")
+            whys = zip([down, *targets[1:3]], [REFUSED, "connection lost", "bad answer"])
+            told = in_any_order("".join(failed(*it) for it in whys)) + goes_on(down, *targets[1:3])
+            expect(found, (1, in_any_order(is_set(targets[0]) + is_set(targets[3])), told), "what is told")
             for server in (first, last):
-                expect(b"".join(server.asked).splitlines(), QUERIES, "what a server is asked")
+                expect(b"".join(server.asked).splitlines(), ALL, "what a server is asked")
 
     def test_silent_server(self):
-        with Silent() as silent, Upstream() as server:
+        """Servers that don't answer, or trickle, are given up after ten seconds, all at once, and keep no other waiting."""
+        with contextlib.ExitStack() as servers:
+            silent = [servers.enter_context(Silent()) for _ in range(6)]
+            dripping, server = servers.enter_context(Dripping()), servers.enter_context(Forced())
+            late = [it.target for it in (*silent, dripping)]
             begun = time.monotonic()
-            found = self.force(line_of(silent.target) + line_of(server.target))
-            expect(found, (1, is_set(server.target), failed(silent.target, "connection lost")), "what is told")
-            ensure(9 < time.monotonic() - begun < 20, "a server that doesn't answer is given up after 10 seconds")
-            expect(silent.asked, [b"USERNAME mon\n"], "what it is asked")
+            found = self.force("".join(map(line_of, [*late, server.target])))
+            told = in_any_order("".join(failed(it, "connection lost") for it in late)) + goes_on(*late)
+            expect(found, (1, is_set(server.target), told), "what is told")
+            ensure(9 < time.monotonic() - begun < 20, "all are given up after 10 seconds")
+            ensure(server.told[b"FSD OL"] - begun < 5, "a server that answers has FSD at once")
+            for it in (*silent, dripping):
+                expect(it.asked, [b"USERNAME mon\n"], "what a server is asked that doesn't answer")
+
+    def test_machines_that_are_not_told(self):
+        """FSD is set, and nobody hears of it: the status is refused, or doesn't show it."""
+        for status in (b"ERR DRIVER-NOT-CONNECTED", b"ERR DATA-STALE", b"ERR VAR-NOT-SUPPORTED"):
+            with Upstream(status=status + b"\n") as server:
+                why = status.split()[1].decode() + "; they stop once the driver is back"
+                expect(self.force(line_of(server.target)), (1, "", untold(server.target, why) + goes_on(server.target)), f"{status}")
+                expect(b"".join(server.asked).splitlines(), ALL, f"what is asked at {status}")
+        with Upstream() as server:
+            expect(self.force(line_of(server.target)), (1, "", untold(server.target, "its status is OL") + goes_on(server.target)), "OL")
+        with Answering({b"GET": b"\xff\n"}) as server:
+            found = self.force(line_of(server.target))
+            why = f"upsmon: {server.target}: FSD set, but whether its machines are told isn't known: bad answer\n"
+            expect(found, (1, "", why + goes_on(server.target)), "a status that can't be read")
+
+    def test_driver_is_gone(self):
+        """The server accepts FSD of a UPS without a driver, and warns; its machines stop once the driver is back."""
+        with self.room() as room:
+            target = f"su700@127.0.0.1:{room.port}"
+            room.driver.kill()
+            room.driver.wait()
+            room.until(STATUS, b"ERR DRIVER-NOT-CONNECTED\n")
+            why = "DRIVER-NOT-CONNECTED; they stop once the driver is back"
+            expect(self.force(line_of(target, password="m1")), (1, "", untold(target, why) + goes_on(target)), "what is told")
+            room.dummy()
+            room.until(STATUS, b'VAR su700 ups.status "FSD OL"\n')
+
+    def test_what_still_supplies(self):
+        """By power values: secondary lines and lines that failed still supply, those without power don't."""
+        down = f"su700@127.0.0.1:{free_port()}"
+        with Forced() as first, Forced() as second:
+            target, other = first.target, second.target
+            without = line_of(other, role="secondary").replace(" 1 ", " 0 ")
+            expect(self.force(line_of(target) + without), (0, is_set(target), ""), "a line without power")
+            found = self.force(line_of(target) + line_of(other, role="secondary"))
+            expect(found, (0, is_set(target), goes_on(other)), "a secondary line")
+            found = self.force("MINSUPPLIES 2\n" + "".join(map(line_of, (target, other, down))))
+            expect(found, (1, in_any_order(is_set(target) + is_set(other)), failed(down, REFUSED)), "too little is left")
 
     def test_line_without_an_end(self):
         """A server whose line is too long is given up at once, and the next one is asked."""
-        with Endless() as endless, Upstream() as server:
+        with Endless() as endless, Forced() as server:
             begun = time.monotonic()
             found = self.force(line_of(endless.target) + line_of(server.target))
-            expect(found, (1, is_set(server.target), failed(endless.target, "bad answer")), "what is told")
+            expect(found, (1, is_set(server.target), failed(endless.target, "bad answer") + goes_on(endless.target)), "what is told")
             ensure(time.monotonic() - begun < 5, "no time is lost")
 
     def test_queries_come_one_by_one(self):
-        with OneByOne() as server, ByteByByte() as slow:
+        with OneByOne() as server, Slow() as slow:
             expect(self.force(line_of(server.target))[0], 0, "status")
-            expect((b"".join(server.asked).splitlines(), server.early), (QUERIES, b""), "what is asked")
+            expect((b"".join(server.asked).splitlines(), server.early), (ALL, b""), "what is asked")
             expect(self.force(line_of(slow.target)), (0, is_set(slow.target), ""), "a server that sends byte by byte")
 
     def test_answers(self):
@@ -170,21 +259,23 @@ class Tests(Shimmed):
             for at, query in enumerate(QUERIES):
                 with Answering({query.split()[0]: answer}) as server:
                     found = self.force(line_of(server.target))
-                    expect(found, (1, "", failed(server.target, why)), f"{answer} to {query}")
+                    name = query.split()[0].decode()
+                    told = failed(server.target, f"{name} refused: {why}" if answer.startswith(b"ERR") else why)
+                    expect(found, (1, "", told + goes_on(server.target)), f"{answer} to {query}")
                     expect(b"".join(server.asked).splitlines(), QUERIES[: at + 1], f"what is asked if {query} gets {answer}")
 
     def test_refusals(self):
         with self.room() as room:
             place = f"127.0.0.1:{room.port}"
             for ups, user, password, why in (
-                ("su700", "mon", "wrong", "ACCESS-DENIED"),
-                ("su700", "nobody", "m1", "ACCESS-DENIED"),
-                ("su700", "guest", "g1", "ACCESS-DENIED"),
-                ("none", "mon", "m1", "UNKNOWN-UPS"),
+                ("su700", "mon", "wrong", "LOGIN refused: ACCESS-DENIED"),
+                ("su700", "nobody", "m1", "LOGIN refused: ACCESS-DENIED"),
+                ("su700", "guest", "g1", "PRIMARY refused: ACCESS-DENIED"),
+                ("none", "mon", "m1", "LOGIN refused: UNKNOWN-UPS"),
             ):
                 target = f"{ups}@{place}"
                 found = self.force(line_of(target, user, password))
-                expect(found, (1, "", failed(target, why)), f"{user} at {ups}")
+                expect(found, (1, "", failed(target, why) + goes_on(target)), f"{user} at {ups}")
             expect(self.status(f"su700@{place}"), b"OL\n", "the status")
 
     def test_file_without_a_primary_line(self):
@@ -203,19 +294,26 @@ class Tests(Shimmed):
             expect(server.asked, [], "what the server is asked")
 
     def test_folder_of_the_environment(self):
-        with Upstream() as server, tempfile.TemporaryDirectory(dir=self.folder) as folder:
+        with Forced() as server, tempfile.TemporaryDirectory(dir=self.folder) as folder:
             with open(os.path.join(folder, "upsmon.conf"), "w") as file:
                 file.write(line_of(server.target))
             done = subprocess.run([self.upsmon, "--fsd"], capture_output=True, timeout=60, env={**os.environ, "NUT_CONFPATH": folder})
             expect((done.returncode, done.stdout.decode(), done.stderr), (0, is_set(server.target), b""), "NUT_CONFPATH")
 
     def test_command_lines(self):
-        with Upstream() as server:
+        with Forced() as server:
             for words in (["-K"], ["--check"], ["--fsd"], ["more"]):
                 status, out, err = self.force(line_of(server.target), *words)
                 expect((status, out, err != ""), (2, "", True), f"{words}")
             expect(server.asked, [], "what the server is asked")
             expect(self.force(line_of(server.target), "-q"), (0, is_set(server.target), ""), "-q")
+
+    def test_commands_of_nuts(self):
+        """Who types NUT's command is told what stands for it, and nothing else."""
+        meant = "-c isn't an option here: upsmon --fsd stands for -c fsd, systemctl reload mulgefa-upsmon for -c reload"
+        for words in (["-c", "fsd"], ["-c", "reload"], ["-cfsd"]):
+            done = subprocess.run([self.upsmon, *words], stdin=subprocess.DEVNULL, capture_output=True, text=True, timeout=60)
+            expect((done.returncode, done.stdout, done.stderr), (2, "", f"upsmon: {meant}\n{NUTS_OPTIONS.format('upsmon')}"), f"{words}")
 
     def test_output_that_is_closed(self):
         """All servers are asked, whoever reads what is told, and none is sent it."""
@@ -228,19 +326,21 @@ class Tests(Shimmed):
                 {"preexec_fn": lambda: (os.close(1), os.close(2))},
                 {"preexec_fn": lambda: os.closerange(0, 3)},
             ):
-                with Upstream() as server, tempfile.TemporaryDirectory(dir=self.folder) as folder:
+                with Forced() as server, tempfile.TemporaryDirectory(dir=self.folder) as folder:
                     with open(os.path.join(folder, "upsmon.conf"), "w") as file:
                         file.write(line_of(down) + line_of(server.target))
                     done = subprocess.run([self.upsmon, "--fsd", "--conf", folder], timeout=60, **streams)
                     expect(done.returncode, 1, f"status with {streams}")
-                    expect(b"".join(server.asked).splitlines(), QUERIES, f"what the server is asked with {streams}")
+                    expect(b"".join(server.asked).splitlines(), ALL, f"what the server is asked with {streams}")
         finally:
             os.close(writer)
 
     def test_memory_refused(self):
         """Each allocation is refused in turn: FSD is set and told, or what failed is told and the status is 1."""
-        with Upstream() as server:
-            reasons = ["upsmon: out of memory\n", *(failed(server.target, why) for why in ("out of memory", "connection failed"))]
+        with Forced() as server:
+            known = "whether its machines are told isn't known: out of memory\n"
+            told = [failed(server.target, "out of memory"), f"upsmon: {server.target}: FSD set, but {known}"]
+            reasons = ["upsmon: out of memory\n", *(it + goes_on(server.target) for it in told)]
             for at, env, is_reached in refusals(self.shim):
                 status, out, err = self.force(line_of(server.target), env={**os.environ, **env})
                 if status == 1:

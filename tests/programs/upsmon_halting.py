@@ -127,7 +127,7 @@ class Tests(Shimmed):
                 client.log_in()
                 expect(len(client.list(b"LIST VAR su700\n")), 403, "a list")
                 expect(client.ask(b"INSTCMD su700 load.off\n"), b"OK\n", "a command")
-            for text, told in ((b"[su700]\n[b]\n", "upsd: reloaded: UPS b added"), (b"[a]\n[a]\n", "upsd: not reloaded: ups.conf:2")):
+            for text, told in ((b"[su700]\n[b]\n", "upsd: reloaded: UPS b added"), (b"[a]\n[a]\n", "upsd: not reloaded")):
                 with open(room.path("ups.conf"), "wb") as file:
                     file.write(text)
                 open(room.path("reload"), "w").close()
@@ -238,7 +238,7 @@ class Tests(Shimmed):
     def test_foreign_flag(self):
         # devices without a driver
         devices = [functools.partial(os.mknod, mode=kind | 0o600) for kind in (stat.S_IFCHR, stat.S_IFBLK)]
-        for lay in (self.file_of(b"mine\n"), os.mkfifo, os.mkdir, self.link, self.socket_at, *devices):
+        for lay in (self.file_of(b"mine\n"), self.file_of(b"\n"), os.mkfifo, os.mkdir, self.link, self.socket_at, *devices):
             with tempfile.TemporaryDirectory(dir=self.folder) as folder:
                 flag = os.path.join(folder, "flag")
                 try:
@@ -253,6 +253,27 @@ class Tests(Shimmed):
                     told = [f"upsmon: warning: POWERDOWNFLAG {flag} {FOREIGN}", f"upsmon: POWERDOWNFLAG {flag} {FOREIGN}"]
                     expect(watch.told(), told, "what is told")
                 expect(self.look(folder), before, f"what lies there: {lay}")
+
+    def test_empty_flag(self):
+        """An empty file is no flag, and becomes it at the halt, even if upsmon may not read it. What was written to it before stays."""
+        for mode, held in ((0o600, b""), (0o000, b""), (0o600, b"mine\n")):
+            with tempfile.TemporaryDirectory(dir=self.folder) as folder:
+                flag = os.path.join(folder, "flag")
+                self.file_of(b"")(flag)
+                os.chmod(flag, mode)
+                conf = f"POWERDOWNFLAG {flag}\n{HALTED}"
+                with self.halting(conf, "-q", delay=2, preexec_fn=heed_modes) as (_, watch):
+                    watch.until_printed(SHUTDOWN)
+                    with stopped(watch.process):
+                        expect(set(self.look(folder)), {"flag", "flag.new"}, "what lies there before the halt")
+                        expect(self.key(watch.folder)[0], 1, "the flag isn't set")
+                        if held:
+                            self.file_of(held)(flag)
+                    told = [f"upsmon: POWERDOWNFLAG {flag} {FOREIGN}"] if held else []
+                    expect((watch.status(), watch.told(), watch.read("halted")), (0, told, b""), "the halt")
+                    expect(self.key(watch.folder)[0], 1 if held else 0, "whether the flag is set")
+                with open(flag, "rb") as file:
+                    expect(file.read(), held or FLAG, f"what the file holds, of mode {mode:o}")
 
     def file_of(self, held):
         def lay(path):
@@ -351,10 +372,13 @@ class Tests(Shimmed):
                 (os.path.join(closed, "flag"), None, "secondary", []),
                 (flag, self.file_of(FLAG), "primary", []),
                 (flag, self.file_of(b"mine\n"), "primary", [warning + FOREIGN]),
+                (flag, self.file_of(b""), "primary", []),
                 (flag, os.mkfifo, "secondary", [warning + FOREIGN]),
                 # what an upsmon that watches has ready, and what one left that was killed
                 (flag + "-1", lambda it: self.file_of(FLAG)(it + ".new"), "primary", []),
                 (flag + "-2", lambda it: os.mkdir(it + ".new"), "primary", [warning + "cannot be written: File exists"]),
+                # beside an empty file
+                (flag + "-2", self.file_of(b""), "primary", [warning + "cannot be written: File exists"]),
             ):
                 if lay is not None:
                     lay(path)

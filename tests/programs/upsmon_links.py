@@ -7,6 +7,7 @@ for a while.
 The last line is 'N passed, M failed'."""
 
 import contextlib
+import errno
 import os
 import signal
 import socket
@@ -224,6 +225,14 @@ class Tests(Shimmed):
                 with self.watch("MONITOR su700@ups.example 1 mon m1 primary\n", env=env) as watch:
                     until(lambda: reports_of(watch, "su700@ups.example"), "a report")
                     expect(reports_of(watch, "su700@ups.example"), [f"no server yet: {why}"], f"{script} {mode:o} refused: {bool(settings)}")
+
+    def test_no_watch_is_left(self):
+        """What is reported if no socket can be watched."""
+        env = {**os.environ, "LD_PRELOAD": self.shim, "REFUSE": "watch"}
+        with Moody() as server, self.watch(f"MONITOR {server.target} 1 mon m1 primary\n", env=env) as watch:
+            until(lambda: reports_of(watch, server.target), "a report")
+            why = f"{os.strerror(errno.ENOSPC)} (os error {errno.ENOSPC})"
+            expect(reports_of(watch, server.target), [f"no server yet: {why}"], "reports")
 
     def test_server_that_stands_still(self):
         with self.room() as room:

@@ -8,6 +8,7 @@ The last line is 'N passed, M failed'."""
 
 import contextlib
 import os
+import subprocess
 import sys
 import time
 
@@ -20,6 +21,7 @@ OLD = 'SHUTDOWNCMD "touch FOLDER/old"\n'
 NEW = 'SHUTDOWNCMD "touch FOLDER/new"\n'
 USERNAME = b"USERNAME mon\n"
 REFUSED = "upsmon: not reloaded: "
+KEPT = REFUSED + "the earlier configuration stays in force"
 
 
 def line_of(server, power=1):
@@ -44,6 +46,17 @@ class Reloaded(Watch):
     def until_told(self, line, within=SOON):
         until(lambda: line in self.lines("err") or self.process.poll() is not None, f"upsmon reports {line!r}", within)
         expect(line in self.lines("err"), True, f"upsmon reports {line!r} before it ends: {self.lines('err')}")
+
+    def until_in_turn(self, *wanted):
+        """Waits until upsmon has reported these lines, one right below the other."""
+        until(lambda: "\n".join(wanted) in "\n".join(self.lines("err")), f"upsmon reports {wanted}")
+
+    def until_refused(self, fault):
+        """Waits until upsmon has reported the fault of its file as a start does, and below that it keeps the earlier configuration."""
+        done = subprocess.run([self.process.args[0], "--conf", self.folder], capture_output=True, timeout=60)
+        at_start = done.stderr.decode().splitlines()
+        expect((done.returncode, at_start[:1], len(at_start)), (1, [fault], 2), "a start with the same file")
+        self.until_in_turn(*at_start, KEPT)
 
     def until_reloaded(self, changes):
         self.until_told(f"upsmon: reloaded: {changes}")
@@ -107,11 +120,10 @@ class Tests(Shimmed):
         with Upstream() as server, self.watch(line_of(server) + QUICK + OLD, "-q") as watch:
             until_asked(server)
             watch.reload("POLLFREQ x\n")
-            watch.until_told(REFUSED + "upsmon.conf:1: BadNumber")
+            watch.until_refused("upsmon: upsmon.conf:1: BadNumber")
             watch.reload(line_of(server) + QUICK + NEW)
             until(lambda: server.asked.count(USERNAME) == 2, "the links begin anew")
-            meant = "upsmon: x: a number from 1 to 1000000 is meant"
-            expect(watch.lines("err"), [REFUSED + "upsmon.conf:1: BadNumber", meant], "what is told")
+            expect(len(watch.lines("err")), 3, f"what is told: {watch.lines('err')}")
 
     def test_nothing_changed(self):
         with Upstream() as server, self.watch(line_of(server) + QUICK + OLD) as watch:
@@ -126,19 +138,16 @@ class Tests(Shimmed):
         with Upstream() as server, self.watch(line_of(server) + QUICK + OLD) as watch:
             until_asked(server)
             watch.reload(line_of(server) + "FINALDELAY x\n" + NEW)
-            watch.until_told(REFUSED + "upsmon.conf:2: BadNumber")
+            watch.until_refused("upsmon: upsmon.conf:2: BadNumber")
             watch.reload("CERTPATH x\n" + line_of(server) + NEW)
-            watch.until_told(REFUSED + "upsmon.conf:1: UnknownDirective")
-            watch.until_told("upsmon: CERTPATH isn't taken here: see from-nut(7)")
+            watch.until_refused("upsmon: upsmon.conf:1: UnknownDirective")
             os.remove(watch.path("upsmon.conf"))
             watch.ask()
-            watch.until_told(REFUSED + "upsmon.conf: cannot read")
-            watch.until_told(f"upsmon: {watch.path('upsmon.conf')}: No such file or directory (os error 2)")
+            watch.until_refused("upsmon: upsmon.conf: cannot read")
             # nobody writes to it, so a read would wait for ever
             os.mkfifo(watch.path("upsmon.conf"))
             watch.ask()
-            until(lambda: watch.lines("err").count(REFUSED + "upsmon.conf: cannot read") == 2, "a pipe is refused")
-            watch.until_told(f"upsmon: {watch.path('upsmon.conf')}: not a plain file")
+            watch.until_refused("upsmon: upsmon.conf: cannot read")
             until_asked(server, 2)
             expect(server.asked.count(USERNAME), 1, "how often upsmon logs in")
             server.statuses[b"su700"] = b"OB LB"
@@ -186,11 +195,12 @@ class Tests(Shimmed):
             warning = f"upsmon: warning: POWERDOWNFLAG {watch.path('none/b')} cannot be written: No such file or directory (os error 2)"
             watch.until_told(warning)
             os.mkdir(watch.path("none"))
+            watch.open("none/b").close()
             watch.reload(line_of(server) + QUICK + OLD + "POWERDOWNFLAG FOLDER/none/b\n")
             watch.until_reloaded("SHUTDOWNCMD changed")
             expect(watch.lines("err").count(warning), 1, "that it can't be written")
             server.statuses[b"su700"] = b"OB LB"
-            expect((watch.status(), watch.read("none/b")), (0, FLAG), "status, and the flag")
+            expect((watch.status(), watch.read("none/b")), (0, FLAG), "status, and the flag, which was an empty file")
 
     def test_on_battery(self):
         """A reload waits until the UPS is back on line, and says so once."""
@@ -231,7 +241,7 @@ class Tests(Shimmed):
             watch.until_told(f"upsmon: not reloaded yet: UPS {second.target} has a forced shutdown")
             # a fault takes its place, and nothing waits any more
             watch.reload("POLLFREQ x\n")
-            watch.until_told(REFUSED + "upsmon.conf:1: BadNumber")
+            watch.until_refused("upsmon: upsmon.conf:1: BadNumber")
             second.statuses[b"su700"] = b"OL"
             until_asked(second, 3)
             expect(second.asked.count(USERNAME), 1, "how often upsmon logs in")
@@ -264,8 +274,9 @@ class Tests(Shimmed):
             with open(none, "w"):
                 pass
             watch.reload(line_of(server) + QUICK + NEW)
-            front = REFUSED + "SHUTDOWNCMD cannot be started: "
-            until(lambda: any(it.startswith(front) for it in watch.lines("err")), "that it can't be started")
+            until(lambda: KEPT in watch.lines("err"), "that it can't be started")
+            front = "upsmon: SHUTDOWNCMD cannot be started: "
+            expect([it.startswith(front) for it in watch.lines("err")], [True, False], f"what is told: {watch.lines('err')}")
             expect(len(children_of(watch.process.pid)), 1, "the earlier shell")
             os.remove(none)
             server.statuses[b"su700"] = b"OB LB"
@@ -280,7 +291,7 @@ class Tests(Shimmed):
             with open(gone, "w"):
                 pass
             watch.reload(line_of(server) + QUICK + NEW)
-            watch.until_told(f"{REFUSED}out of memory")
+            watch.until_in_turn("upsmon: out of memory", KEPT)
             expect(len(children_of(watch.process.pid)), 1, "the earlier shell")
             os.remove(gone)
             watch.ask()

@@ -97,6 +97,26 @@ class Tests:
     def test_a_line_is_written(self):
         expect(self.stage.play([("words line",)]), [rb'VAR "a b" "" "a\"\#\\"%0A'], "a line of words")
 
+    def test_texts_are_put(self):
+        """A text in quotes and as a word, into a buffer that grows and into one of eight bytes."""
+        rows = [
+            (b"", b'"""" true true """"'),
+            (b"ab", b'"ab"ab true true "ab"ab'),
+            (b"a b", b'"a b""a b" true false "a b"'),
+            (b"abcdef", b'"abcdef"abcdef true false "abcdef"'),
+            (b"abcdefg", b'"abcdefg"abcdefg false true abcdefg'),
+            (b"abcdefghi", b'"abcdefghi"abcdefghi false false '),
+        ]
+        found = self.stage.play([("words put", text) for text, _ in rows])
+        for (text, wanted), it in zip(rows, found):
+            expect(it, wanted, f"{text!r}")
+
+    def test_requests_are_put(self):
+        rows = [(b"get var a b.c", b"true GET VAR a b.c%0A"), (b"GET VAR abc d.ef", b"false "), (b"VER", b"true VER%0A"), (b"FOO", b"UnknownCommand")]
+        found = self.stage.play([("words request", line) for line, _ in rows])
+        for (line, wanted), it in zip(rows, found):
+            expect(it, wanted, f"{line!r}")
+
     def fed(self, pieces):
         """Returns the lines that pieces of a new stream complete, and how much is kept then."""
         found = self.stage.play([("words new",), *map(feed, pieces)])[1:]

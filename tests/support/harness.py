@@ -124,6 +124,12 @@ def cannot_read(program, file, path, why):
     return f"{program}: {file}: cannot read\n{program}: {path}: {reason}\n"
 
 
+def cannot_listen(program, where, why):
+    """Returns what a program writes of an address or a socket at which it can't listen, why being as for `cannot_read`."""
+    reason = f"{os.strerror(why)} (os error {why})" if isinstance(why, int) else why
+    return f"{program}: cannot listen on {where}\n{program}: {reason}\n"
+
+
 def build_library(name, folder):
     """Builds a library that is preloaded into programs from its C file here. Returns its path. Tests that run beside each other
     may build the same one."""

@@ -6,8 +6,12 @@
  * REFUSE is 'allocation', 'read', 'write' or 'file-read': the call of that kind with the number REFUSE_AT fails. It is
  * 'short-read', 'short-write' or 'short-file-read': from that call on each moves one byte. 'read' and 'write' are those
  * of standard input and output, 'file-read' is of any other file. It is 'memory': each allocation fails as soon as the
- * file that REFUSE_ONCE names is there. It is 'sleep': no pause takes any time. Calls are counted from 1. At its end the
- * program's count of calls of that kind is written to the file that REFUSE_COUNT names.
+ * file that REFUSE_ONCE names is there. It is 'sleep': no pause takes any time. It is 'watch': no descriptor can be
+ * watched by epoll, as if its user watched as many as may be. Calls are counted from 1. At its end the program's count of
+ * calls of that kind is written to the file that REFUSE_COUNT names.
+ *
+ * The program stands still after each call of 'connect' or 'bind', whichever HOLD names, while the file that HOLD_WHILE
+ * names is there.
  *
  * Whatever REFUSE is, no process can be started while the file that REFUSE_STARTS names is there. In the folder that
  * DEAD_FOLDER names no look at a file and no start of a program ever ends, as on a server that doesn't answer.
@@ -20,6 +24,8 @@
 #include <stdio.h>
 #include <stdlib.h>
 #include <string.h>
+#include <sys/epoll.h>
+#include <sys/socket.h>
 #include <sys/stat.h>
 #include <sys/uio.h>
 #include <time.h>
@@ -125,6 +131,40 @@ int nanosleep(const struct timespec *asked, struct timespec *left) {
         return 0;
     }
     return next(asked, left);
+}
+
+int epoll_ctl(int set, int how, int file, struct epoll_event *event) {
+    static int (*next)(int, int, int, struct epoll_event *);
+    if (!next)
+        next = NEXT("epoll_ctl");
+    if (how == EPOLL_CTL_ADD && strcmp(setting("REFUSE"), "watch") == 0) {
+        errno = ENOSPC;
+        return -1;
+    }
+    return next(set, how, file, event);
+}
+
+/* Waits after a call with this name and this result while it is to be held up, and returns the result. */
+static int hold(const char *name, int result) {
+    int found = errno;
+    while (strcmp(setting("HOLD"), name) == 0 && access(setting("HOLD_WHILE"), F_OK) == 0)
+        usleep(1000);
+    errno = found;
+    return result;
+}
+
+int connect(int file, const struct sockaddr *to, socklen_t size) {
+    static int (*next)(int, const struct sockaddr *, socklen_t);
+    if (!next)
+        next = NEXT("connect");
+    return hold("connect", next(file, to, size));
+}
+
+int bind(int file, const struct sockaddr *to, socklen_t size) {
+    static int (*next)(int, const struct sockaddr *, socklen_t);
+    if (!next)
+        next = NEXT("bind");
+    return hold("bind", next(file, to, size));
 }
 
 /* Waits for ever if a path is in the dead folder. */

@@ -243,6 +243,10 @@ class Lines:
 
         return until(find, f"a line {beginnings}, after {self.lines}")
 
+    def found_last(self, count):
+        """Returns so many lines up to the one that was found last."""
+        return self.lines[self.place - count:self.place]
+
     def count(self, beginning):
         return sum(line.startswith(beginning) for line in self.lines)
 

@@ -50,9 +50,9 @@ class Drawing:
     # The axis.
 
     def grid(self, top, bottom, batteries):
-        for time in self.axis.ticks():
-            x = self.axis.x(time)
-            self.picture.line(x, top, x, bottom + 5, 0.8, stroke="#bbb")
+        ticks = {time: self.axis.x(time) for time in self.axis.ticks()}
+        self.picture.lines([(x, top, x, bottom + 5) for x in ticks.values()], **{"class": "grid"})
+        for time, x in ticks.items():
             self.picture.text(x, bottom + 19, short_seconds(time), text_anchor="middle")
         self.name("seconds", bottom + 19)
         for up, row in enumerate(batteries):
@@ -104,7 +104,7 @@ class Drawing:
             base = bar - 6 - self.ROW * up
             for label in row:
                 dashes = {"stroke_dasharray": "4 3"} if label.is_bound else {}
-                self.picture.line(label.x, base - 9, label.x, bar + self.BAR * label.is_bound, 1.6 if label.is_bound else 0.8, **dashes)
+                self.picture.line(label.x, base - 9, label.x, bar + self.BAR * label.is_bound, 1.6 if label.is_bound else Picture.THIN, **dashes)
                 self.texts.label(label.left + 4, base, label.text)
         self.name(machine.name, bar + 9, font_weight="bold")
         self.name(machine.role, bar + 23, font_size=12)

@@ -67,11 +67,15 @@ def in_tenths(number):
 class Picture:
     """An SVG that can be read without colours."""
 
+    # what most shapes have, so that they needn't say it
+    FILL, THIN = "#fff", 0.8
+    STYLE = "text,pattern{fill:#000}rect{stroke-width:1}path{stroke:#000}.grid{stroke:#bbb}"
+
     PATTERNS = {
-        "battery": '<path d="M-2,2 l4,-4 M0,10 l10,-10 M8,12 l4,-4" stroke="#000" stroke-width="0.8"/>',
-        "low": '<path d="M-2,2 l4,-4 M-1,6 l7,-7 M0,10 l10,-10 M4,11 l7,-7 M8,12 l4,-4" stroke="#000" stroke-width="1.5"/>',
-        "forced": '<path d="M0,0 L10,10 M10,0 L0,10 M-1,9 l2,2 M9,-1 l2,2 M-1,1 l2,-2 M9,11 l2,-2" stroke="#000" stroke-width="1.5"/>',
-        "Forcing": '<path d="M0,2.5 h10 M0,7.5 h10" stroke="#000" stroke-width="1.2"/>',
+        "battery": '<path d="M-2,2 l4,-4 M0,10 l10,-10 M8,12 l4,-4"/>',
+        "low": '<path d="M-2,2 l4,-4 M-1,6 l7,-7 M0,10 l10,-10 M4,11 l7,-7 M8,12 l4,-4" stroke-width="1.5"/>',
+        "forced": '<path d="M0,0 L10,10 M10,0 L0,10 M-1,9 l2,2 M9,-1 l2,2 M-1,1 l2,-2 M9,11 l2,-2" stroke-width="1.5"/>',
+        "Forcing": '<path d="M0,2.5 h10 M0,7.5 h10" stroke-width="1.2"/>',
         "Final": '<circle cx="2.5" cy="2.5" r="1.3"/><circle cx="7.5" cy="7.5" r="1.3"/>',
     }
 
@@ -82,11 +86,17 @@ class Picture:
         words = "".join(f' {name.replace("_", "-")}={xml.sax.saxutils.quoteattr(in_tenths(it) if isinstance(it, float) else str(it))}' for name, it in attributes.items())
         self.parts.append(f"<{kind}{words}/>" if text is None else f"<{kind}{words}>{xml.sax.saxutils.escape(text)}</{kind}>")
 
-    def line(self, x1, y1, x2, y2, width=1.0, **more):
-        self.put("line", x1=float(x1), y1=float(y1), x2=float(x2), y2=float(y2), stroke=more.pop("stroke", "#000"), stroke_width=float(width), **more)
+    def line(self, x1, y1, x2, y2, width=THIN, **more):
+        self.lines([(x1, y1, x2, y2)], width, **more)
 
-    def box(self, x, y, width, height, fill="#fff", **more):
-        self.put("rect", x=float(x), y=float(y), width=float(max(width, 0.0)), height=float(height), fill=fill, **more)
+    def lines(self, ends, width=THIN, **more):
+        """Draws lines that look the same."""
+        thick = {} if width == self.THIN else {"stroke_width": float(width)}
+        self.put("path", d="".join("M{},{}L{},{}".format(*map(in_tenths, map(float, it))) for it in ends), **thick, **more)
+
+    def box(self, x, y, width, height, fill=FILL, **more):
+        filled = {} if fill == self.FILL else {"fill": fill}
+        self.put("rect", x=float(x), y=float(y), width=float(max(width, 0.0)), height=float(height), **filled, **more)
 
     def text(self, x, y, text, **more):
         self.put("text", text, x=float(x), y=float(y), **more)
@@ -99,8 +109,8 @@ class Picture:
     def whole(self, height, title):
         patterns = "".join(f'<pattern id="{name}" width="10" height="10" patternUnits="userSpaceOnUse">{shape}</pattern>' for name, shape in self.PATTERNS.items())
         return (f'<svg xmlns="http://www.w3.org/2000/svg" viewBox="0 0 {WIDTH} {height:.0f}" width="{WIDTH}" height="{height:.0f}" '
-                f'font-family="DejaVu Sans, Verdana, Helvetica, Arial, sans-serif" font-size="{FONT}">\n'
-                f"<title>{xml.sax.saxutils.escape(title)}</title>\n<defs>{patterns}</defs>\n" + "\n".join(self.parts) + "\n</svg>\n")
+                f'font-family="DejaVu Sans, Verdana, Helvetica, Arial, sans-serif" font-size="{FONT}" fill="{self.FILL}" stroke-width="{self.THIN}">\n'
+                f"<title>{xml.sax.saxutils.escape(title)}</title>\n<style>{self.STYLE}</style>\n<defs>{patterns}</defs>\n" + "\n".join(self.parts) + "\n</svg>\n")
 
 
 def width_of(text):

@@ -12,6 +12,10 @@ abbrev pub in_turn : List Request → Script
 in_turn [] = Prints []
 in_turn (query ∷ more) = Asks query (on_done (in_turn more))
 
+-- what is asked to log in to a UPS, as the user of this name and password
+abbrev pub login_queries : List ℕ → List ℕ → List ℕ → List Request
+login_queries ups user password = requests.Username user ∷ requests.Password password ∷ requests.Login ups ∷ []
+
 -- what is asked to force the shutdown of a UPS, as the user of this name and password
 abbrev pub forcing_queries : List ℕ → List ℕ → List ℕ → List Request
 forcing_queries ups user password =

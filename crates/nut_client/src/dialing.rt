@@ -1,32 +1,30 @@
-//! Connecting to a server over TCP, and the limits in time of a connection.
-use crate::stream::ByteStream;
+//! Connecting to a server over TCP.
+use crate::timed_stream::TimedStream;
 use nut_conf::{Host, Port};
 use std::io::ErrorKind;
-use std::net::{Net, OpenStream, TcpStream, ToSocketAddrs};
-use std::time::Duration;
+use std::net::{Net, TcpStream, ToSocketAddrs};
+use std::time::{Clock, Duration};
 use std::{io, str};
 
 /// For how many seconds a tool waits for an address of the server's host to accept a connection.
 const ACCEPT_SECONDS: u64 = 10;
 
-/// For how many seconds a read waits for the server to send something, and a write for it to take something.
-const SILENCE_SECONDS: u64 = 10;
-
-/// Connects to a server over TCP, with TCP_NODELAY, so that what is sent goes out at once. The addresses of its host
-/// are tried in turn, each for at most 10 seconds; how long the host's name is looked up is left to the resolver. A
-/// read or a write over the connection fails if the server sends or takes nothing for 10 seconds.
+/// Connects to a server over TCP. The addresses of its host are tried in turn, each for at most 10 seconds; how long the
+/// host's name is looked up is left to the resolver.
 ///
 /// # Errors
 ///
 /// That of the look-up if the host has no address, `InvalidInput` if it isn't UTF-8; that of the last address if none
-/// accepts a connection in time; that of the system if it doesn't let these options be set.
-pub fn dial_host<R: Net>(net: &R, host: &Host, port: Port) -> io::Result<ByteStream<R::Stream>> {
+/// accepts a connection in time; that of the system if it doesn't let TCP_NODELAY be set.
+pub(crate) fn dial_host<'r, R: Net + Clock>(
+    rt: &'r R,
+    host: &Host,
+    port: Port,
+) -> io::Result<TimedStream<'r, R>> {
     let Ok(host) = str::from_utf8(host.as_bytes()) else {
         return Err(io::Error::from(ErrorKind::InvalidInput));
     };
-    let stream = connect(net, host, port.number)?;
-    set_options(&stream)?;
-    Ok(ByteStream::new(stream))
+    TimedStream::new(rt, connect(rt, host, port.number)?)
 }
 
 /// Connects to the first address of this host that accepts a connection in time.
@@ -44,12 +42,4 @@ fn connect<R: Net>(net: &R, host: &str, port: u16) -> io::Result<R::Stream> {
         }
     }
     Err(last)
-}
-
-/// Switches TCP_NODELAY on, and limits how long a read or a write waits.
-fn set_options(stream: &impl OpenStream) -> io::Result<()> {
-    let limit = Some(Duration::from_secs(SILENCE_SECONDS));
-    stream.set_nodelay(true)?;
-    stream.set_read_timeout(limit)?;
-    stream.set_write_timeout(limit)
 }

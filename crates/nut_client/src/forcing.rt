@@ -1,7 +1,7 @@
 //! Forcing the shutdown of a UPS by hand.
 ghost use Rattle.std.specs.Prelude.{◌≡◌, [], IfErr, IfOk};
 ghost use Rattle.std.specs.Io.KnownBytes.{append_known};
-ghost use Rattle.nut_client.specs.Forcing.{forcing_queries, in_turn, query_lines, without_text};
+ghost use Rattle.nut_client.specs.Forcing.{forcing_queries, in_turn, login_queries, query_lines, without_text};
 ghost use Rattle.nut_client.specs.Script.{Prints};
 ghost use Rattle.nut_client.specs.Tool.{Ends};
 ghost use Rattle.nut_client.specs.inside.Between.{Goes, point};
@@ -39,6 +39,41 @@ pub fn force_shutdown<S: Stream>(
     let mut conversation = Conversation::new(alloc);
     let queries = forcing_queries(&ups, user, password);
     ask_in_turn(&mut conversation, stream, &queries)
+}
+
+/// Logs in to the UPS of this name, as this user: asks USERNAME, PASSWORD and LOGIN, each once the query before it was
+/// answered `OK`. The login lasts until the connection is closed.
+///
+/// # Errors
+///
+/// As for [`force_shutdown`].
+pub fn log_in<S: Stream>(
+    alloc: Global,
+    ups: Word<'_>,
+    user: Word<'_>,
+    password: Word<'_>,
+    stream: &mut S,
+) -> Result<(), Failure>
+    ensures ends { Ends (in_turn (login_queries ups.entry user.entry password.entry)) (without_text result)
+        (S.remaining stream.old) (S.remaining stream.new) (S.taken stream.old) (S.taken stream.new) }
+    ensures asked { IfOk result (λ _. S.taken stream.new
+        ≡ append_known (S.taken stream.old) (query_lines (login_queries ups.entry user.entry password.entry))) }
+    ensures lost { IfErr result (λ failure. failure ≡ ConnectionLost → S.has_ended stream.new) }
+{
+    let mut conversation = Conversation::new(alloc);
+    let logins = login_queries(ups, user, password);
+    ask_in_turn(&mut conversation, stream, &logins)
+}
+
+/// Returns what is asked to log in to the UPS of this name.
+fn login_queries<'t>(ups: Word<'t>, user: Word<'t>, password: Word<'t>) -> [Request<'t>; 3]
+    ensures { result ≡ login_queries ups.entry user.entry password.entry }
+{
+    [
+        Request::Username { name: user },
+        Request::Password { password },
+        Request::Login { ups },
+    ]
 }
 
 /// Returns what is asked to force the shutdown of the UPS of this name.

@@ -69,6 +69,13 @@ impl<T> ByteStream<T> {
         }
     }
 
+    /// Returns what the connection is over.
+    pub(crate) fn inner(&self) -> &T
+        ensures { result.now ≡ self.now.inner }
+    {
+        &self.inner
+    }
+
     /// Counts a call. Returns whether it may be made.
     fn count_call(&mut self) -> bool
         ensures { result ≡ true → self.new.calls_left < self.old.calls_left }
@@ -152,6 +159,13 @@ impl<'a> MemoryStream<'a> {
             asked: Vec::new(alloc),
             is_lost: false,
         }
+    }
+
+    /// Whether memory for what was sent couldn't be allocated. The connection is lost then.
+    pub fn is_lost(&self) -> bool
+        ensures { result ≡ self.now.is_lost }
+    {
+        self.is_lost
     }
 
     /// Returns what was sent to the server.

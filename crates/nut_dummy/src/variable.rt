@@ -11,7 +11,7 @@ use crate::due::latest;
 use crate::text::{Name, Text};
 use crate::timeline::{Step, Timeline};
 use crate::writable::{Writable, may_be};
-use nut_words::{put_quoted, put_word};
+use nut_words::{append_quoted, append_word};
 use std::alloc::AllocError;
 use std::marker::Model;
 
@@ -80,9 +80,9 @@ fn put_value(out: &mut Vec<u8>, name: &[u8], value: &[u8]) -> Result<(), AllocEr
     ensures { OnOk result (out.new.items ≡ out.old.items ++ text (variable_messages false name.now value.now)) }
 {
     out.extend_from_slice(b"SETINFO ")?;
-    put_word(out, name)?;
+    append_word(out, name)?;
     out.push(b' ')?;
-    put_quoted(out, value)?;
+    append_quoted(out, value)?;
     out.push(b'\n')?;
     Ok(())
 }

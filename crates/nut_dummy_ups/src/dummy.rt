@@ -1,7 +1,8 @@
 //! dummy-ups: a driver without a device.
 
-use crate::driver_socket::{ListenFault, has_listener, listen_at};
+use crate::driver_socket::listen_at;
 use crate::dummy_driver::DummyDriver;
+use crate::listen_fault::ListenFault;
 use clap::{Arg, ArgMatches, Command};
 use mio::net::UnixListener;
 use nut_dummy::{Dummy, Script, ScriptFault, ScriptFaultKind, ScriptKind};
@@ -9,6 +10,7 @@ use nut_log::Lines;
 use nut_program::{Failure, OwnFault, VERSION, hold_closed_streams, read_file, remark_on_unread};
 use std::alloc::{AllocError, Global};
 use std::convert::AsStr;
+use std::fs::File;
 use std::io::{ErrorKind, Write};
 use std::net::Net;
 use std::rt::Files;
@@ -30,10 +32,8 @@ enum DummyUpsFault<'a> {
     TooLong(&'a str),
     /// The file has this fault.
     Script(&'a str, ScriptFault),
-    /// Another driver listens at this socket.
-    InUse(&'a str),
-    /// It is impossible to listen at this socket, for this reason.
-    Listen(&'a str, ListenFault),
+    /// The driver can't listen at this socket. The remark says why.
+    Listen(&'a str, Option<String>),
 }
 
 impl<'a> fmt::Display for DummyUpsFault<'a> {
@@ -43,10 +43,7 @@ impl<'a> fmt::Display for DummyUpsFault<'a> {
             DummyUpsFault::CannotRead(file, _) => write!(f, "{file}: cannot read"),
             DummyUpsFault::TooLong(file) => write!(f, "{file}: more than {FILE_MAX} bytes"),
             DummyUpsFault::Script(file, fault) => write!(f, "{file}:{fault}"),
-            DummyUpsFault::InUse(socket) => write!(f, "{socket}: another driver listens there"),
-            DummyUpsFault::Listen(socket, fault) => {
-                write!(f, "cannot listen on {socket}: {fault}")
-            }
+            DummyUpsFault::Listen(socket, _) => write!(f, "cannot listen on {socket}"),
         }
     }
 }
@@ -54,13 +51,14 @@ impl<'a> fmt::Display for DummyUpsFault<'a> {
 impl<'a> OwnFault for DummyUpsFault<'a> {
     fn remark(&self) -> Option<&str> {
         match self {
-            DummyUpsFault::CannotRead(_, Some(remark)) => Some(remark.as_str()),
+            DummyUpsFault::CannotRead(_, Some(remark)) | DummyUpsFault::Listen(_, Some(remark)) => {
+                Some(remark.as_str())
+            }
             DummyUpsFault::CannotRead(_, None)
+            | DummyUpsFault::Listen(_, None)
             | DummyUpsFault::UnknownKind(_)
             | DummyUpsFault::TooLong(_)
-            | DummyUpsFault::Script(..)
-            | DummyUpsFault::InUse(_)
-            | DummyUpsFault::Listen(..) => None,
+            | DummyUpsFault::Script(..) => None,
         }
     }
 }
@@ -69,19 +67,19 @@ impl<'a> OwnFault for DummyUpsFault<'a> {
 ///
 /// `words` are those of the command line `dummy-ups FILE SOCKET`, the program's name first. The script in FILE is told,
 /// from now on, to one server at a time, which connects at SOCKET. A socket of that name is removed if no other driver
-/// listens at it; any other file of that name stays. The end of FILE says what kind the script is: `.dev` is told once,
-/// `.seq` round after round. The program ends if waiting for the socket or reading the clock fails; then
-/// `dummy-ups: I/O failed` is written, and the status is 1.
+/// listens at it, and so is an empty plain file; any other file of that name stays. The end of FILE says what kind the
+/// script is: `.dev` is told once, `.seq` round after round. The program ends if waiting for the socket or reading the
+/// clock fails; then `dummy-ups: I/O failed` is written, and the status is 1.
 ///
 /// If clap refuses the words, its text is written to `err`, and the status is 2; the help and the version are written
 /// to `out`, with status 0. Before anything is told to a server, the first of these is written to `err`, with status 1:
 /// `dummy-ups: FILE: unknown kind`; `dummy-ups: FILE: cannot read`, with the reason on a line of its own;
 /// `dummy-ups: FILE: more than 16777216 bytes`; the first fault of the script, as `dummy-ups: FILE:2: BadName`;
-/// `dummy-ups: SOCKET: another driver listens there`; `dummy-ups: cannot listen on SOCKET: WHY`; or
-/// `dummy-ups: out of memory` if memory cannot be allocated before. Later, `dummy-ups: link closed: out of memory` is
-/// written each time that memory for an answer to the server is lacking; the server may connect again.
+/// `dummy-ups: cannot listen on SOCKET`, with the reason on a line of its own; or `dummy-ups: out of memory` if memory
+/// cannot be allocated before. Later, `dummy-ups: link closed: out of memory` is written each time that memory for an
+/// answer to the server is lacking; the server may connect again.
 pub fn run_dummy_ups<S: AsStr, O: Write, E: Lines>(
-    rt: &(impl Wait + Files + Net + Clock),
+    rt: &(impl Wait + Files<File = File> + Net + Clock),
     alloc: Global,
     words: &[S],
     out: &mut O,
@@ -94,7 +92,7 @@ pub fn run_dummy_ups<S: AsStr, O: Write, E: Lines>(
 }
 
 fn run<'a, S: AsStr, E: Lines>(
-    rt: &(impl Wait + Files + Net + Clock),
+    rt: &(impl Wait + Files<File = File> + Net + Clock),
     alloc: Global,
     words: &'a [S],
     err: &mut E,
@@ -105,7 +103,7 @@ fn run<'a, S: AsStr, E: Lines>(
 
 /// Does what a command line asks for that clap has accepted.
 fn run_matches<'a, E: Lines>(
-    rt: &(impl Wait + Files + Net + Clock),
+    rt: &(impl Wait + Files<File = File> + Net + Clock),
     alloc: Global,
     matches: &ArgMatches<'a>,
     err: &mut E,
@@ -117,7 +115,7 @@ fn run_matches<'a, E: Lines>(
 
 /// Tells the script of a file to servers that connect at a socket.
 fn tell_file<'a, E: Lines>(
-    rt: &(impl Wait + Files + Net + Clock),
+    rt: &(impl Wait + Files<File = File> + Net + Clock),
     alloc: Global,
     file: &'a str,
     socket: &'a str,
@@ -132,7 +130,7 @@ fn tell_file<'a, E: Lines>(
 
 /// Runs a dummy driver at a socket. The standard streams that are closed are held meanwhile.
 fn tell_at<'a, E: Lines>(
-    rt: &(impl Wait + Files + Net + Clock),
+    rt: &(impl Wait + Files<File = File> + Net + Clock),
     alloc: Global,
     dummy: Dummy,
     socket: &'a str,
@@ -149,13 +147,13 @@ fn tell_at<'a, E: Lines>(
 }
 
 /// Holds the standard streams that are closed, and then listens at a socket.
-fn listen_held<'a, R: Files + Net>(
-    rt: &R,
+fn listen_held<'a>(
+    rt: &(impl Files<File = File> + Net),
     alloc: Global,
     socket: &'a str,
-) -> Result<(Vec<R::File>, UnixListener), Failure<DummyUpsFault<'a>>> {
+) -> Result<(Vec<File>, UnixListener), Failure<DummyUpsFault<'a>>> {
     let held = hold_closed_streams(rt, alloc)?;
-    match listen(rt, socket) {
+    match listen(rt, alloc, socket) {
         Ok(listener) => Ok((held, listener)),
         Err(failure) => {
             // dropped by a call, which keeps the proof of this function short
@@ -237,19 +235,21 @@ fn kind_of(file: &str) -> Option<ScriptKind> {
     }
 }
 
-/// Listens at a socket unless another driver does.
+/// Listens at a socket.
 fn listen<'a>(
-    rt: &(impl Files + Net),
+    rt: &(impl Files<File = File> + Net),
+    alloc: Global,
     socket: &'a str,
 ) -> Result<UnixListener, Failure<DummyUpsFault<'a>>> {
-    let listener = match has_listener(rt, socket) {
-        Ok(true) => return Err(Failure::Own(DummyUpsFault::InUse(socket))),
-        Ok(false) => listen_at(rt, socket),
-        Err(error) => Err(ListenFault::System(error)),
-    };
-    match listener {
+    match listen_at(rt, alloc, socket) {
         Ok(listener) => Ok(listener),
-        Err(fault) => Err(Failure::Own(DummyUpsFault::Listen(socket, fault))),
+        Err(ListenFault::System(error)) if error.kind() == ErrorKind::OutOfMemory => {
+            Err(Failure::Memory)
+        }
+        Err(fault) => {
+            let remark = format!(in alloc; "{fault}").ok();
+            Err(Failure::Own(DummyUpsFault::Listen(socket, remark)))
+        }
     }
 }
 

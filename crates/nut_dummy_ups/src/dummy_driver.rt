@@ -133,7 +133,7 @@ impl DummyDriver {
         {
             return;
         }
-        self.link = Some(Link::new(stream));
+        self.link = Some(Link::local(stream));
         self.dummy.linked();
     }
 }

@@ -10,7 +10,7 @@ use Rattle.nut_link.specs.Exchange as stages
 use Rattle.nut_link.specs.declared.outcome.Outcome.{Outcome}
 use Rattle.nut_words.specs.declared.limits.TheConstants.{PIECE_MAX}
 use Rattle.nut_conf.specs.declared.monitor.Monitored.{Monitored}
-use Rattle.nut_conf.specs.declared.upsmon.UpsmonConf.{UpsmonConf}
+use Rattle.nut_conf.specs.declared.upsmon.MonConfig.{MonConfig}
 use Rattle.nut_conf.specs.declared.limits.TheConstants.{MONITORS_MAX}
 use Rattle.nut_monitor_spec.specs.Acceptance.{bytes_refusal, is_linked, linked_refusal, lost_refusal, took_refusal, waits_on, watch_at}
 use Rattle.nut_monitor_spec.specs.Configuration.{Configuration, Line, configuration_of, line_of}
@@ -97,7 +97,7 @@ pub lines_length : (ms : List Monitored) → length (map line_of ms) ≡ length 
 lines_length [] = refl
 lines_length (m ∷ ms) = ap suc (lines_length ms)
 
-pub beginning_orderly : (u : UpsmonConf) (s : Content) → s ≡ content (configuration_of u) [] → IsOrderly s
+pub beginning_orderly : (u : MonConfig) (s : Content) → s ≡ content (configuration_of u) [] → IsOrderly s
 beginning_orderly u s is =
     let lines = map line_of u.monitors.lines.items in
     let watches = map (λ line. unwatched) lines in

@@ -4,7 +4,7 @@ use Rattle.std.specs.Option.{option_map}
 use Rattle.nut_conf.specs.Upsmon.{message_of}
 use Rattle.nut_conf.specs.declared.notice.Notice.{Notice as Kind}
 use Rattle.nut_conf.specs.declared.notice.Notice.TheVariants as kinds
-use Rattle.nut_conf.specs.declared.upsmon.UpsmonConf.{UpsmonConf}
+use Rattle.nut_conf.specs.declared.upsmon.MonConfig.{MonConfig}
 use Rattle.nut_monitor_spec.specs.declared.Notice.{Notice}
 
 -- the text begins with `%s`
@@ -28,12 +28,12 @@ abbrev pub filled : List ℕ → List ℕ → List ℕ
 filled target text = filled_at target text (place_of text)
 
 -- the UPS of a line as upsmon.conf writes it, if there is such a line
-abbrev pub target_at : UpsmonConf → Option ℕ → Option (List ℕ)
+abbrev pub target_at : MonConfig → Option ℕ → Option (List ℕ)
 target_at config None = None
 target_at config (Some i) = option_map (λ m. m.written.items) (slice_get config.monitors.lines.items i)
 
 -- what replaces `%s`: nothing in the text of SHUTDOWN, else the UPS of the line
-abbrev pub target_for : UpsmonConf → Kind → Option ℕ → Option (List ℕ)
+abbrev pub target_for : MonConfig → Kind → Option ℕ → Option (List ℕ)
 target_for config kinds.Shutdown line = None
 target_for config kind line = target_at config line
 
@@ -42,5 +42,5 @@ filled_if None text = text
 filled_if (Some target) text = filled target text
 
 -- the text of a notice: the message of its type, with its first `%s` replaced by the UPS of its line
-abbrev pub text_of : UpsmonConf → Notice → List ℕ
+abbrev pub text_of : MonConfig → Notice → List ℕ
 text_of config notice = filled_if (target_for config notice.kind notice.line) (message_of notice.kind config)

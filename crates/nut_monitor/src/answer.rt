@@ -13,7 +13,7 @@ ghost use Rattle.nut_monitor_spec.specs.declared.Communication.TheVariants as co
 use crate::flags::{no_flags, read_flags};
 use crate::notices::Notices;
 use crate::time::is_over;
-use nut_conf::{Notice as Kind, Number, UpsmonConf};
+use nut_conf::{MonConfig, Notice as Kind, Number};
 use nut_link::{Fields, Outcome};
 use nut_monitor_spec::{Communication, Known, NOTICES_MAX, Notice, Query, StatusFlags};
 
@@ -61,7 +61,7 @@ fn had(known: Known) -> StatusFlags
 }
 
 /// Whether a status gives REPLBATT.
-fn tells_replace(config: &UpsmonConf, clock: u64, known: Known, flags: StatusFlags) -> bool
+fn tells_replace(config: &MonConfig, clock: u64, known: Known, flags: StatusFlags) -> bool
     ensures { result ≡ replaces (configuration_of config.now) clock known.replace_told known.flags flags }
 {
     let pause = u64::from(config.rb_warn_time.value);
@@ -71,7 +71,7 @@ fn tells_replace(config: &UpsmonConf, clock: u64, known: Known, flags: StatusFla
 
 /// Queues the notices that a status gives.
 fn tell_status(
-    config: &UpsmonConf,
+    config: &MonConfig,
     scene: Scene,
     known: Known,
     flags: StatusFlags,
@@ -114,7 +114,7 @@ fn is_restored(known: Known, flags: StatusFlags) -> bool
 }
 
 /// Returns what is known after a status.
-fn with_status(config: &UpsmonConf, scene: Scene, known: Known, flags: StatusFlags) -> Known
+fn with_status(config: &MonConfig, scene: Scene, known: Known, flags: StatusFlags) -> Known
     ensures { result ≡ with_flags (configuration_of config.now) scene.clock scene.watching flags known }
 {
     let worn = scene.watching && tells_replace(config, scene.clock, known, flags);
@@ -163,7 +163,7 @@ pub fn with_loss(known: Known) -> Known
 
 /// Takes in the words of a status and queues the notices that they give. Returns what is known after it.
 fn hear_status(
-    config: &UpsmonConf,
+    config: &MonConfig,
     scene: Scene,
     known: Known,
     fields: &Fields,
@@ -202,7 +202,7 @@ fn count_said(fields: &Fields, before: Option<u32>) -> Option<u32>
 
 /// Takes in the outcome of a query for the status and queues the notices that it gives. Returns what is known after it.
 fn hear_status_outcome(
-    config: &UpsmonConf,
+    config: &MonConfig,
     scene: Scene,
     known: Known,
     outcome: &Outcome,
@@ -244,7 +244,7 @@ fn count_after(outcome: &Outcome, before: Option<u32>) -> Option<u32>
 
 /// Takes in the outcome of a query and queues the notices that it gives. Returns what is known after it.
 pub fn hear(
-    config: &UpsmonConf,
+    config: &MonConfig,
     scene: Scene,
     known: Known,
     query: Query,

@@ -18,7 +18,7 @@ use crate::answer::{ANSWER_NOTICES_MAX, Scene, hear, on_line, tell_loss, with_lo
 use crate::notices::Notices;
 use crate::query::{next_query, request};
 use crate::time::{is_over, is_past};
-use nut_conf::{Monitored, Notice as Kind, UpsmonConf};
+use nut_conf::{MonConfig, Monitored, Notice as Kind};
 use nut_link::{Link, LinkFault, Outcome};
 use nut_monitor_spec::{Communication, Known, LastAnswer, LastQuery, NOTICES_MAX, Phase, Query};
 use std::alloc::Global;
@@ -90,7 +90,7 @@ fn cut(link: &mut Option<Link>)
 
 /// Returns what is known after the answer to the last query, if both are there, and queues the notices that it gives.
 fn hear_answer(
-    config: &UpsmonConf,
+    config: &MonConfig,
     scene: Scene,
     known: Known,
     last: Option<LastQuery>,
@@ -126,7 +126,7 @@ fn keep_answer(last: Option<LastQuery>, outcome: Option<Outcome>, kept: &mut Opt
 /// Queues NOCOMM if more than NOCOMMWARNTIME seconds have passed since the last status of the UPS (since the start, if
 /// there was none) and since its last NOCOMM, if there was one. Returns whether it did.
 fn tell_silence(
-    config: &UpsmonConf,
+    config: &MonConfig,
     clock: u64,
     line: usize,
     known: Known,
@@ -239,7 +239,7 @@ impl MonitorLine {
     /// how many lines of the piece were done, and the fault if the link failed.
     pub fn hear(
         &mut self,
-        config: &UpsmonConf,
+        config: &MonConfig,
         scene: Scene,
         piece: &[u8],
         notices: &mut Notices,
@@ -263,7 +263,7 @@ impl MonitorLine {
     /// if there was none) and since its last NOCOMM, if there was one.
     pub fn tell_silence(
         &mut self,
-        config: &UpsmonConf,
+        config: &MonConfig,
         clock: u64,
         line: usize,
         notices: &mut Notices,
@@ -280,7 +280,7 @@ impl MonitorLine {
     }
 
     /// Puts the next query on its link, if one may be put.
-    pub fn ask(&mut self, config: &UpsmonConf, clock: u64, phase: Phase, line: &Monitored)
+    pub fn ask(&mut self, config: &MonConfig, clock: u64, phase: Phase, line: &Monitored)
         ensures { self.new ≡ asked_next (configuration_of config.now) clock phase (line_of line.now) self.old }
     {
         let Some(link) = &mut self.link else {

@@ -3,7 +3,7 @@ ghost use Rattle.std.specs.Prelude.{◌≡◌, ◌+◌, ◌≤◌, ◌++◌, IfS
 ghost use Rattle.std.specs.Option.{option_map};
 ghost use Rattle.nut_monitor.specs.Texts.{filled_if, is_mark, place_of, target_for, text_of};
 
-use nut_conf::{Notice as Kind, UpsmonConf};
+use nut_conf::{MonConfig, Notice as Kind};
 use nut_monitor_spec::Notice;
 use std::alloc::AllocError;
 
@@ -32,7 +32,7 @@ fn mark_place(text: &[u8]) -> Option<usize>
 }
 
 /// Returns what replaces `%s` in the text of a notice: the UPS of its line as upsmon.conf writes it. None for SHUTDOWN.
-fn target(config: &UpsmonConf, notice: Notice) -> Option<&[u8]>
+fn target(config: &MonConfig, notice: Notice) -> Option<&[u8]>
     ensures { option_map (λ t. t.now) result ≡ target_for config.now notice.kind notice.line }
 {
     if let Kind::Shutdown = notice.kind {
@@ -79,7 +79,7 @@ fn put_parts(out: &mut Vec<u8>, text: &[u8], at: usize, target: &[u8]) -> Result
 
 /// Appends the text of a notice. Fails only if `out` has no room for it and memory cannot be allocated; then nothing is
 /// appended.
-pub fn put_text(config: &UpsmonConf, notice: Notice, out: &mut Vec<u8>) -> Result<(), AllocError>
+pub fn put_text(config: &MonConfig, notice: Notice, out: &mut Vec<u8>) -> Result<(), AllocError>
     ensures ok { OnOk result (out.new.items ≡ out.old.items ++ text_of config.now notice) }
     ensures err { OnErr result (out.new.items ≡ out.old.items) }
     ensures full { OnErr result (vec_capacity out.old < vec_len out.old + length (text_of config.now notice)) }

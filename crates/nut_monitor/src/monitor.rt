@@ -19,14 +19,14 @@ ghost use Rattle.std.specs.Option.{option_map};
 use crate::event::Event;
 use crate::message::put_text;
 use crate::state::State;
-use nut_conf::{MONITORS_MAX, UpsmonConf};
+use nut_conf::{MONITORS_MAX, MonConfig};
 use nut_monitor_spec::{Known, LastAnswer, LastQuery, MonitorFault, Notice, Phase};
 use std::alloc::{AllocError, Global};
 use std::marker::Model;
 
 /// A monitor: its configuration, and what it knows and has decided.
 pub struct Monitor {
-    config: UpsmonConf,
+    config: MonConfig,
     state: State,
     alloc: Global,
 }
@@ -63,7 +63,7 @@ impl Monitor {
     /// # Errors
     ///
     /// `Memory` with `link: None` if that memory cannot be allocated.
-    pub fn new(alloc: Global, config: UpsmonConf) -> Result<Monitor, MonitorFault>
+    pub fn new(alloc: Global, config: MonConfig) -> Result<Monitor, MonitorFault>
         // Its content is that of the empty history.
         ensures made { IfOk result (λ monitor. monitor ≡ record { config = config; content = content (configuration_of config) [] }) }
         ensures fault { IfErr result (λ fault. fault ≡ faults.Memory None 0) }
@@ -86,7 +86,7 @@ impl Monitor {
     }
 
     /// Returns the configuration that the monitor was made with.
-    pub fn config(&self) -> &UpsmonConf
+    pub fn config(&self) -> &MonConfig
         ensures { result.now ≡ self.now.config }
     {
         &self.config

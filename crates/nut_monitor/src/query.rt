@@ -6,7 +6,7 @@ ghost use Rattle.nut_monitor_spec.specs.Decision.{interval as interval_of, is_ea
 ghost use Rattle.nut_monitor_spec.specs.Query.{request as request_of};
 
 use crate::time::is_within;
-use nut_conf::{Monitored, Role, UpsmonConf};
+use nut_conf::{MonConfig, Monitored, Role};
 use nut_monitor_spec::{LastQuery, Phase, Query};
 use nut_proto::{Request, Word};
 
@@ -49,7 +49,7 @@ pub fn request(line: &Monitored, query: Query) -> Request<'_>
 }
 
 /// Returns how many seconds must pass before a query is put again.
-fn interval(config: &UpsmonConf, query: Query) -> u64
+fn interval(config: &MonConfig, query: Query) -> u64
     ensures { result ≡ interval_of (configuration_of config.now) query }
 {
     match query {
@@ -113,7 +113,7 @@ fn wanted(phase: Phase, primary: bool, forced: bool) -> Option<Query>
 }
 
 /// Whether the query was the last one on the link, and its interval hasn't passed yet.
-fn is_early(config: &UpsmonConf, clock: u64, query: Query, last: Option<LastQuery>) -> bool
+fn is_early(config: &MonConfig, clock: u64, query: Query, last: Option<LastQuery>) -> bool
     ensures { result ≡ too_early (configuration_of config.now) clock query last }
 {
     match last {
@@ -126,7 +126,7 @@ fn is_early(config: &UpsmonConf, clock: u64, query: Query, last: Option<LastQuer
 
 /// Returns the query to put on a link without an outstanding query, if there is one.
 pub fn next_query(
-    config: &UpsmonConf,
+    config: &MonConfig,
     line: &Monitored,
     clock: u64,
     phase: Phase,

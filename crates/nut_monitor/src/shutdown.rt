@@ -9,11 +9,11 @@ ghost use Rattle.nut_monitor.specs.inside.Inside.{lets_halt as halts, power_of};
 use crate::line::MonitorLine;
 use crate::query::is_primary;
 use crate::time::{is_past, is_within};
-use nut_conf::{Monitored, UpsmonConf};
+use nut_conf::{MonConfig, Monitored};
 use nut_monitor_spec::{Known, Phase};
 
 /// Whether the UPS of a line is critical. False if it had no status yet.
-fn is_critical(config: &UpsmonConf, line: &Monitored, clock: u64, known: Known) -> bool
+fn is_critical(config: &MonConfig, line: &Monitored, clock: u64, known: Known) -> bool
     ensures { result ≡ critical (configuration_of config.now) (line_of line.now) clock known.calm known.polled known.flags }
 {
     let Some(flags) = known.flags else {
@@ -26,7 +26,7 @@ fn is_critical(config: &UpsmonConf, line: &Monitored, clock: u64, known: Known) 
 }
 
 /// Returns the power value of a line whose UPS isn't critical, else 0.
-fn power(config: &UpsmonConf, line: &Monitored, clock: u64, known: Known) -> u32
+fn power(config: &MonConfig, line: &Monitored, clock: u64, known: Known) -> u32
     ensures { result ≡ power_of (configuration_of config.now) clock (line_of line.now) known }
 {
     if is_critical(config, line, clock, known) {
@@ -37,7 +37,7 @@ fn power(config: &UpsmonConf, line: &Monitored, clock: u64, known: Known) -> u32
 }
 
 /// Whether the sum of these power values is less than MINSUPPLIES.
-pub fn is_short(config: &UpsmonConf, clock: u64, watches: &[MonitorLine]) -> bool
+pub fn is_short(config: &MonConfig, clock: u64, watches: &[MonitorLine]) -> bool
     requires { length watches.now ≡ length (configuration_of config.now).lines }
     ensures { result ≡ nat_lt (supply_of (configuration_of config.now) clock (configuration_of config.now).lines watches.now)
         (configuration_of config.now).min_supplies }
@@ -64,7 +64,7 @@ fn lets_halt(line: &Monitored, known: Known) -> bool
 }
 
 /// Whether every line lets this machine halt, as `lets_halt` says.
-pub fn is_alone(config: &UpsmonConf, watches: &[MonitorLine]) -> bool
+pub fn is_alone(config: &MonConfig, watches: &[MonitorLine]) -> bool
     requires { length watches.now ≡ length (configuration_of config.now).lines }
     ensures { result ≡ all_alone (configuration_of config.now).lines watches.now }
 {
@@ -79,7 +79,7 @@ pub fn is_alone(config: &UpsmonConf, watches: &[MonitorLine]) -> bool
 }
 
 /// Whether Forcing is over: the shutdown has begun, and `alone` holds or more than HOSTSYNC seconds have passed since.
-pub fn is_over_by(config: &UpsmonConf, clock: u64, alone: bool, begun: Option<u64>) -> bool
+pub fn is_over_by(config: &MonConfig, clock: u64, alone: bool, begun: Option<u64>) -> bool
     ensures { result ≡ over_by (configuration_of config.now) clock alone begun }
 {
     match begun {
@@ -96,7 +96,7 @@ fn any_primary(lines: &[Monitored]) -> bool
 }
 
 /// Whether this machine is the primary of at least one UPS.
-pub fn has_primary(config: &UpsmonConf) -> bool
+pub fn has_primary(config: &MonConfig) -> bool
     ensures { result ≡ some_primary (configuration_of config.now).lines }
 {
     let monitors = &config.monitors;
@@ -104,7 +104,7 @@ pub fn has_primary(config: &UpsmonConf) -> bool
 }
 
 /// Returns the phase, by the moments at which the shutdown and Final began.
-pub fn phase(config: &UpsmonConf, clock: u64, begun: Option<u64>, ended: Option<u64>) -> Phase
+pub fn phase(config: &MonConfig, clock: u64, begun: Option<u64>, ended: Option<u64>) -> Phase
     ensures { result ≡ phase_at (configuration_of config.now) clock begun ended }
 {
     let Some(ended) = ended else {

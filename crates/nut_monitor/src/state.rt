@@ -16,7 +16,7 @@ use crate::event::Event;
 use crate::line::MonitorLine;
 use crate::notices::Notices;
 use crate::shutdown::{is_alone, is_over_by, is_short, phase};
-use nut_conf::{Monitored, Notice as Kind, UpsmonConf};
+use nut_conf::{MonConfig, Monitored, Notice as Kind};
 use nut_link::LinkFault;
 use nut_monitor_spec::{Known, LastAnswer, LastQuery, MonitorFault, NOTICES_MAX, Notice, Phase};
 use nut_words::PIECE_MAX;
@@ -67,7 +67,7 @@ fn ran_out(heard: Result<(), LinkFault>) -> bool
 
 /// Queues NOCOMM for each line whose UPS needs it, as `MonitorLine::tell_silence` says.
 fn tell_silences(
-    config: &UpsmonConf,
+    config: &MonConfig,
     clock: u64,
     watches: &mut Vec<MonitorLine>,
     notices: &mut Notices,
@@ -83,7 +83,7 @@ fn tell_silences(
 }
 
 /// Puts the next query on each link on which one may be put.
-fn ask_all(config: &UpsmonConf, clock: u64, phase: Phase, watches: &mut Vec<MonitorLine>)
+fn ask_all(config: &MonConfig, clock: u64, phase: Phase, watches: &mut Vec<MonitorLine>)
     requires { length watches.old.items ≡ length (configuration_of config.now).lines }
     ensures { watches.new.items
         ≡ all_asked (configuration_of config.now) clock phase (configuration_of config.now).lines watches.old.items }
@@ -97,7 +97,7 @@ fn ask_all(config: &UpsmonConf, clock: u64, phase: Phase, watches: &mut Vec<Moni
 
 impl State {
     /// Makes the state of a monitor that was told nothing.
-    pub fn new(alloc: Global, config: &UpsmonConf) -> Result<State, AllocError>
+    pub fn new(alloc: Global, config: &MonConfig) -> Result<State, AllocError>
         ensures { IfOk result (λ s. content_in (configuration_of config.now) s ≡ content (configuration_of config.now) []) }
     {
         let monitors = &config.monitors;
@@ -119,7 +119,7 @@ impl State {
     }
 
     /// Returns the phase.
-    pub fn phase(&self, config: &UpsmonConf) -> Phase
+    pub fn phase(&self, config: &MonConfig) -> Phase
         ensures { result ≡ phase_of (content_in (configuration_of config.now) self.now) }
     {
         phase(config, self.clock, self.begun, self.ended)
@@ -137,7 +137,7 @@ impl State {
     }
 
     /// Begins the shutdown if power is short and none has begun.
-    fn judge_shutdown(&mut self, config: &UpsmonConf)
+    fn judge_shutdown(&mut self, config: &MonConfig)
         requires { length self.old.watches.items ≡ length (configuration_of config.now).lines }
         ensures content { content_in (configuration_of config.now) self.new
             ≡ shutdown_judged (content_in (configuration_of config.now) self.old) }
@@ -151,7 +151,7 @@ impl State {
     }
 
     /// Begins Final, and queues SHUTDOWN, if Forcing is over and Final hasn't begun.
-    fn move_phase(&mut self, config: &UpsmonConf)
+    fn move_phase(&mut self, config: &MonConfig)
         requires all { length self.old.watches.items ≡ length (configuration_of config.now).lines }
         requires few { length self.old.notices < NOTICES_MAX }
         ensures content { content_in (configuration_of config.now) self.new
@@ -174,7 +174,7 @@ impl State {
     }
 
     /// Ends an event: judges the shutdown, moves the phase, and puts the next queries.
-    fn settle(&mut self, config: &UpsmonConf)
+    fn settle(&mut self, config: &MonConfig)
         requires { IsOrderly (content_in (configuration_of config.now) self.old) }
         ensures content { content_in (configuration_of config.now) self.new ≡ settled (content_in (configuration_of config.now) self.old) }
         ensures orderly { IsOrderly (content_in (configuration_of config.now) self.new) }
@@ -262,7 +262,7 @@ impl State {
 
     /// Sets the clock, which never runs back. While no shutdown has begun, queues NOCOMM for each line whose UPS needs
     /// it.
-    fn tick(&mut self, config: &UpsmonConf, t: u64)
+    fn tick(&mut self, config: &MonConfig, t: u64)
         requires orderly { IsOrderly (content_in (configuration_of config.now) self.old) }
         requires free { length self.old.notices ≡ 0 }
         ensures content { content_in (configuration_of config.now) self.new
@@ -277,7 +277,7 @@ impl State {
     }
 
     /// Takes the event that `t` seconds have passed since the start. The clock never runs back.
-    pub fn moment(&mut self, config: &UpsmonConf, t: u64) -> Result<(), MonitorFault>
+    pub fn moment(&mut self, config: &MonConfig, t: u64) -> Result<(), MonitorFault>
         requires { IsOrderly (content_in (configuration_of config.now) self.old) }
         ensures step { Steps (configuration_of config.now) self.old (E.Moment t) result self.new }
     {
@@ -290,7 +290,7 @@ impl State {
     }
 
     /// Takes the event that the link of a line was made.
-    pub fn link(&mut self, config: &UpsmonConf, alloc: Global, i: usize) -> Result<(), MonitorFault>
+    pub fn link(&mut self, config: &MonConfig, alloc: Global, i: usize) -> Result<(), MonitorFault>
         requires { IsOrderly (content_in (configuration_of config.now) self.old) }
         ensures step { Steps (configuration_of config.now) self.old (E.Linked i) result self.new }
     {
@@ -304,7 +304,7 @@ impl State {
     /// lines.
     pub fn link_bytes(
         &mut self,
-        config: &UpsmonConf,
+        config: &MonConfig,
         i: usize,
         piece: &[u8],
     ) -> Result<(), MonitorFault>
@@ -331,7 +331,7 @@ impl State {
     }
 
     /// Takes the event that the link of a line was lost.
-    pub fn link_lost(&mut self, config: &UpsmonConf, i: usize) -> Result<(), MonitorFault>
+    pub fn link_lost(&mut self, config: &MonConfig, i: usize) -> Result<(), MonitorFault>
         requires { IsOrderly (content_in (configuration_of config.now) self.old) }
         ensures step { Steps (configuration_of config.now) self.old (E.LinkLost i) result self.new }
     {

@@ -1,6 +1,6 @@
 -- What is watched stays watched at each step of the loop.
 use Rattle.std.proofs.Common.{◌≡◌, ℕ, List, [], ◌∷◌, ◌++◌, Option, Some, None, Result, Ok, Err, OnErr, refl, sym, ◌∙◌, ap, subst}
-use Rattle.nut_conf.specs.declared.upsmon.UpsmonConf.{UpsmonConf}
+use Rattle.nut_conf.specs.declared.upsmon.MonConfig.{MonConfig}
 use Rattle.nut_monitor_spec.specs.declared.MonitorFault.{MonitorFault}
 use Rattle.nut_monitor_spec.specs.declared.MonitorFault.TheVariants.{Memory}
 use Rattle.nut_monitor_spec.specs.Configuration.{Configuration}
@@ -26,9 +26,9 @@ abbrev pub Stays : (List Entry → Type 0) → (List Entry → Type 0) → Type 
 Stays D D' = (entries : List Entry) → D entries → D' entries
 
 -- what a call did follows what was done since the start
-pub follows : {W : Type 0} (Did : UpsmonConf → W → W → List Entry → Type 0)
-    → ((config : UpsmonConf) (a b c : W) (xs ys : List Entry) → Did config a b xs → Did config b c ys → Did config a c (ys ++ xs))
-    → (since : Since W) (old new : W) (config : UpsmonConf) (ys : List Entry) → config ≡ since.config → Did config old new ys
+pub follows : {W : Type 0} (Did : MonConfig → W → W → List Entry → Type 0)
+    → ((config : MonConfig) (a b c : W) (xs ys : List Entry) → Did config a b xs → Did config b c ys → Did config a c (ys ++ xs))
+    → (since : Since W) (old new : W) (config : MonConfig) (ys : List Entry) → config ≡ since.config → Did config old new ys
     → (entries : List Entry) → Did since.config since.start old entries → Did since.config since.start new (ys ++ entries)
 follows Did on since old new config ys same call entries before =
     on since.config since.start old new entries ys before (subst (λ c. Did c old new ys) same call)

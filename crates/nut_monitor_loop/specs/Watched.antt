@@ -1,6 +1,6 @@
 -- How the history of a monitor follows from the record of its world.
 use Rattle.std.specs.Prelude.{◌≡◌, ◌==◌, ℕ, List, [], ◌∷◌, ◌++◌, length, map, Option, Some, None, Result, if◌then◌else◌}
-use Rattle.nut_conf.specs.declared.upsmon.UpsmonConf.{UpsmonConf}
+use Rattle.nut_conf.specs.declared.upsmon.MonConfig.{MonConfig}
 use Rattle.nut_monitor_spec.specs.declared.MonitorFault.{MonitorFault}
 use Rattle.nut_monitor_spec.specs.declared.Notice.{Notice}
 use Rattle.nut_monitor_spec.specs.Configuration.{Configuration}
@@ -106,6 +106,6 @@ WatchedBefore first Did s n piece = Watched first (λ entries. Did (given_by n p
 
 -- What is watched since `start`: the configuration, of the monitor and as it is defined, and the world as it was then.
 pub record Since (World : Type 0) : Type 0 where
-  pub config : UpsmonConf
+  pub config : MonConfig
   pub first : Configuration
   pub start : World

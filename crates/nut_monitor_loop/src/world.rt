@@ -1,7 +1,7 @@
 //! The world as the loop sees it.
 
 ghost use Rattle.std.specs.Prelude.{◌≡◌, ◌+◌, ◌-◌, ◌^◌, ◌<◌, ℕ, Bool, false, List, [], ◌∷◌, ◌++◌, length, Ok, IfOk, OnOk, OnErr, is_ok, if◌then◌else◌};
-ghost use Rattle.nut_conf.specs.declared.upsmon.UpsmonConf.{UpsmonConf};
+ghost use Rattle.nut_conf.specs.declared.upsmon.MonConfig.{MonConfig};
 ghost use Rattle.nut_monitor_spec.specs.Content.{phase_of};
 ghost use Rattle.nut_monitor_spec.specs.Decision.{is_halted};
 ghost use Rattle.nut_io.specs.Writes.{IsWithin, late_after};
@@ -19,7 +19,7 @@ use nut_monitor::{Monitor, Notice};
 pub trait MonWorld {
     /// Calls that are shown monitors of this configuration may lead from the first state to the second, and this, the newest
     /// first, is what it gave, took, closed and was handed by them.
-    ghost did: { UpsmonConf → Self → Self → List Entry → Type 0 };
+    ghost did: { MonConfig → Self → Self → List Entry → Type 0 };
 
     /// On which links a write was `Later` since the last `next`.
     ghost late: { Self → ℕ → Bool };
@@ -77,9 +77,9 @@ pub trait MonWorld {
         ensures counted { fault_count self.new ≡ (if is_ok result then fault_count self.old else fault_count self.old + 1) };
 
     /// Without a call nothing is done.
-    ghost did_self: { (config : UpsmonConf) (w : Self) → did config w w [] };
+    ghost did_self: { (config : MonConfig) (w : Self) → did config w w [] };
 
     /// What is done by calls after calls.
-    ghost did_on: { (config : UpsmonConf) (a b c : Self) (xs ys : List Entry) → did config a b xs → did config b c ys
+    ghost did_on: { (config : MonConfig) (a b c : Self) (xs ys : List Entry) → did config a b xs → did config b c ys
         → did config a c (ys ++ xs) };
 }

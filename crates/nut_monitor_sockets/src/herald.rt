@@ -1,7 +1,7 @@
 //! Where a monitor's notices go.
 
 ghost use Rattle.std.specs.Prelude.{List, [], ◌∷◌, ◌++◌};
-ghost use Rattle.nut_conf.specs.declared.upsmon.UpsmonConf.{UpsmonConf};
+ghost use Rattle.nut_conf.specs.declared.upsmon.MonConfig.{MonConfig};
 ghost use Rattle.nut_monitor_spec.specs.declared.Notice.{Notice};
 
 use nut_monitor::{Monitor, Notice};
@@ -10,7 +10,7 @@ use nut_monitor::{Monitor, Notice};
 pub trait Herald: Drop {
     /// Calls that are shown monitors of this configuration may lead from the first state to the second, and these notices, the
     /// oldest first, are those that it receives by them.
-    ghost told: { UpsmonConf → Self → Self → List Notice → Type 0 };
+    ghost told: { MonConfig → Self → Self → List Notice → Type 0 };
 
     /// Receives a notice of this monitor.
     fn announce(&mut self, monitor: &Monitor, notice: Notice)
@@ -23,9 +23,9 @@ pub trait Herald: Drop {
         ensures { told monitor.now.config self.old self.new [] };
 
     /// Without a call none is received.
-    ghost told_self: { (config : UpsmonConf) (h : Self) → told config h h [] };
+    ghost told_self: { (config : MonConfig) (h : Self) → told config h h [] };
 
     /// What is received by calls after calls.
-    ghost told_on: { (config : UpsmonConf) (a b c : Self) (xs ys : List Notice) → told config a b xs → told config b c ys
+    ghost told_on: { (config : MonConfig) (a b c : Self) (xs ys : List Notice) → told config a b xs → told config b c ys
         → told config a c (xs ++ ys) };
 }

@@ -1,4 +1,4 @@
-//! The world of a monitor over sockets: links over TCP to the servers of its MONITOR lines.
+//! The world of a monitor over sockets: links over TCP to the servers of its MONITOR lines; and short visits to them.
 #![tactic(auto)]
 
 mod dialler;
@@ -13,9 +13,11 @@ mod pause;
 mod refusals;
 mod report;
 mod upstream;
+mod visits;
 mod waiting;
 
 pub use herald::Herald;
 pub use limits::{ANSWER_ON_BATTERY, LATE_ANSWERS};
 pub use links::NewLinks;
 pub use mio_mon_world::MioMonWorld;
+pub use visits::{Visited, Visits};

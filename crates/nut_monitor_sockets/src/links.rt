@@ -14,7 +14,7 @@ use crate::refusals::{ErrorName, is_left_out_when_quiet, title};
 use crate::report::Report;
 use crate::upstream::Upstream;
 use mio::{Events, Token};
-use nut_conf::{MONITORS_MAX, UpsmonConf};
+use nut_conf::{MONITORS_MAX, MonConfig};
 use nut_io::{Piece, Written};
 use nut_monitor::{LastAnswer, Monitor, Phase, Query};
 use nut_monitor_loop::Next;
@@ -59,7 +59,7 @@ impl NewLinks {
     /// # Errors
     ///
     /// [`AllocError`] if memory cannot be allocated.
-    pub fn of(alloc: Global, config: &UpsmonConf) -> Result<NewLinks, AllocError> {
+    pub fn of(alloc: Global, config: &MonConfig) -> Result<NewLinks, AllocError> {
         Ok(NewLinks {
             upstreams: upstreams_of(alloc, config)?,
         })
@@ -548,7 +548,7 @@ impl Links {
 }
 
 /// Returns a link for each MONITOR line. Their servers are about to be called.
-fn upstreams_of(alloc: Global, config: &UpsmonConf) -> Result<Vec<Upstream>, AllocError> {
+fn upstreams_of(alloc: Global, config: &MonConfig) -> Result<Vec<Upstream>, AllocError> {
     let mut upstreams = Vec::new(alloc);
     for line in config.monitors.lines.iter() {
         upstreams.push(Upstream::new(alloc, line)?)?;

@@ -1,7 +1,7 @@
 -- What a monitor is made with (upsmon.conf(5)).
 use Rattle.std.specs.Prelude.{ℕ, zero, suc, Bool, true, false, ◌||◌, List, [], ◌∷◌, map}
 use Rattle.nut_conf.specs.declared.monitor.Monitored.{Monitored}
-use Rattle.nut_conf.specs.declared.upsmon.UpsmonConf.{UpsmonConf}
+use Rattle.nut_conf.specs.declared.upsmon.MonConfig.{MonConfig}
 use Rattle.nut_conf.specs.declared.users.Role.{Role}
 use Rattle.nut_conf.specs.declared.users.Role.TheVariants as roles
 
@@ -72,7 +72,7 @@ line_of m = record {
 }
 
 -- what upsmon.conf says; a value that isn't set has its default
-abbrev pub configuration_of : UpsmonConf → Configuration
+abbrev pub configuration_of : MonConfig → Configuration
 configuration_of c = record {
   lines = map line_of c.monitors.lines.items;
   min_supplies = c.min_supplies.value;

@@ -4,7 +4,7 @@ use Rattle.std.specs.Prelude.{nat_lt}
 use Rattle.std.specs.List.{AllByRecursion}
 use Rattle.std.proofs.lemmas.List.{length-map}
 use Rattle.nut_words.specs.declared.limits.TheConstants.{PIECE_MAX}
-use Rattle.nut_conf.specs.declared.upsmon.UpsmonConf.{UpsmonConf}
+use Rattle.nut_conf.specs.declared.upsmon.MonConfig.{MonConfig}
 use Rattle.nut_server_spec.specs.Configuration.{Configuration as ServerConfiguration}
 use Rattle.nut_server_spec.specs.Event as arrivals
 use Rattle.nut_server_spec.specs.Content as server
@@ -171,17 +171,17 @@ monitors-fine spoken (seat ∷ seats) monitors is =
 -- ---- before any step
 
 module _ (first : ServerConfiguration) where
-  fresh-monitors : (confs : List UpsmonConf) → map config_of (map fresh_seat confs) ≡ map configuration_of confs
+  fresh-monitors : (confs : List MonConfig) → map config_of (map fresh_seat confs) ≡ map configuration_of confs
   fresh-monitors [] = refl
   fresh-monitors (c ∷ confs) = ap (λ cs. configuration_of c ∷ cs) (fresh-monitors confs)
 
-  fresh-links : (confs : List UpsmonConf) → map links_of (map fresh_seat confs) ≡ map (λ (c : Configuration). length c.lines) (map configuration_of confs)
+  fresh-links : (confs : List MonConfig) → map links_of (map fresh_seat confs) ≡ map (λ (c : Configuration). length c.lines) (map configuration_of confs)
   fresh-links [] = refl
   fresh-links (c ∷ confs) =
       ap (λ n. n ∷ map links_of (map fresh_seat confs)) (length-map (configuration_of c).lines (λ line. no_ends))
       ∙ ap (λ ns. length (configuration_of c).lines ∷ ns) (fresh-links confs)
 
-  fresh-known : (confs : List UpsmonConf) (m : ℕ) →
+  fresh-known : (confs : List MonConfig) (m : ℕ) →
       known_in (slice_get (map fresh_seat confs) m) ≡ knowledge.content (slice_index_or (map configuration_of confs) m no_monitor) []
   fresh-known (c ∷ confs) (suc m) = fresh-known confs m
   fresh-known _ _ = refl
@@ -190,12 +190,12 @@ module _ (first : ServerConfiguration) where
   no-ends (line ∷ lines) (suc i) = no-ends lines i
   no-ends _ _ = refl
 
-  fresh-ends : (confs : List UpsmonConf) (m i : ℕ) → ends_at (links_in (slice_get (map fresh_seat confs) m)) i ≡ no_ends
+  fresh-ends : (confs : List MonConfig) (m i : ℕ) → ends_at (links_in (slice_get (map fresh_seat confs) m)) i ≡ no_ends
   fresh-ends [] m i = refl
   fresh-ends (c ∷ confs) zero i = no-ends (configuration_of c).lines i
   fresh-ends (c ∷ confs) (suc m) i = fresh-ends confs m i
 
-  pub fresh-stands : (confs : List UpsmonConf) →
+  pub fresh-stands : (confs : List MonConfig) →
       IsFleet (record { server = first; monitors = map configuration_of confs }) nothing (fresh_fleet first confs)
   fresh-stands confs = record {
     monitors = fresh-monitors confs;

@@ -1,6 +1,6 @@
 -- What the code keeps of a fleet.
 use Rattle.std.specs.Prelude.{ℕ, ◌≡◌, Bool, false, List, [], length, map, slice_get, slice_index_or, Option, Some, None}
-use Rattle.nut_conf.specs.declared.upsmon.UpsmonConf.{UpsmonConf}
+use Rattle.nut_conf.specs.declared.upsmon.MonConfig.{MonConfig}
 use Rattle.nut_server_spec.specs.Configuration.{Configuration as ServerConfiguration}
 use Rattle.nut_server_spec.specs.Content as server
 use Rattle.nut_monitor_spec.specs.Content as knowledge
@@ -48,14 +48,14 @@ fleet_of k = record {
 -- ---- before any step
 
 -- a monitor of this file that was told nothing
-abbrev pub fresh_seat : UpsmonConf → Seat
+abbrev pub fresh_seat : MonConfig → Seat
 fresh_seat c = record {
   monitor = record { config = c; content = knowledge.content (configuration_of c) [] };
   links = map (λ line. no_ends) (configuration_of c).lines;
 }
 
 -- a server of this configuration and the monitors of these files, which were told nothing
-abbrev pub fresh_fleet : ServerConfiguration → List UpsmonConf → Kept
+abbrev pub fresh_fleet : ServerConfiguration → List MonConfig → Kept
 fresh_fleet first monitors = record { server = server.content first []; seats = map fresh_seat monitors; failed = false }
 
 -- ---- the world that it belongs to

@@ -1,7 +1,7 @@
 -- What a fleet says of the whole schedule that it has played.
 use Rattle.std.specs.Prelude.{ℕ, ◌≡◌, ◌+◌, ◌++◌, true, false, List, map, take, slice_get, Some}
 use Rattle.std.specs.List.{AllByRecursion}
-use Rattle.nut_conf.specs.declared.upsmon.UpsmonConf.{UpsmonConf}
+use Rattle.nut_conf.specs.declared.upsmon.MonConfig.{MonConfig}
 use Rattle.nut_server_spec.specs.Configuration.{Configuration as ServerConfiguration}
 use Rattle.nut_monitor_spec.specs.Configuration.{configuration_of}
 use Rattle.nut_fleet.specs.Schedule as S
@@ -16,7 +16,7 @@ use Rattle.nut_play.specs.Kept.{Kept, IsFleet}
 use Rattle.nut_play.specs.Steps.{step_of, steps_of}
 
 -- what a fleet is made with
-abbrev pub setup_of : ServerConfiguration → List UpsmonConf → Setup
+abbrev pub setup_of : ServerConfiguration → List MonConfig → Setup
 setup_of first monitors = record { server = first; monitors = map configuration_of monitors }
 
 -- The fleet is that of the world to which this schedule leads.

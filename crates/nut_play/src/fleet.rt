@@ -24,7 +24,7 @@ use crate::seat::Seat;
 use crate::telling::{note, tell};
 use crate::types::{FleetFault, FleetLog, Lack, Logged, News, Step};
 use arrayvec::ArrayVec;
-use nut_conf::UpsmonConf;
+use nut_conf::MonConfig;
 use nut_fleet::{configurations_are_spoken, fleets_go_on};
 use nut_monitor::Event;
 use nut_server::{Arrival, Config, Server};
@@ -66,11 +66,7 @@ impl Fleet {
     /// # Errors
     ///
     /// `Memory(0)` if memory cannot be allocated.
-    pub fn new(
-        alloc: Global,
-        config: Config,
-        monitors: Vec<UpsmonConf>,
-    ) -> Result<Fleet, FleetFault>
+    pub fn new(alloc: Global, config: Config, monitors: Vec<MonConfig>) -> Result<Fleet, FleetFault>
         ensures made { IfOk result (λ fleet. fleet ≡ fresh_fleet config monitors.items) }
         ensures world { IfOk result (λ fleet. HasPlayed (setup_of config monitors.items) [] fleet) }
         ensures fault { IfErr result (λ fault. fault ≡ Memory 0) }
@@ -86,7 +82,7 @@ impl Fleet {
     }
 
     /// Returns the configuration that a monitor was made with; `None` if there is no such monitor.
-    pub fn config(&self, m: usize) -> Option<&UpsmonConf>
+    pub fn config(&self, m: usize) -> Option<&MonConfig>
         ensures { option_map (λ c. c.now) result ≡ option_map (λ seat. seat.monitor.config) (slice_get self.now.seats m) }
     {
         if m >= self.seats.len() {
@@ -394,11 +390,7 @@ impl Fleet {
 }
 
 /// Makes a fleet of this server and of these monitors, which were told nothing.
-fn with_server(
-    alloc: Global,
-    server: Server,
-    monitors: Vec<UpsmonConf>,
-) -> Result<Fleet, FleetFault>
+fn with_server(alloc: Global, server: Server, monitors: Vec<MonConfig>) -> Result<Fleet, FleetFault>
     ensures made { IfOk result (λ fleet. fleet ≡ record { server = server; seats = map fresh_seat monitors.items; failed = false }) }
     ensures fault { IfErr result (λ fault. fault ≡ Memory 0) }
 {
@@ -425,7 +417,7 @@ fn with_seats(alloc: Global, server: Server, seats: Vec<Seat>) -> Fleet
 }
 
 /// Makes the seats of these monitors, which were told nothing.
-fn seats_of(alloc: Global, monitors: Vec<UpsmonConf>) -> Result<Vec<Seat>, Lack>
+fn seats_of(alloc: Global, monitors: Vec<MonConfig>) -> Result<Vec<Seat>, Lack>
     ensures { IfOk result (λ seats. seats.items ≡ map fresh_seat monitors.items) }
 {
     let mut seats = Vec::new(alloc);

@@ -11,7 +11,7 @@ ghost use Rattle.nut_play.specs.Steps.{logged_of};
 use crate::link::{Link, Place};
 use crate::telling::inform;
 use crate::types::{Lack, Logged};
-use nut_conf::{Monitored, UpsmonConf};
+use nut_conf::{MonConfig, Monitored};
 use nut_monitor::{Event, Monitor};
 use nut_server::Server;
 use std::alloc::{AllocError, Global};
@@ -45,7 +45,7 @@ fn unmade(alloc: Global, lines: &[Monitored]) -> Result<Vec<Link>, AllocError>
 
 impl Seat {
     /// Makes a monitor that was told nothing, with links that were never connected.
-    pub fn new(alloc: Global, config: UpsmonConf) -> Result<Seat, Lack>
+    pub fn new(alloc: Global, config: MonConfig) -> Result<Seat, Lack>
         ensures { IfOk result (λ seat. seat ≡ fresh_seat config) }
     {
         let monitors = &config.monitors;

@@ -1,8 +1,9 @@
 //! One end of a connection, whose reads and writes don't block.
 
-ghost use Rattle.std.specs.Prelude.{length};
+ghost use Rattle.std.specs.Prelude.{◌≡◌, ◌≢◌, length, true};
 ghost use Rattle.nut_io.specs.Writes.{IsWithin, Takes};
 ghost use Rattle.nut_poll.specs.Hearing.{IsHeard};
+ghost use Rattle.nut_poll.specs.declared.link.Heard.TheVariants as heard;
 
 use mio::event::Event;
 use nut_io::{Piece, Written, read_piece, write_some};
@@ -28,8 +29,8 @@ pub struct Link<S> {
     stream: S,
     /// Whether the stream may take a write.
     takes: bool,
-    /// Whether the other end has announced its end. No further event comes of that.
-    ends: bool,
+    /// Whether a read that is short may have left something, of which no further event comes.
+    reads_on: bool,
     /// Whether the other end sent urgent data. A read stops before it, and no event comes of what follows it.
     is_urgent: bool,
 }
@@ -40,7 +41,20 @@ impl<S: Read + Write> Link<S> {
         Link {
             stream,
             takes: true,
-            ends: false,
+            reads_on: false,
+            is_urgent: false,
+        }
+    }
+
+    /// Returns one end of a connection over a Unix socket that was just made. Linux ends a read there behind a message with
+    /// descriptors or credentials, so it is read until nothing is left.
+    pub fn local(stream: S) -> Link<S>
+        ensures { result.reads_on ≡ true }
+    {
+        Link {
+            stream,
+            takes: true,
+            reads_on: true,
             is_urgent: false,
         }
     }
@@ -50,14 +64,16 @@ impl<S: Read + Write> Link<S> {
         &self.stream
     }
 
-    /// Reads what is there, up to a piece. If it is less than a piece, there was no more, unless the other end has
-    /// ended or sent urgent data. Urgent data itself is skipped.
+    /// Reads what is there, up to a piece. If it is less than a piece, there was no more, unless the connection is over a
+    /// Unix socket, or the other end has ended or sent urgent data. Urgent data itself is skipped.
     pub fn hear(&mut self, piece: &mut Piece) -> Heard
-        ensures { IsHeard result piece.new.items (S.remaining self.old.stream) (S.remaining self.new.stream) }
+        ensures heard { IsHeard result piece.new.items (S.remaining self.old.stream) (S.remaining self.new.stream) }
+        ensures left { self.old.reads_on ≡ true → result ≢ heard.All }
+        ensures goes_on { self.new.reads_on ≡ self.old.reads_on }
     {
         match read_piece(&mut self.stream, piece) {
             Ok(0) => Heard::End,
-            Ok(n) if n == piece.capacity() || self.ends || self.is_urgent => Heard::Part,
+            Ok(n) if n == piece.capacity() || self.reads_on || self.is_urgent => Heard::Part,
             Ok(_) => Heard::All,
             Err(error) if error.kind() == ErrorKind::WouldBlock => {
                 self.is_urgent = false;
@@ -71,6 +87,7 @@ impl<S: Read + Write> Link<S> {
     pub fn offer(&mut self, bytes: &[u8]) -> Written
         ensures within { IsWithin result (length bytes.now) }
         ensures takes { Takes result bytes.now (S.contents self.old.stream) (S.contents self.new.stream) }
+        ensures goes_on { self.new.reads_on ≡ self.old.reads_on }
     {
         if !self.takes {
             return Written::Later;
@@ -87,12 +104,14 @@ impl<S: Read + Write> Link<S> {
     }
 
     /// Notes an event of the stream.
-    pub fn note(&mut self, event: &Event) {
+    pub fn note(&mut self, event: &Event)
+        ensures goes_on { self.old.reads_on ≡ true → self.new.reads_on ≡ true }
+    {
         if event.is_writable() || event.is_write_closed() || event.is_error() {
             self.takes = true;
         }
         if event.is_read_closed() || event.is_error() {
-            self.ends = true;
+            self.reads_on = true;
         }
         if event.is_priority() {
             self.is_urgent = true;

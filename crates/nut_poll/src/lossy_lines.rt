@@ -4,16 +4,14 @@ ghost use Rattle.std.specs.Prelude.{IsTrue};
 ghost use Rattle.std.specs.Io.KnownBytes.{Appends};
 
 use arrayvec::ArrayVec;
-use mio::event::Event;
-use mio::unix::SourceFd;
-use mio::{Events, Interest, Poll, Token};
+use libc::net::{POLLOUT, poll};
+use libc::types::pollfd;
 use nut_log::{Level, Lines, LogStream, Style};
 use std::alloc::Global;
 use std::io;
-use std::io::{ErrorKind, Stderr, Stdout, Write};
+use std::io::{Stderr, Stdout, Write};
 use std::net::Net;
 use std::os::fd::AsRawFd;
-use std::time::Duration;
 
 /// The most bytes of a line that are written, with the line feed. A longer line loses its end.
 const LOG_LINE_MAX: usize = 2048;
@@ -34,14 +32,12 @@ pub trait Outlet: Write {
 /// What is written is kept until a line is whole. A write never fails.
 ///
 /// The stream keeps its mode, because other processes may share it. Instead the system is asked, before each line,
-/// whether the stream takes one; of a file it always says yes. A write may still wait in three cases: another process
-/// fills a shared pipe between the question and the write, a terminal has room for only a part of the line, or a file
-/// lies on a disk or server that doesn't answer.
+/// whether the stream takes one; of a file it always says yes. A write may still wait in four cases: another process
+/// fills a shared pipe between the question and the write, a terminal has room for only a part of the line, a file lies
+/// on a disk or server that doesn't answer, or the system can't be asked, for then a line is written all the same.
 pub struct LossyLines<S> {
     stream: S,
     style: Style,
-    poll: Poll,
-    events: Events,
     /// What was written of the unfinished line.
     line: ArrayVec<u8, LOG_LINE_MAX>,
     /// How many lines were dropped since one was taken.
@@ -54,8 +50,6 @@ impl<S: Drop> Drop for LossyLines<S> {
         let LossyLines {
             stream: _stream,
             style: _,
-            poll: _poll,
-            events: _events,
             line: _line,
             lost: _,
         } = self;
@@ -69,18 +63,16 @@ pub type OutputLines = LossyLines<Stdout>;
 pub type ErrorLines = LossyLines<Stderr>;
 
 impl<S: Write + AsRawFd + Copy> LossyLines<S> {
-    /// Returns the lines on a stream.
+    /// Returns the lines on a stream. Neither a descriptor nor memory is needed to ask the system, so this never fails.
     ///
     /// # Errors
     ///
-    /// If there is no descriptor or no memory for asking the system.
-    pub fn new(net: &impl Net, alloc: Global, log: LogStream<S>) -> io::Result<LossyLines<S>> {
+    /// None.
+    pub fn new(_net: &impl Net, _alloc: Global, log: LogStream<S>) -> io::Result<LossyLines<S>> {
         let style = log.style();
         Ok(LossyLines {
             stream: log.stream(),
             style,
-            poll: Poll::new(net)?,
-            events: Events::with_capacity(alloc, 1)?,
             line: ArrayVec::new(),
             lost: 0,
         })
@@ -94,12 +86,27 @@ impl<S: Write + AsRawFd + Drop> LossyLines<S> {
             self.line.pop();
         }
         self.line.push(b'\n');
-        if self.takes_line() && self.offer() {
+        if self.has_room() != Some(false) && self.offer() {
             self.lost = 0;
         } else {
             self.lost = self.lost.saturating_add(1);
         }
         self.line.clear();
+    }
+
+    /// Whether the stream takes bytes, and somebody may read them. `None` if the system can't be asked.
+    fn has_room(&self) -> Option<bool> {
+        let mut asked = [pollfd {
+            fd: self.stream.as_raw_fd(),
+            events: POLLOUT,
+            revents: 0,
+        }];
+        // An error or the end of the reader is reported beside the room.
+        match poll(&mut asked, 0) {
+            0 => Some(false),
+            1 => Some(asked[0].revents == POLLOUT),
+            _ => None,
+        }
     }
 
     /// Writes the line, and before it the count of dropped lines, with one write. Returns whether all of it was taken.
@@ -139,24 +146,10 @@ impl<S: Write + AsRawFd + Drop> Lines for LossyLines<S> {
 }
 
 impl<S: Write + AsRawFd + Drop> Outlet for LossyLines<S> {
-    /// A registration reports what is ready now. A file can't be registered, and is always ready. If the system can't be
-    /// asked, the answer is no.
+    /// If the system can't be asked, the answer is no.
     fn takes_line(&mut self) -> bool {
-        let number = self.stream.as_raw_fd();
-        let mut source = SourceFd(&number);
-        let registry = self.poll.registry();
-        if let Err(error) = registry.register(&mut source, Token(0), Interest::WRITABLE) {
-            return error.kind() == ErrorKind::PermissionDenied;
-        }
-        let polled = self.poll.poll(&mut self.events, Some(Duration::ZERO));
-        let _ = self.poll.registry().deregister(&mut source);
-        polled.is_ok() && self.events.iter().any(|event| takes_bytes(&event))
+        self.has_room() == Some(true)
     }
-}
-
-/// Whether a stream takes bytes, and somebody may read them.
-fn takes_bytes(event: &Event) -> bool {
-    event.is_writable() && !event.is_write_closed()
 }
 
 /// Writes a text with one call, and returns whether all of it was taken.

@@ -1,9 +1,9 @@
 //! Configuration files in their folder.
 
 use crate::meant::meaning;
-use crate::unknown::unknown_word;
+use crate::unknown::{is_unknown, shown_word};
 use nut_conf::{
-    ConfFault, Descriptions, FILE_MAX, FaultKind, UpsConf, UpsdConf, UpsmonConf, UsersConf,
+    ConfFault, Descriptions, FILE_MAX, FaultKind, MonConfig, UpsConf, UpsdConf, UsersConf,
     read_descriptions, read_ups, read_upsd, read_upsmon, read_users,
 };
 use std::alloc::Global;
@@ -18,6 +18,9 @@ pub trait ConfFile: Drop + Sized {
     /// Returns the file's name in its folder.
     fn file_name() -> &'static str;
 
+    /// Whether passwords stand in the file.
+    fn has_passwords() -> bool;
+
     /// Reads the bytes of the file.
     ///
     /// # Errors
@@ -31,6 +34,10 @@ impl ConfFile for UpsConf {
         "ups.conf"
     }
 
+    fn has_passwords() -> bool {
+        false
+    }
+
     fn read(alloc: Global, bytes: &[u8]) -> Result<Self, ConfFault> {
         read_ups(alloc, bytes)
     }
@@ -39,6 +46,10 @@ impl ConfFile for UpsConf {
 impl ConfFile for UsersConf {
     fn file_name() -> &'static str {
         "upsd.users"
+    }
+
+    fn has_passwords() -> bool {
+        true
     }
 
     fn read(alloc: Global, bytes: &[u8]) -> Result<Self, ConfFault> {
@@ -51,14 +62,22 @@ impl ConfFile for UpsdConf {
         "upsd.conf"
     }
 
+    fn has_passwords() -> bool {
+        false
+    }
+
     fn read(alloc: Global, bytes: &[u8]) -> Result<Self, ConfFault> {
         read_upsd(alloc, bytes)
     }
 }
 
-impl ConfFile for UpsmonConf {
+impl ConfFile for MonConfig {
     fn file_name() -> &'static str {
         "upsmon.conf"
+    }
+
+    fn has_passwords() -> bool {
+        true
     }
 
     fn read(alloc: Global, bytes: &[u8]) -> Result<Self, ConfFault> {
@@ -69,6 +88,10 @@ impl ConfFile for UpsmonConf {
 impl ConfFile for Descriptions {
     fn file_name() -> &'static str {
         "cmdvartab"
+    }
+
+    fn has_passwords() -> bool {
+        false
     }
 
     fn read(alloc: Global, bytes: &[u8]) -> Result<Self, ConfFault> {
@@ -205,13 +228,20 @@ fn conf_of<'a, C: ConfFile>(
     }
 }
 
-/// Says where to read about the word of a directive at which a file has a fault, if no line of the file may have that
-/// word; else what is meant.
+/// Says what a file with a fault may have at its place. If no line of the file may begin with that word, the word is named, or
+/// nothing but the file, if the word may be a password.
 fn remark_on<C: ConfFile>(alloc: Global, bytes: &[u8], fault: ConfFault) -> Option<String> {
-    match unknown_word::<C>(alloc, bytes, fault) {
-        Some(word) => format!(in alloc; "{word} isn't taken here: see from-nut(7)").ok(),
-        None => meaning(alloc, bytes, fault),
+    if !is_unknown::<C>(alloc, bytes, fault) {
+        return meaning(alloc, bytes, fault);
     }
+    let remark = match shown_word::<C>(alloc, bytes, fault.line) {
+        Some(word) => format!(in alloc; "{word} isn't taken here: see from-nut(7)"),
+        None => {
+            let name = C::file_name();
+            format!(in alloc; "a directive of {name} is meant")
+        }
+    };
+    remark.ok()
 }
 
 /// Returns the bytes of a plain file, of a longer one the first `most`. No other file is opened: a pipe could block the

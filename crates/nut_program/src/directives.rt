@@ -145,6 +145,11 @@ pub fn directive_of(word: &[u8]) -> Option<&'static Directive> {
         .find(|directive| directive.word.as_bytes() == word)
 }
 
+/// Whether there is a directive with this word, of whatever file, in small or in capital letters.
+pub fn has_directive(word: &[u8]) -> bool {
+    DIRECTIVES.iter().any(|directive| directive.word.as_bytes().eq_ignore_ascii_case(word))
+}
+
 /// A time in seconds.
 const TIME: [Value; 1] = [Value {
     name: "SECONDS",

@@ -75,31 +75,27 @@ pub trait OwnFault: Display {
     fn remark(&self) -> Option<&str>;
 }
 
-/// Writes a fault that only this program has, and its remark on a line of its own.
-fn tell_own<F: OwnFault, E: Lines>(fault: &F, err: &mut E) -> io::Result<()> {
+/// Writes a fault, and its remark on a line of its own, if there is one.
+fn tell_fault<T: Display, E: Lines>(
+    fault: &T,
+    remark: Option<&str>,
+    err: &mut E,
+) -> io::Result<()> {
     writeln!(err.begin(Level::Error), "{fault}")?;
-    tell_remark(fault.remark(), err)
-}
-
-/// Writes a remark, if there is one.
-fn tell_remark<E: Lines>(remark: Option<&str>, err: &mut E) -> io::Result<()> {
     match remark {
         Some(remark) => writeln!(err.begin(Level::Error), "{remark}"),
         None => Ok(()),
     }
 }
 
-/// Writes why a program goes on with the configuration that it has, as `not reloaded: WHY`. What can't be written is
-/// dropped.
-pub fn tell_not_reloaded<T: Display, E: Lines>(why: &T, err: &mut E) {
-    let _ = writeln!(err.begin(Level::Error), "not reloaded: {why}");
-}
-
-/// Writes that a program goes on with the configuration that it has because of the fault of a file, and the remark of the
-/// fault. What can't be written is dropped.
-pub fn tell_unread<E: Lines>(fault: &FileFault<'_>, err: &mut E) {
-    tell_not_reloaded(fault, err);
-    let _ = tell_remark(fault.remark(), err);
+/// Writes why a program doesn't take up a changed configuration: the fault and its remark, as if the program ended by it,
+/// and a last line which says that the earlier configuration stays in force. What can't be written is dropped.
+pub fn tell_not_reloaded<T: Display, E: Lines>(fault: &T, remark: Option<&str>, err: &mut E) {
+    let _ = tell_fault(fault, remark, err);
+    let _ = writeln!(
+        err.begin(Level::Error),
+        "not reloaded: the earlier configuration stays in force"
+    );
 }
 
 impl<F: OwnFault> Failure<F> {
@@ -111,7 +107,7 @@ impl<F: OwnFault> Failure<F> {
                 write!(err.mark(Level::Error), "{error}")
             }
             Failure::CommandLine(error) => write!(out, "{error}"),
-            Failure::Own(fault) => tell_own(fault, err),
+            Failure::Own(fault) => tell_fault(fault, fault.remark(), err),
             Failure::Memory => writeln!(err.begin(Level::Error), "out of memory"),
             Failure::Io => writeln!(err.begin(Level::Error), "I/O failed"),
         };

@@ -8,6 +8,7 @@ mod directives;
 mod failure;
 mod folder;
 mod meant;
+mod named_lines;
 mod reload_file;
 mod reload_report;
 mod stack;
@@ -23,8 +24,9 @@ pub use command_line::{
 pub use conf_file::{
     ConfFile, FileFault, read_conf, read_conf_at, read_conf_if_there, read_file, remark_on_unread,
 };
-pub use failure::{Failure, OwnFault, tell_not_reloaded, tell_unread};
+pub use failure::{Failure, OwnFault, tell_not_reloaded};
 pub use folder::conf_folder;
+pub use named_lines::NamedLines;
 pub use reload_file::{Look, ReloadFile, Turn};
 pub use reload_report::ReloadReport;
 pub use stack::{LowStack, has_stack};

@@ -18,9 +18,9 @@ pub struct Streams {
 /// The number of standard streams, whose descriptors come before all others.
 const STREAMS: usize = 3;
 
-/// Opens as many files as there are standard streams. While they are kept, they hold the descriptors of streams that
-/// are closed. Otherwise the next socket would get one of these, and its peer would be sent what is meant for an
-/// operator.
+/// Opens the root directory as often as there are standard streams. While these files are kept, they hold the descriptors
+/// of streams that are closed. Otherwise the next socket would get one of these, and its peer would be sent what is meant
+/// for an operator. A directory can be neither read nor written, so a closed stream fails as a broken one does.
 ///
 /// # Errors
 ///
@@ -28,7 +28,7 @@ const STREAMS: usize = 3;
 pub fn hold_closed_streams<F: Files>(files: &F, alloc: Global) -> Result<Vec<F::File>, AllocError> {
     let mut held = Vec::new(alloc);
     for _ in 0..STREAMS {
-        if let Ok(file) = File::open(files, "/dev/null") {
+        if let Ok(file) = File::open(files, "/") {
             held.push(file)?;
         }
     }

@@ -4,6 +4,7 @@ ghost use Rattle.std.specs.Prelude.{◌≡◌, IfSome, Some, string_bytes};
 ghost use Rattle.nut_program.specs.Unknown.{first_word};
 
 use crate::conf_file::ConfFile;
+use crate::directives::has_directive;
 use nut_conf::{ConfFault, FaultKind};
 use nut_words::split;
 use std::alloc::Global;
@@ -12,19 +13,51 @@ use std::str;
 /// A section line.
 const SECTION: &[u8] = b"[a]\n";
 
-/// Returns the word of the directive at which a file has a fault, if no line with that word may be in the file, not
-/// even in a section. `None` also if memory for it cannot be allocated.
-pub fn unknown_word<C: ConfFile>(alloc: Global, bytes: &[u8], fault: ConfFault) -> Option<String> {
-    let is_unknown = match fault.kind {
+/// Words of NUT's upsd.users and upsmon.conf that no line here may begin with.
+const NUT_ALONE: [&str; 15] = [
+    "allowfrom",
+    "ALARMCRITICAL",
+    "CERTHOST",
+    "CERTIDENT",
+    "CERTPATH",
+    "CERTVERIFY",
+    "DEBUG_MIN",
+    "FORCESSL",
+    "OBLBDURATION",
+    "OFFDURATION",
+    "OVERDURATION",
+    "POLLFAIL_LOG_THROTTLE_MAX",
+    "POLLFREQALERT",
+    "RUN_AS_USER",
+    "SHUTDOWNEXIT",
+];
+
+/// Whether no line of a file may begin with the word at which it has a fault, not even in a section.
+pub fn is_unknown<C: ConfFile>(alloc: Global, bytes: &[u8], fault: ConfFault) -> bool {
+    match fault.kind {
         FaultKind::UnknownDirective => true,
         FaultKind::OutsideSection => is_unknown_in_section::<C>(alloc, bytes, fault.line),
         _ => false,
-    };
-    if is_unknown {
-        word_at(alloc, bytes, fault.line)
-    } else {
-        None
     }
+}
+
+/// Returns the first word of the line, counted from 1, if it may be shown. In a file with passwords only a word that NUT has
+/// for a directive may: any other can be the password of a line that an editor broke in two. `None` also if there is no such
+/// word, or memory for it cannot be allocated.
+pub fn shown_word<C: ConfFile>(alloc: Global, bytes: &[u8], number: u32) -> Option<String> {
+    let word = first_word(alloc, line_at(bytes, number)?)?;
+    if C::has_passwords() && !is_of_nut(word.as_bytes()) {
+        return None;
+    }
+    Some(word)
+}
+
+/// Whether NUT has this word for a directive, in small or in capital letters.
+fn is_of_nut(word: &[u8]) -> bool {
+    let is_alone = NUT_ALONE
+        .iter()
+        .any(|it| it.as_bytes().eq_ignore_ascii_case(word));
+    is_alone || has_directive(word)
 }
 
 /// Whether a line of a file is unknown even in a section: a file of only a section and this line is read to find out.
@@ -40,12 +73,6 @@ fn is_unknown_in_section<C: ConfFile>(alloc: Global, bytes: &[u8], number: u32) 
         Ok(_) => false,
         Err(fault) => fault.kind == FaultKind::UnknownDirective,
     }
-}
-
-/// Returns the first word of a line, counted from 1. `None` if there is no such line, it has no words, its first word
-/// is empty, or memory cannot be allocated.
-fn word_at(alloc: Global, bytes: &[u8], number: u32) -> Option<String> {
-    first_word(alloc, line_at(bytes, number)?)
 }
 
 /// Returns the first word of a line. `None` if there is none, it is empty, or memory cannot be allocated.

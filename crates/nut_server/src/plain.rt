@@ -18,7 +18,7 @@ use crate::row::{front_of, put_front, put_mark};
 use crate::scene::Scene;
 use crate::text::{put_variable, put_variables, shows_forced};
 use nut_proto::{PlainQuery, Refusal, Reply};
-use nut_words::put_quoted;
+use nut_words::append_quoted;
 use std::alloc::AllocError;
 
 /// Makes `out` the text of the answer to a plain query, which is the same for every caller. The UPS that it asks about was found
@@ -97,7 +97,7 @@ fn put_description(out: &mut Vec<u8>, found: Option<Ups<'_>>, ups: &[u8]) -> Res
         return put_refusal(out, Refusal::UnknownUps);
     };
     put_front(out, b"UPSDESC", ups)?;
-    put_quoted(out, found.description)?;
+    append_quoted(out, found.description)?;
     out.push(b'\n')?;
     Ok(())
 }

@@ -8,7 +8,7 @@ ghost use Rattle.nut_server.specs.inside.Rows.{row_front};
 
 use crate::limits::FRONT_MAX;
 use arrayvec::ArrayVec;
-use nut_words::{Full, Out, put_word};
+use nut_words::{Full, Out, append_word};
 use std::alloc::AllocError;
 
 /// What the rows of a list of variables begin with, as `VAR su700 `. `None` if that is longer than [`FRONT_MAX`].
@@ -20,7 +20,7 @@ pub fn put_front<O: Out>(out: &mut O, word: &[u8], ups: &[u8]) -> Result<(), O::
 {
     out.append(word)?;
     out.push(b' ')?;
-    put_word(out, ups)?;
+    append_word(out, ups)?;
     out.push(b' ')?;
     Ok(())
 }
@@ -42,7 +42,7 @@ pub fn put_mark(out: &mut Vec<u8>, words: &[u8], ups: &[u8]) -> Result<(), Alloc
     ensures { OnOk result (out.new.items ≡ out.old.items ++ (words.now ++ (word_text ups.now ++ line_feed ∷ []))) }
 {
     out.extend_from_slice(words)?;
-    put_word(out, ups)?;
+    append_word(out, ups)?;
     out.push(b'\n')?;
     Ok(())
 }

@@ -108,7 +108,7 @@ impl Audit {
             }
             Act::Force(u) => {
                 if is_first(drivers, *u) {
-                    reports.warn(DeedReport::Forced(ups_named(server, *u), who));
+                    reports.warn(forced(server, *u, who));
                 }
             }
             Act::LogIn(u) => log_in(deed, ups_named(server, *u), clients, reports),
@@ -173,6 +173,16 @@ fn is_first(drivers: &mut Drivers, u: usize) -> bool {
     match drivers.get_mut(u) {
         Some(driver) => driver.note_forced(),
         None => true,
+    }
+}
+
+/// Returns the report that a client forced a shutdown of a UPS. The machines of a UPS without a live status don't hear of it.
+fn forced<'a>(server: &'a Server, u: usize, who: Who<'a>) -> DeedReport<'a> {
+    let ups = ups_named(server, u);
+    if server.is_connected(u) && !server.is_stale(u) {
+        DeedReport::Forced(ups, who)
+    } else {
+        DeedReport::ForcedUntold(ups, who)
     }
 }
 

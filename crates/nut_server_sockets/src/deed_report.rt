@@ -50,6 +50,8 @@ pub enum DeedReport<'a> {
     Command(&'a str, Who<'a>, &'a str),
     /// It forced a shutdown of this UPS (FSD).
     Forced(&'a str, Who<'a>),
+    /// It forced a shutdown of this UPS (FSD), whose driver isn't there or whose data are stale.
+    ForcedUntold(&'a str, Who<'a>),
     /// It logged in to this UPS.
     LoggedIn(&'a str, Who<'a>),
     /// It was logged in to this UPS, and logged out.
@@ -74,6 +76,10 @@ impl<'a> fmt::Display for DeedReport<'a> {
             DeedReport::Forced(ups, who) => {
                 write!(f, "UPS {ups}: shutdown is forced (FSD) by {who}")
             }
+            DeedReport::ForcedUntold(ups, who) => write!(
+                f,
+                "UPS {ups}: shutdown is forced (FSD) by {who}; its machines aren't told until the driver is back"
+            ),
             DeedReport::LoggedIn(ups, who) => write!(f, "UPS {ups}: {who} logged in"),
             DeedReport::LoggedOut(ups, who) => write!(f, "UPS {ups}: {who} logged out"),
             DeedReport::Left(ups, who) => {
@@ -93,8 +99,10 @@ impl<'a> Leveled for DeedReport<'a> {
         match self {
             DeedReport::LoggedIn(..) | DeedReport::LoggedOut(..) => Level::Info,
             DeedReport::Set(..) | DeedReport::Command(..) | DeedReport::Left(..) => Level::Notice,
-            DeedReport::Forced(..) | DeedReport::Denied(_) | DeedReport::DeniedElsewhere(_) =>
-                Level::Warning,
+            DeedReport::Forced(..)
+            | DeedReport::ForcedUntold(..)
+            | DeedReport::Denied(_)
+            | DeedReport::DeniedElsewhere(_) => Level::Warning,
         }
     }
 }

@@ -98,7 +98,7 @@ impl Driver {
         let mut stream = UnixStream::connect(net, self.path.as_str())?;
         let both = Interest::READABLE | Interest::WRITABLE;
         registry.register(&mut stream, token, both)?;
-        self.link = Some(Link::new(stream));
+        self.link = Some(Link::local(stream));
         self.missed = None;
         self.is_stale = false;
         Ok(())
@@ -123,6 +123,13 @@ impl Driver {
     /// Notes that a shutdown of the UPS is forced. Returns whether that is new.
     pub fn note_forced(&mut self) -> bool {
         !mem::replace(&mut self.is_forced, true)
+    }
+
+    /// Warns that the machines of the UPS stop now, if a shutdown of it is forced.
+    pub fn warn_if_forced(&self, reports: &mut Reports<'_>) {
+        if self.is_forced {
+            reports.warn(Report::Stops(self.name()));
+        }
     }
 
     /// Reports the variables about which its lines can't be read, each once.

@@ -51,6 +51,8 @@ pub enum Report<'a> {
     Stale(&'a str),
     /// The data of a UPS is no longer stale.
     Fresh(&'a str),
+    /// A shutdown of a UPS is forced, and clients hear of it now that its data are no longer stale.
+    Stops(&'a str),
     /// The driver says something of a variable of a UPS that can't be read: the UPS, and the variable; empty if that isn't
     /// known.
     Unread(&'a str, &'a str),
@@ -83,6 +85,10 @@ impl<'a> fmt::Display for Report<'a> {
             Report::Ended(name, end) => write!(f, "UPS {name}: driver {}", end.text()),
             Report::Stale(name) => write!(f, "UPS {name}: data is stale"),
             Report::Fresh(name) => write!(f, "UPS {name}: data is no longer stale"),
+            Report::Stops(name) => write!(
+                f,
+                "UPS {name}: a shutdown is still forced (FSD): its machines stop now"
+            ),
             Report::Unread(name, variable) => put_unread(f, name, variable),
             Report::UnreadMore(name) => write!(
                 f,
@@ -119,6 +125,7 @@ impl<'a> Leveled for Report<'a> {
             Report::NotListening(..)
             | Report::Missed(..)
             | Report::Stale(_)
+            | Report::Stops(_)
             | Report::Full(_)
             | Report::Spent(_)
             | Report::ShutOut(_)

@@ -295,6 +295,7 @@ impl Sockets {
                 return None;
             }
             reports.tell(Report::Connected(driver.name()));
+            driver.warn_if_forced(reports);
             return Some(Next::DriverUp(u));
         }
         match driver.hear(piece) {

@@ -3,11 +3,11 @@
 use nut_monitor::Phase;
 use nut_play::{Fleet, Logged, News};
 use std::io;
-use std::io::{BufWriter, Stdout, Write};
+use std::io::Write;
 
 /// Writes what the step with this number tells. Numbers count from 1 in the schedule.
-pub fn write_news(
-    out: &mut BufWriter<Stdout>,
+pub fn write_news<O: Write>(
+    out: &mut O,
     fleet: &Fleet,
     number: u64,
     logged: &Logged,

@@ -4,10 +4,10 @@ use crate::fault::NutsimFault;
 use crate::news::write_news;
 use crate::progress::Progress;
 use nut_play::{Fleet, FleetFault, Logged, Step, StepFault, read_step};
-use nut_program::{Failure, Streams};
+use nut_program::Failure;
 use nut_words::{Line, LineCutter};
 use std::alloc::Global;
-use std::io::{BufRead, BufWriter, Stderr, Stdout, Write};
+use std::io::{BufRead, BufWriter, Write};
 use std::slice;
 
 /// Why the playing of a schedule stops before its end.
@@ -25,26 +25,28 @@ enum Halt {
 
 /// A room, and what its news are written to.
 #[derive(Drop)]
-struct Stage<'a> {
+struct Stage<'a, O, E> {
     fleet: &'a mut Fleet,
     alloc: Global,
     /// The number of lines of the schedule that were begun.
     number: u64,
-    out: &'a mut BufWriter<Stdout>,
-    progress: Progress,
+    out: &'a mut O,
+    progress: Progress<'a, E>,
 }
 
 /// Plays the lines of a schedule, and writes what they tell. Before it returns a fault, it has written what the steps
 /// before that told.
-pub fn play_schedule<'a, R: BufRead>(
+pub fn play_schedule<'a, R: BufRead, O: Write, E: Write>(
     alloc: Global,
     fleet: &mut Fleet,
     path: &'a str,
     schedule: &mut R,
-    streams: Streams,
+    out: &mut O,
+    err: &mut E,
+    is_terminal: bool,
 ) -> Result<(), Failure<NutsimFault<'a>>> {
-    let mut out = BufWriter::new(alloc, streams.out.stream())?;
-    match play_and_flush(alloc, fleet, schedule, &mut out, streams.err.stream()) {
+    let mut out = BufWriter::new(alloc, out)?;
+    match play_and_flush(alloc, fleet, schedule, &mut out, err, is_terminal) {
         Ok(()) => Ok(()),
         Err(halt) => Err(failure_of(halt, path)),
     }
@@ -61,14 +63,15 @@ fn failure_of<'a>(halt: Halt, path: &'a str) -> Failure<NutsimFault<'a>> {
 }
 
 /// Plays the lines of a schedule in a room, and flushes what they tell, also after a fault.
-fn play_and_flush<R: BufRead>(
+fn play_and_flush<R: BufRead, O: Write, E: Write>(
     alloc: Global,
     fleet: &mut Fleet,
     schedule: &mut R,
-    out: &mut BufWriter<Stdout>,
-    err: Stderr,
+    out: &mut O,
+    err: &mut E,
+    is_terminal: bool,
 ) -> Result<(), Halt> {
-    let played = play_on(alloc, fleet, schedule, out, err);
+    let played = play_on(alloc, fleet, schedule, out, err, is_terminal);
     let flushed = out.flush();
     played?;
     match flushed {
@@ -78,26 +81,27 @@ fn play_and_flush<R: BufRead>(
 }
 
 /// Plays the lines of a schedule in a room.
-fn play_on<R: BufRead>(
+fn play_on<R: BufRead, O: Write, E: Write>(
     alloc: Global,
     fleet: &mut Fleet,
     schedule: &mut R,
-    out: &mut BufWriter<Stdout>,
-    err: Stderr,
+    out: &mut O,
+    err: &mut E,
+    is_terminal: bool,
 ) -> Result<(), Halt> {
     let mut stage = Stage {
         fleet,
         alloc,
         number: 0,
         out,
-        progress: Progress::new(err),
+        progress: Progress::new(err, is_terminal),
     };
     let played = stage.play_lines(schedule);
     stage.progress.clear();
     played
 }
 
-impl<'a> Stage<'a> {
+impl<'a, O: Write, E: Write> Stage<'a, O, E> {
     /// Plays all lines of a schedule. Bytes after the last line feed are a line, too.
     fn play_lines<R: BufRead>(&mut self, schedule: &mut R) -> Result<(), Halt> {
         let mut cutter = LineCutter::new();

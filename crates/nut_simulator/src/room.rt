@@ -1,7 +1,7 @@
 //! The configuration files of a room.
 
 use crate::fault::NutsimFault;
-use nut_conf::{UpsConf, UpsdConf, UpsmonConf, UsersConf};
+use nut_conf::{MonConfig, UpsConf, UpsdConf, UsersConf};
 use nut_program::{Failure, FileFault, read_conf, read_conf_at};
 use nut_server::Config;
 use std::alloc::{AllocError, Global};
@@ -46,7 +46,7 @@ pub fn read_monitors<'a>(
     files: &impl Files,
     alloc: Global,
     paths: &[&'a str],
-) -> Result<Vec<UpsmonConf>, Failure<NutsimFault<'a>>> {
+) -> Result<Vec<MonConfig>, Failure<NutsimFault<'a>>> {
     let mut monitors = Vec::new(alloc);
     add_monitors(files, alloc, paths, &mut monitors)?;
     Ok(monitors)
@@ -57,7 +57,7 @@ fn add_monitors<'a>(
     files: &impl Files,
     alloc: Global,
     paths: &[&'a str],
-    monitors: &mut Vec<UpsmonConf>,
+    monitors: &mut Vec<MonConfig>,
 ) -> Result<(), Failure<NutsimFault<'a>>> {
     for path in paths {
         let monitor = read_monitor(files, alloc, path)?;
@@ -67,7 +67,7 @@ fn add_monitors<'a>(
 }
 
 /// Adds what an upsmon.conf sets. It is apart from the loop, to keep the proof of that short.
-fn add(monitors: &mut Vec<UpsmonConf>, monitor: UpsmonConf) -> Result<(), AllocError> {
+fn add(monitors: &mut Vec<MonConfig>, monitor: MonConfig) -> Result<(), AllocError> {
     monitors.push(monitor)?;
     Ok(())
 }
@@ -77,7 +77,7 @@ fn read_monitor<'a>(
     files: &impl Files,
     alloc: Global,
     path: &'a str,
-) -> Result<UpsmonConf, Failure<NutsimFault<'a>>> {
+) -> Result<MonConfig, Failure<NutsimFault<'a>>> {
     Ok(read_conf_at(files, alloc, path, name_of(path))?)
 }
 

@@ -4,16 +4,15 @@ use crate::command::nutsim_command;
 use crate::fault::NutsimFault;
 use crate::playing::play_schedule;
 use crate::room::{read_config, read_monitors};
-use nut_conf::UpsmonConf;
-use nut_log::LogStream;
+use nut_conf::MonConfig;
 use nut_play::{Fleet, FleetFault};
-use nut_program::{Failure, Streams, hold_closed_streams, remark_on_unread};
+use nut_program::{Failure, NamedLines, hold_closed_streams, remark_on_unread};
 use nut_server::Config;
 use std::alloc::Global;
 use std::convert::AsStr;
 use std::fs::File;
 use std::io;
-use std::io::{BufRead, BufReader, ErrorKind, Stderr, Stdout};
+use std::io::{BufRead, BufReader, ErrorKind, Write};
 use std::rt::Files;
 
 /// Plays a schedule on a server and its monitors, joined by pipes in memory. Returns the exit status.
@@ -23,10 +22,8 @@ use std::rt::Files;
 /// hosts are ignored. Each line of the file SCHEDULE is a step (`read_step`). What steps tell is printed on `out`, a
 /// line each, with the number of the step, counted from 1: `K: skipped` if the step was not possible and changed
 /// nothing; `K: monitor M notice TYPE`, followed by a blank and the UPS of the MONITOR line if the notice is about one;
-/// and then `K: monitor M phase P` if the monitor has entered another phase. The status is 0 once all was played.
-///
-/// A longer schedule takes no more memory. If `err` is a terminal, a line there says how far a schedule of at least
-/// 100,000 steps has been played.
+/// and then `K: monitor M phase P` if the monitor has entered another phase. The status is 0 once all was played. A longer
+/// schedule takes no more memory.
 ///
 /// If clap refuses the words, its text is written to `err`, and the status is 2; the help and the version are written
 /// to `out`, with status 0. Files are read in the order of the command line, and the first fault is written to `err`,
@@ -35,36 +32,63 @@ use std::rt::Files;
 /// step, or names a monitor, a link or a UPS that doesn't exist, `nutsim: SCHEDULE:K: BadStep` is written, after what
 /// the steps before it told. `nutsim: out of memory` is written if memory cannot be allocated, and `nutsim: I/O failed`
 /// if `out` fails.
-pub fn run_nutsim<S: AsStr>(
+pub fn run_nutsim<S: AsStr, O: Write, E: Write>(
     files: &impl Files,
     alloc: Global,
     words: &[S],
-    mut out: LogStream<Stdout>,
-    mut err: LogStream<Stderr>,
+    out: &mut O,
+    err: &mut E,
 ) -> u8 {
-    match run(files, alloc, words, Streams { out, err }) {
+    run_showing(files, alloc, words, out, err, false)
+}
+
+/// Does what [`run_nutsim`] does, for an `err` that is a terminal: a line there says how far a schedule of at least 100,000
+/// steps has been played.
+pub fn run_nutsim_on_terminal<S: AsStr, O: Write, E: Write>(
+    files: &impl Files,
+    alloc: Global,
+    words: &[S],
+    out: &mut O,
+    err: &mut E,
+) -> u8 {
+    run_showing(files, alloc, words, out, err, true)
+}
+
+fn run_showing<S: AsStr, O: Write, E: Write>(
+    files: &impl Files,
+    alloc: Global,
+    words: &[S],
+    out: &mut O,
+    err: &mut E,
+    is_terminal: bool,
+) -> u8 {
+    match run(files, alloc, words, out, err, is_terminal) {
         Ok(()) => 0,
-        Err(failure) => failure.tell(&mut out, &mut err),
+        Err(failure) => failure.tell(out, &mut NamedLines::new("nutsim", err)),
     }
 }
 
-fn run<'a, S: AsStr>(
+fn run<'a, S: AsStr, O: Write, E: Write>(
     files: &impl Files,
     alloc: Global,
     words: &'a [S],
-    streams: Streams,
+    out: &mut O,
+    err: &mut E,
+    is_terminal: bool,
 ) -> Result<(), Failure<NutsimFault<'a>>> {
     // no file takes the place of a standard stream that is closed
     let _held = hold_closed_streams(files, alloc)?;
-    run_words(files, alloc, words, streams)
+    run_words(files, alloc, words, out, err, is_terminal)
 }
 
 /// Plays the schedule that these words name.
-fn run_words<'a, S: AsStr>(
+fn run_words<'a, S: AsStr, O: Write, E: Write>(
     files: &impl Files,
     alloc: Global,
     words: &'a [S],
-    streams: Streams,
+    out: &mut O,
+    err: &mut E,
+    is_terminal: bool,
 ) -> Result<(), Failure<NutsimFault<'a>>> {
     let matches = nutsim_command(alloc)?.try_get_matches_from(words)?;
     let names = Names {
@@ -72,7 +96,7 @@ fn run_words<'a, S: AsStr>(
         schedule: matches.get_str("schedule").unwrap_or(""),
         monitors: matches.get_strs("monitors").unwrap_or(&[]),
     };
-    play_room(files, alloc, names, streams)
+    play_room(files, alloc, names, out, err, is_terminal)
 }
 
 /// The names on a command line: the folder of the server's files, the schedule, and the file of each monitor.
@@ -84,28 +108,40 @@ struct Names<'a, 'b> {
 }
 
 /// Reads the files of a room, and plays its schedule.
-fn play_room<'a>(
+fn play_room<'a, O: Write, E: Write>(
     files: &impl Files,
     alloc: Global,
     names: Names<'a, '_>,
-    streams: Streams,
+    out: &mut O,
+    err: &mut E,
+    is_terminal: bool,
 ) -> Result<(), Failure<NutsimFault<'a>>> {
     let config = read_config(files, alloc, names.folder)?;
-    play_on_server(files, alloc, config, names, streams)
+    play_on_server(files, alloc, config, names, out, err, is_terminal)
 }
 
 /// Reads the other files of a room with this server, and plays its schedule.
-fn play_on_server<'a>(
+fn play_on_server<'a, O: Write, E: Write>(
     files: &impl Files,
     alloc: Global,
     config: Config,
     names: Names<'a, '_>,
-    streams: Streams,
+    out: &mut O,
+    err: &mut E,
+    is_terminal: bool,
 ) -> Result<(), Failure<NutsimFault<'a>>> {
     match read_rest(files, alloc, names) {
         Ok((mut schedule, monitors)) => {
             let made = Fleet::new(alloc, config, monitors);
-            play_made(alloc, made, names.schedule, &mut schedule, streams)
+            play_made(
+                alloc,
+                made,
+                names.schedule,
+                &mut schedule,
+                out,
+                err,
+                is_terminal,
+            )
         }
         Err(failure) => {
             // dropped by a call, which keeps the proof of this function short
@@ -120,7 +156,7 @@ fn read_rest<'a, F: Files>(
     files: &F,
     alloc: Global,
     names: Names<'a, '_>,
-) -> Result<(BufReader<F::File>, Vec<UpsmonConf>), Failure<NutsimFault<'a>>> {
+) -> Result<(BufReader<F::File>, Vec<MonConfig>), Failure<NutsimFault<'a>>> {
     let schedule = open_schedule(files, alloc, names.schedule)?;
     match read_monitors(files, alloc, names.monitors) {
         Ok(monitors) => Ok((schedule, monitors)),
@@ -129,16 +165,18 @@ fn read_rest<'a, F: Files>(
 }
 
 /// Plays a schedule in a room, if memory was found for it.
-fn play_made<'a, R: BufRead>(
+fn play_made<'a, R: BufRead, O: Write, E: Write>(
     alloc: Global,
     made: Result<Fleet, FleetFault>,
     path: &'a str,
     schedule: &mut R,
-    streams: Streams,
+    out: &mut O,
+    err: &mut E,
+    is_terminal: bool,
 ) -> Result<(), Failure<NutsimFault<'a>>> {
     match made {
         Ok(mut fleet) => {
-            let played = play_schedule(alloc, &mut fleet, path, schedule, streams);
+            let played = play_schedule(alloc, &mut fleet, path, schedule, out, err, is_terminal);
             // dropped by a call, which keeps the proof of this function short
             drop(fleet);
             played

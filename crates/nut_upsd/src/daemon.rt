@@ -40,7 +40,7 @@ const ROOT: u32 = 0;
 ///
 /// Once a second it looks for the file `reload` in the folders of `--conf` and of `-s`. If one is there, it is removed, and
 /// the files are read again. What then differs is written as `upsd: reloaded: ..`; listeners stay as they are. If a file has a
-/// fault, it is written as `upsd: not reloaded: ups.conf:2: Repeated`, and nothing changes.
+/// fault, it is written as at a start, and below it `upsd: not reloaded: the earlier configuration stays in force`.
 ///
 /// `upsd --check` serves nothing: it reads the files of `--conf`, or else those in the folder of the variable
 /// NUT_CONFPATH or in `/etc/nut`, as a start does, and writes of them what a start writes. The status is 0 if they have
@@ -54,7 +54,8 @@ const ROOT: u32 = 0;
 ///
 /// If this machine doesn't have an address of a LISTEN line, or nobody knows the name of its host, `upsd: cannot listen on
 /// ADDRESS:PORT yet: WHY` is written, and it is tried again each second. If that is so of all lines, or it is impossible to
-/// listen at one for any other reason, `upsd: cannot listen on ADDRESS:PORT: WHY` is written, and the status is 1.
+/// listen at one for any other reason, `upsd: cannot listen on ADDRESS:PORT` is written, and below it the reason; the status
+/// is 1.
 ///
 /// [`run_stdio`]: crate::run_stdio
 pub fn run_upsd<S: AsStr, I: Read, O: Write>(

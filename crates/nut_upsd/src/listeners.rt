@@ -57,7 +57,7 @@ pub fn listen(
         add_listeners(net, alloc, conf, reach, &mut listeners)?;
     }
     match listeners.take_obstacle() {
-        Some(missing) => Err(no_listener(missing)),
+        Some(missing) => Err(no_listener(alloc, missing)),
         None => Ok(listeners),
     }
 }
@@ -77,7 +77,7 @@ fn add_listeners(
         if Reach::of(host) == reach
             && let Err(error) = listeners.add(net, alloc, host, port)
         {
-            return Err(cannot_listen(alloc, host, port, error));
+            return Err(cannot_listen(alloc, host, port, &error));
         }
     }
     Ok(())
@@ -90,18 +90,23 @@ fn endpoint(conf: &UpsdConf, i: usize) -> Option<(&str, u16)> {
 }
 
 /// Returns why upsd ends if this error makes it impossible to listen at a host.
-fn cannot_listen(alloc: Global, host: &str, port: u16, error: io::Error) -> Failure<UpsdFault> {
+fn cannot_listen(alloc: Global, host: &str, port: u16, error: &io::Error) -> Failure<UpsdFault> {
     if error.kind() == ErrorKind::OutOfMemory {
         return Failure::Memory;
     }
     match String::from_str(alloc, host) {
-        Ok(host) => Failure::Own(UpsdFault::Listen(host, port, error)),
+        Ok(host) => Failure::Own(UpsdFault::Listen(host, port, remark_on(alloc, error))),
         Err(_) => Failure::Memory,
     }
 }
 
 /// Returns why upsd ends if it is possible to listen at no host yet, this one being the first.
-fn no_listener(missing: Missing) -> Failure<UpsdFault> {
+fn no_listener(alloc: Global, missing: Missing) -> Failure<UpsdFault> {
     let (host, port, error) = missing.into_parts();
-    Failure::Own(UpsdFault::Listen(host, port, error))
+    Failure::Own(UpsdFault::Listen(host, port, remark_on(alloc, &error)))
+}
+
+/// Says why it is impossible to listen. `None` if memory for that cannot be allocated.
+fn remark_on(alloc: Global, error: &io::Error) -> Option<String> {
+    format!(in alloc; "{error}").ok()
 }

@@ -2,9 +2,9 @@
 
 use crate::changes::changes;
 use crate::configuration::{Settings, read_folder};
-use nut_conf::{Endpoint, UpsmonConf};
+use nut_conf::{Endpoint, MonConfig};
 use nut_poll::{ErrorLines, Reports};
-use nut_program::{ConfFile, FileFault, Look, ReloadFile, ReloadReport, Turn, tell_unread};
+use nut_program::{ConfFile, FileFault, Look, ReloadFile, ReloadReport, Turn, tell_not_reloaded};
 use nut_server::{Config, Server};
 use nut_server_sockets::Reloader;
 use std::alloc::{AllocError, Global};
@@ -119,7 +119,7 @@ impl<'r, F: Files> Reloading<'r, F> {
 /// Returns the file `reload` of a folder.
 fn file_in(files: &impl Files, alloc: Global, folder: &str) -> Result<ReloadFile, AllocError> {
     // upsmon may have the folder, too, if its file is there
-    ReloadFile::new(files, alloc, folder, UpsmonConf::file_name(), TURN)
+    ReloadFile::new(files, alloc, folder, MonConfig::file_name(), TURN)
 }
 
 /// Returns the file `reload` of a folder, unless that is this other one.
@@ -169,7 +169,7 @@ impl<'r, F: Files> Reloader for Reloading<'r, F> {
         match self.read_again(server, reports.err()) {
             Ok(config) => Some(config),
             Err(fault) => {
-                tell_unread(&fault, reports.err());
+                tell_not_reloaded(&fault, fault.remark(), reports.err());
                 None
             }
         }
@@ -184,7 +184,7 @@ impl<'r, F: Files> Reloader for Reloading<'r, F> {
         if server.config().number_of_upses() == given.upses {
             reports.tell(ReloadReport::Reloaded(given.changes.as_str()));
         } else {
-            tell_unread(&FileFault::Memory, reports.err());
+            tell_not_reloaded(&FileFault::Memory, None, reports.err());
         }
     }
 }

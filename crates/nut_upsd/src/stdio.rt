@@ -7,8 +7,7 @@ use crate::command_line::{matches_of, stdio_command};
 use crate::configuration::read_options;
 use crate::upsd_fault::{UpsdFault, exit_status};
 use clap::ArgMatches;
-use nut_log::Lines;
-use nut_program::{Failure, hold_closed_streams};
+use nut_program::{Failure, NamedLines, hold_closed_streams};
 use nut_server::{Config, Server};
 use nut_server_loop::{StreamWorld, serve};
 use std::alloc::Global;
@@ -35,7 +34,7 @@ use std::sync::Wait;
 ///
 /// It is for callers that have no sockets and no clock. The program upsd calls [`run_upsd`](crate::run_upsd), which does
 /// the same for these words.
-pub fn run_stdio<S: AsStr, I: Read, O: Write, E: Lines>(
+pub fn run_stdio<S: AsStr, I: Read, O: Write, E: Write>(
     rt: &(impl Wait + Files),
     alloc: Global,
     words: &[S],
@@ -44,7 +43,7 @@ pub fn run_stdio<S: AsStr, I: Read, O: Write, E: Lines>(
     err: &mut E,
 ) -> u8 {
     let served = serve_words(rt, alloc, words, input, out);
-    exit_status(served, out, err)
+    exit_status(served, out, &mut NamedLines::new("upsd", err))
 }
 
 /// Serves one client as the words of the command line say.

@@ -4,8 +4,8 @@ use nut_conf::FaultKind;
 use nut_log::Lines;
 use nut_program::{Failure, FileFault, OwnFault};
 use nut_server_loop::Stream;
+use std::fmt;
 use std::io::Write;
-use std::{fmt, io};
 
 /// The faults that only upsd has: before it serves anybody, or over standard streams.
 #[derive(Drop)]
@@ -14,8 +14,8 @@ pub enum UpsdFault {
     Ups(FaultKind),
     /// A file gives no configuration.
     File(FileFault<'static>),
-    /// It is impossible to listen at this address and port, for this reason.
-    Listen(String, u16, io::Error),
+    /// It is impossible to listen at this address and port. The remark says why, unless memory for it cannot be allocated.
+    Listen(String, u16, Option<String>),
     /// A read of standard input failed.
     Input,
     /// A write to standard output failed.
@@ -27,8 +27,8 @@ impl fmt::Display for UpsdFault {
         match self {
             UpsdFault::Ups(fault) => write!(f, "--ups: {fault}"),
             UpsdFault::File(fault) => write!(f, "{fault}"),
-            UpsdFault::Listen(address, port, error) => {
-                write!(f, "cannot listen on {address}:{port}: {error}")
+            UpsdFault::Listen(address, port, _) => {
+                write!(f, "cannot listen on {address}:{port}")
             }
             UpsdFault::Input => write!(f, "input failed"),
             UpsdFault::Output => write!(f, "output failed"),
@@ -40,8 +40,11 @@ impl OwnFault for UpsdFault {
     fn remark(&self) -> Option<&str> {
         match self {
             UpsdFault::File(fault) => fault.remark(),
-            UpsdFault::Ups(_) | UpsdFault::Listen(..) | UpsdFault::Input | UpsdFault::Output =>
-                None,
+            UpsdFault::Listen(_, _, Some(remark)) => Some(remark.as_str()),
+            UpsdFault::Ups(_)
+            | UpsdFault::Listen(_, _, None)
+            | UpsdFault::Input
+            | UpsdFault::Output => None,
         }
     }
 }

@@ -1,7 +1,7 @@
 -- What upsmon did, with a halt in the end.
 use Rattle.std.proofs.Common.{◌≡◌, ℕ, Bool, true, false, List, [], ◌∷◌, Option, Some, None, IfSome, if◌then◌else◌, refl, sym, ap, subst}
 use Rattle.std.specs.List.{AllByRecursion}
-use Rattle.nut_conf.specs.declared.upsmon.UpsmonConf.{UpsmonConf}
+use Rattle.nut_conf.specs.declared.upsmon.MonConfig.{MonConfig}
 use Rattle.nut_conf.specs.declared.notice.NoticeFlags.{NoticeFlags}
 use Rattle.nut_conf.specs.Upsmon.{flags_of}
 use Rattle.nut_monitor.specs.Texts.{text_of}
@@ -16,7 +16,7 @@ pub clears_first : (act : Act) (acts : List Act) → ClearsFirst acts → Clears
 clears_first act acts is = (is.0, act ∷ is.1, ap (λ l. act ∷ l) is.2)
 
 -- after the first acts this configuration is in force
-pub ready_first : (log log' : Option (List Act)) (next : Option Beginning) (config : UpsmonConf) → IfSome log (λ acts. acts ≡ ClearedFlag config ∷ []) → next ≡ None
+pub ready_first : (log log' : Option (List Act)) (next : Option Beginning) (config : MonConfig) → IfSome log (λ acts. acts ≡ ClearedFlag config ∷ []) → next ≡ None
     → log' ≡ does Changed (does (Readied config) log) → IsReady log' next config
 ready_first None log' next config blank none same = subst (λ o. IsReady o next config) (sym same) tt
 ready_first (Some acts) log' next config blank none same =
@@ -29,14 +29,14 @@ ready_first (Some acts) log' next config blank none same =
     ))
 
 -- that of the next watch was readied
-pub ready_next : (log log' : Option (List Act)) (next : Option Beginning) (b : Beginning) (config : UpsmonConf) → log' ≡ does (Readied b.monitor.config) log
+pub ready_next : (log log' : Option (List Act)) (next : Option Beginning) (b : Beginning) (config : MonConfig) → log' ≡ does (Readied b.monitor.config) log
     → IsReady log next config → IsReady log' (Some b) config
 ready_next None log' next b config same ready = subst (λ o. IsReady o (Some b) config) (sym same) tt
 ready_next (Some acts) log' next b config same ready =
     subst (λ o. IsReady o (Some b) config) (sym same) ((tt, ready.0), ready.1, refl, clears_first (Readied b.monitor.config) acts ready.3)
 
 -- and is in force
-pub ready_changed : (log log' : Option (List Act)) (next next' : Option Beginning) (b : Beginning) (config : UpsmonConf) → next ≡ Some b → next' ≡ None → log' ≡ does Changed log
+pub ready_changed : (log log' : Option (List Act)) (next next' : Option Beginning) (b : Beginning) (config : MonConfig) → next ≡ Some b → next' ≡ None → log' ≡ does Changed log
     → IsReady log next config → IsReady log' next' b.monitor.config
 ready_changed None log' next next' b config some none same ready = subst (λ o. IsReady o next' b.monitor.config) (sym same) tt
 ready_changed (Some acts) log' next next' b config some none same ready =
@@ -45,7 +45,7 @@ ready_changed (Some acts) log' next next' b config some none same ready =
     ((tt, ready.0), subst (λ (n : Option Beginning). IfSome n (λ b. readied acts ≡ Some b.monitor.config)) some ready.2, tt, clears_first Changed acts ready.3))
 
 -- the halt of the configuration in force
-pub halted : (log log' : Option (List Act)) (next : Option Beginning) (config : UpsmonConf) (flag : Bool)
+pub halted : (log log' : Option (List Act)) (next : Option Beginning) (config : MonConfig) (flag : Bool)
     → IsReady log next config → Says config (Halted flag) → log' ≡ does RanShutdown (if flag then does TriedFlag log else log) → IfSome log' IsHalted
 halted None log' next config true ready says same = subst (λ o. IfSome o IsHalted) (sym same) tt
 halted None log' next config false ready says same = subst (λ o. IfSome o IsHalted) (sym same) tt
@@ -56,22 +56,22 @@ halted (Some acts) log' next config false ready says same =
 
 -- ---- a notice
 
-printed_ready : (b : Bool) (text : List ℕ) (log : Option (List Act)) (next : Option Beginning) (config : UpsmonConf) → IsReady log next config → IsReady (printed b text log) next config
+printed_ready : (b : Bool) (text : List ℕ) (log : Option (List Act)) (next : Option Beginning) (config : MonConfig) → IsReady log next config → IsReady (printed b text log) next config
 printed_ready false text log next config ready = ready
 printed_ready true text None next config ready = tt
 printed_ready true text (Some acts) next config ready = ((tt, ready.0), ready.1, ready.2, clears_first (Printed text) acts ready.3)
 
-called_ready : (b : Bool) (notice : Notice) (text : List ℕ) (log : Option (List Act)) (next : Option Beginning) (config : UpsmonConf) → IsReady log next config → IsReady (called b notice text log) next config
+called_ready : (b : Bool) (notice : Notice) (text : List ℕ) (log : Option (List Act)) (next : Option Beginning) (config : MonConfig) → IsReady log next config → IsReady (called b notice text log) next config
 called_ready false notice text log next config ready = ready
 called_ready true notice text None next config ready = tt
 called_ready true notice text (Some acts) next config ready = ((tt, ready.0), ready.1, ready.2, clears_first (Called notice text) acts ready.3)
 
-by_ready : (flags : NoticeFlags) (notice : Notice) (text : List ℕ) (log : Option (List Act)) (next : Option Beginning) (config : UpsmonConf) → IsReady log next config → IsReady (told_by flags notice text log) next config
+by_ready : (flags : NoticeFlags) (notice : Notice) (text : List ℕ) (log : Option (List Act)) (next : Option Beginning) (config : MonConfig) → IsReady log next config → IsReady (told_by flags notice text log) next config
 by_ready flags notice text log next config ready =
     called_ready (is_to_call flags) notice text _ next config (printed_ready (is_to_print flags) text log next config ready)
 
 -- a notice is no part of a halt, and changes nothing of what is in force
-pub told_ready : (log log' : Option (List Act)) (next next' : Option Beginning) (config other : UpsmonConf) (notice : Notice) → log' ≡ told other notice log → next' ≡ next
+pub told_ready : (log log' : Option (List Act)) (next next' : Option Beginning) (config other : MonConfig) (notice : Notice) → log' ≡ told other notice log → next' ≡ next
     → IsReady log next config → IsReady log' next' config
 told_ready log log' next next' config other notice same also ready =
     subst (λ o. IsReady o next' config) (sym same)

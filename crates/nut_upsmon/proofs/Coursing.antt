@@ -1,7 +1,7 @@
 -- What upsmon told over a whole run, watch by watch.
 use Rattle.std.proofs.Common.{◌≡◌, Bool, List, [], ◌∷◌, ◌++◌, Option, Some, None, IfSome, sym, ◌∙◌, ap, append-nil, subst, refl}
 use Rattle.std.specs.Prelude.{option_map}
-use Rattle.nut_conf.specs.declared.upsmon.UpsmonConf.{UpsmonConf}
+use Rattle.nut_conf.specs.declared.upsmon.MonConfig.{MonConfig}
 use Rattle.nut_monitor_spec.specs.declared.Phase.{Phase}
 use Rattle.nut_monitor_spec.specs.declared.Phase.TheVariants.{Halted}
 use Rattle.nut_monitor_spec.specs.Configuration.{Configuration, configuration_of}
@@ -17,7 +17,7 @@ use Rattle.nut_upsmon.specs.inside.Telling.{IsWhole, Tells, TellsWatch, untold_b
 -- ---- a watch
 
 -- what the loop says at its end
-pub whole : (first : Configuration) (config : UpsmonConf) (Did : List Entry → Type 0) (s : Content) (phase : Phase) → first ≡ configuration_of config
+pub whole : (first : Configuration) (config : MonConfig) (Did : List Entry → Type 0) (s : Content) (phase : Phase) → first ≡ configuration_of config
     → Watched first Did s None → s.notices ≡ [] → phase ≡ phase_of s → IsWhole config Did phase
 whole first config Did s phase same watched told says =
     let P : Configuration → Type 0 = λ c. Watched c Did s None in
@@ -30,11 +30,11 @@ whole first config Did s phase same watched told says =
       says ∙ ap phase_of w.holds.1,
     )
 
-pub says_whole : (config : UpsmonConf) (Did : List Entry → Type 0) (phase : Phase) → IsWhole config Did phase → Says config phase
+pub says_whole : (config : MonConfig) (Did : List Entry → Type 0) (phase : Phase) → IsWhole config Did phase → Says config phase
 says_whole config Did phase it = (it.0, it.3, it.5)
 
 -- what was handed on was told
-pub tells_whole : (config : UpsmonConf) (before after : Option (List Act)) (next next' : Option Beginning) (phase : Phase)
+pub tells_whole : (config : MonConfig) (before after : Option (List Act)) (next next' : Option Beginning) (phase : Phase)
     → IsWhole config (λ entries. HandsOn (Tells config before next after next') (handed entries)) phase → TellsWatch phase before after
 tells_whole config before after next next' phase it = (
   record { config = config; events = it.0; given = it.2.0 },
@@ -45,7 +45,7 @@ tells_whole config before after next next' phase it = (
 
 -- ---- the course
 
-pub first_course : (before after : Option (List Act)) (config : UpsmonConf) → IfSome before (λ acts. acts ≡ ClearedFlag config ∷ [])
+pub first_course : (before after : Option (List Act)) (config : MonConfig) → IfSome before (λ acts. acts ≡ ClearedFlag config ∷ [])
     → after ≡ does Changed (does (Readied config) before) → IsCourse after
 first_course before after config blank same =
     record {

@@ -2,7 +2,7 @@
 use Rattle.std.specs.Prelude.{◌≡◌, ℕ, Bool, ◌||◌, ◌&&◌, not, List, [], ◌∷◌, ◌++◌, if◌then◌else◌, Option, Some, None, option_map}
 use Rattle.std.specs.List.{AllByRecursion}
 use Rattle.nut_conf.specs.declared.notice.NoticeFlags.{NoticeFlags}
-use Rattle.nut_conf.specs.declared.upsmon.UpsmonConf.{UpsmonConf}
+use Rattle.nut_conf.specs.declared.upsmon.MonConfig.{MonConfig}
 use Rattle.nut_conf.specs.Upsmon.{flags_of}
 use Rattle.nut_monitor.specs.Texts.{text_of}
 use Rattle.nut_monitor_spec.specs.declared.Notice.{Notice}
@@ -15,9 +15,9 @@ use Rattle.nut_monitor_spec.specs.Acceptance.{IsAccepted}
 
 pub data Act : Type 0 where
   -- it tried to remove the POWERDOWNFLAG that this configuration names, which an earlier shutdown may have left
-  ClearedFlag : (config : UpsmonConf) → Act
+  ClearedFlag : (config : MonConfig) → Act
   -- it made ready to halt by this configuration
-  Readied : (config : UpsmonConf) → Act
+  Readied : (config : MonConfig) → Act
   -- it halts by the configuration that was readied last, from now on
   Changed : Act
   -- it printed this text as a line, or tried to
@@ -52,17 +52,17 @@ abbrev pub told_by : NoticeFlags → Notice → List ℕ → Option (List Act) �
 told_by flags notice text acts = called (is_to_call flags) notice text (printed (is_to_print flags) text acts)
 
 -- a history after a notice of a monitor with this configuration
-abbrev pub told : UpsmonConf → Notice → Option (List Act) → Option (List Act)
+abbrev pub told : MonConfig → Notice → Option (List Act) → Option (List Act)
 told config notice acts = told_by (flags_of notice.kind config) notice (text_of config notice) acts
 
 -- the configuration that was readied last
-abbrev pub readied : List Act → Option UpsmonConf
+abbrev pub readied : List Act → Option MonConfig
 readied [] = None
 readied (Readied config ∷ acts) = Some config
 readied (act ∷ acts) = readied acts
 
 -- the configuration by which the machine is halted: the one that was readied when it was changed last
-abbrev pub in_force : List Act → Option UpsmonConf
+abbrev pub in_force : List Act → Option MonConfig
 in_force [] = None
 in_force (Changed ∷ acts) = readied acts
 in_force (act ∷ acts) = in_force acts
@@ -74,7 +74,7 @@ IsQuiet RanShutdown = ⊥
 IsQuiet act = Unit {0}
 
 -- A monitor of this configuration says this phase after some events.
-abbrev pub Says : UpsmonConf → Phase → Type 0
+abbrev pub Says : MonConfig → Phase → Type 0
 Says config phase =
     (events : List Event) × IsAccepted (configuration_of config) events × (phase ≡ phase_of (content (configuration_of config) events))
 
@@ -84,12 +84,12 @@ halting flag = RanShutdown ∷ (if flag then TriedFlag ∷ [] else [])
 
 -- Its first acts: it tried to remove a flag that was left, and made ready by the same configuration.
 abbrev pub ClearsFirst : List Act → Type 0
-ClearsFirst acts = (config : UpsmonConf) × (later : List Act) × (acts ≡ later ++ Readied config ∷ ClearedFlag config ∷ [])
+ClearsFirst acts = (config : MonConfig) × (later : List Act) × (acts ≡ later ++ Readied config ∷ ClearedFlag config ∷ [])
 
 -- The last acts are those of a halt, and no earlier act is: the monitor of the configuration in force said that the
 -- machine has to be halted, and whether POWERDOWNFLAG has to be set.
 pub record IsHalted (acts : List Act) : Type 0 where
-  pub config : UpsmonConf
+  pub config : MonConfig
   pub flag : Bool
   pub before : List Act
   pub done : acts ≡ halting flag ++ before

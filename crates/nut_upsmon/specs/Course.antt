@@ -1,7 +1,7 @@
 -- What upsmon told over a whole run: the notices of one watch after the other.
 use Rattle.std.specs.Prelude.{◌≡◌, Bool, List, [], ◌∷◌, Option, IfSome, option_map}
 use Rattle.std.specs.List.{AllByRecursion}
-use Rattle.nut_conf.specs.declared.upsmon.UpsmonConf.{UpsmonConf}
+use Rattle.nut_conf.specs.declared.upsmon.MonConfig.{MonConfig}
 use Rattle.nut_monitor_spec.specs.declared.Notice.{Notice}
 use Rattle.nut_monitor_spec.specs.declared.Phase.TheVariants.{Halted}
 use Rattle.nut_monitor_spec.specs.Configuration.{configuration_of}
@@ -20,13 +20,13 @@ tellings (Called notice text ∷ acts) = Called notice text ∷ tellings acts
 tellings (act ∷ acts) = tellings acts
 
 -- a history after these notices, the oldest first, of a monitor with this configuration
-abbrev pub told_all : UpsmonConf → List Notice → Option (List Act) → Option (List Act)
+abbrev pub told_all : MonConfig → List Notice → Option (List Act) → Option (List Act)
 told_all config [] acts = acts
 told_all config (notice ∷ notices) acts = told_all config notices (told config notice acts)
 
 -- A watch that has ended: its configuration, what its monitor was told, and the notices that were handed on to be told.
 pub record Watch : Type 0 where
-  pub config : UpsmonConf
+  pub config : MonConfig
   pub events : List Event
   pub given : List Notice
 

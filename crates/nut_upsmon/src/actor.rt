@@ -7,7 +7,7 @@ ghost use Rattle.nut_upsmon.specs.Acts.{Act, ClearedFlag, Readied, Changed, Prin
 use crate::beginning::Beginning;
 use crate::halt::HaltFault;
 use crate::power_down_flag::FlagFault;
-use nut_conf::UpsmonConf;
+use nut_conf::MonConfig;
 use nut_monitor::{Monitor, Notice};
 use nut_poll::ErrorLines;
 use std::alloc::AllocError;
@@ -41,7 +41,7 @@ pub trait Starter: Drop {
     /// # Errors
     ///
     /// [`AllocError`] if memory cannot be allocated. Then nothing is removed.
-    fn clear_flag<E: Told>(&mut self, config: &UpsmonConf, err: &mut E) -> Result<(), AllocError>
+    fn clear_flag<E: Told>(&mut self, config: &MonConfig, err: &mut E) -> Result<(), AllocError>
         ensures { OnOk result (log self.new ≡ does (ClearedFlag config.now) (log self.old)) };
 
     /// Becomes an actor.
@@ -63,7 +63,7 @@ pub trait Actor: Drop {
     /// # Errors
     ///
     /// [`AllocError`] if memory cannot be allocated.
-    fn ready(&mut self, config: &UpsmonConf) -> Result<(), AllocError>
+    fn ready(&mut self, config: &MonConfig) -> Result<(), AllocError>
         ensures ok { OnOk result (log self.new ≡ does (Readied config.now) (log self.old)) }
         ensures err { OnErr result (log self.new ≡ log self.old) };
 

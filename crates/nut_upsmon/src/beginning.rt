@@ -4,7 +4,7 @@ ghost use Rattle.std.specs.Prelude.{◌≡◌, []};
 ghost use Rattle.nut_monitor_spec.specs.Configuration.{configuration_of};
 ghost use Rattle.nut_monitor_spec.specs.Content.{content};
 
-use nut_conf::UpsmonConf;
+use nut_conf::MonConfig;
 use nut_monitor::Monitor;
 use nut_monitor_sockets::NewLinks;
 use std::alloc::{AllocError, Global};
@@ -24,7 +24,7 @@ impl Beginning {
     /// # Errors
     ///
     /// [`AllocError`] if memory cannot be allocated.
-    pub fn of(alloc: Global, config: UpsmonConf) -> Result<Beginning, AllocError> {
+    pub fn of(alloc: Global, config: MonConfig) -> Result<Beginning, AllocError> {
         let Ok(monitor) = Monitor::new(alloc, config) else {
             return Err(AllocError);
         };
@@ -33,7 +33,7 @@ impl Beginning {
     }
 
     /// Returns the configuration.
-    pub fn config(&self) -> &UpsmonConf
+    pub fn config(&self) -> &MonConfig
         ensures { result.now ≡ self.now.monitor.config }
     {
         self.monitor.config()

@@ -1,6 +1,6 @@
 //! What a changed upsmon.conf sets otherwise.
 
-use nut_conf::{Monitored, UPSMON_DIRECTIVES, UpsmonConf, UpsmonDirective};
+use nut_conf::{MonConfig, Monitored, UPSMON_DIRECTIVES, UpsmonDirective};
 use nut_poll::text_of;
 use std::alloc::{AllocError, Global};
 
@@ -20,8 +20,8 @@ impl Changes {
     /// [`AllocError`] if memory for the text cannot be allocated.
     pub fn between(
         alloc: Global,
-        former: &UpsmonConf,
-        config: &UpsmonConf,
+        former: &MonConfig,
+        config: &MonConfig,
     ) -> Result<Changes, AllocError> {
         let mut changes = Changes {
             text: String::new(alloc),

@@ -9,6 +9,10 @@ use std::alloc::{Alloc, AllocError, Global};
 use std::convert::AsStr;
 use std::env::Env;
 
+/// The command lines that upsmon takes. clap's own usage would have all options in one line.
+const USAGE: &str =
+    "upsmon [--conf <DIR>] [-q]\n       upsmon --check [--conf <DIR>]\n       upsmon --check [--delay <DIR=SECONDS>]... <DIR>...\n       upsmon --fsd [--conf <DIR>]\n       upsmon -K [--conf <DIR>]";
+
 /// What upsmon is to do.
 #[derive(Clone, Copy)]
 pub enum Task {
@@ -40,12 +44,16 @@ pub struct Order<'a> {
 ///
 /// # Errors
 ///
-/// `CommandLine` if clap refuses them, or they ask for the help or the version; `Memory` if memory cannot be allocated.
+/// `NutsCommand` if they have NUT's option `-c`; `CommandLine` if clap refuses them, or they ask for the help or the
+/// version; `Memory` if memory cannot be allocated.
 pub fn order_of<'a, R: Env + Alloc, S: AsStr>(
     rt: &R,
     alloc: Global,
     words: &'a [S],
 ) -> Result<Order<'a>, Failure<UpsmonFault>> {
+    if words.iter().any(|word| word.as_str().starts_with("-c")) {
+        return Err(Failure::Own(UpsmonFault::NutsCommand));
+    }
     let matches = upsmon_command(alloc)?.try_get_matches_from(words)?;
     match order_by(rt, alloc, &matches) {
         Ok(order) => Ok(order),
@@ -104,6 +112,7 @@ fn upsmon_command<'a>(alloc: Global) -> Result<Command<'a>, AllocError> {
     Command::new(alloc, "upsmon")
         .version(VERSION)
         .about("A monitor of UPSes that halts its machine when too few of them are left")
+        .override_usage(USAGE)
         .args(args)
 }
 

@@ -5,7 +5,7 @@
 //! its battery is empty, then no machine starts again.
 
 use crate::power_down_flag::PowerDownFlag;
-use nut_conf::{FILE_MAX, FaultKind, UpsmonConf, read_upsmon};
+use nut_conf::{FILE_MAX, FaultKind, MonConfig, read_upsmon};
 use nut_program::{ConfFile, read_file};
 use std::alloc::{AllocError, Global};
 use std::io;
@@ -27,7 +27,7 @@ pub fn last_flag_in(
     alloc: Global,
     folder: &str,
 ) -> io::Result<Option<PowerDownFlag>> {
-    let path = Path::new(folder).join(alloc, UpsmonConf::file_name())?;
+    let path = Path::new(folder).join(alloc, MonConfig::file_name())?;
     let bytes = read_file(files, alloc, path, FILE_MAX as u64)?;
     last_flag(alloc, bytes.as_slice())
 }

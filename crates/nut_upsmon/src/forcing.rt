@@ -1,100 +1,112 @@
 //! A shutdown by hand: FSD on the UPSes of this machine's primary lines.
 
+use crate::errand::{Errand, Shortfall, Teller, run_errand};
 use crate::upsmon_fault::UpsmonFault;
-use nut_client::{Failure, dial_host, force_shutdown};
-use nut_conf::{Monitored, Role, UpsmonConf};
+use nut_conf::{MonConfig, Monitored, Role};
 use nut_log::{Level, Lines};
 use nut_monitor::has_primary;
 use nut_poll::{ErrorLines, LossyLines, OutputLines, text_of};
-use nut_program::{Streams, hold_closed_streams};
-use nut_proto::Word;
+use nut_program::{Failure, Streams, hold_closed_streams};
 use std::alloc::Global;
 use std::io::Write;
 use std::net::Net;
+use std::process::Processes;
 use std::rt::Files;
-use std::sync::Wait;
+use std::time::Clock;
 
-/// Sets FSD at the server of each primary line of a configuration, one after the other in the order of the file, and
-/// tells for each what became of it: on standard output that it is set, on `told` why it isn't. A server that fails
-/// doesn't keep the others from being asked. Returns whether all accepted it. The standard streams that are closed are
-/// held meanwhile, so that no socket takes the place of one.
+/// Sets FSD at the servers of the primary lines of a configuration, at all of them at once, and asks each whether the
+/// status of its UPS shows that. Tells of each what became of it: on standard output that it is set, on `told` why it
+/// isn't, or why the machines of that UPS don't stop. At the end `told` says what this machine is still fed by, if that is
+/// enough for it. Returns whether FSD is set and shown on all. The standard streams that are closed are held meanwhile, so
+/// that no socket takes the place of one.
 ///
 /// # Errors
 ///
-/// `NoPrimary` if no line is primary; `Memory` or `Io` if standard output can't be prepared for lines. No server was
-/// asked then.
+/// `NoPrimary` if no line is primary; `Memory` or `Io` if standard output can't be prepared for lines, or there is no
+/// memory or descriptor to call the servers with. No server was asked then. `Io` if the wait for the servers or the clock
+/// fails.
 pub fn force_shutdowns<R>(
     rt: &R,
     alloc: Global,
-    config: &UpsmonConf,
+    config: &MonConfig,
     streams: Streams,
     told: &mut ErrorLines,
-) -> Result<bool, nut_program::Failure<UpsmonFault>>
+) -> Result<bool, Failure<UpsmonFault>>
 where
-    R: Wait + Files + Net,
+    R: Files + Net + Clock + Processes,
 {
     if !has_primary(config) {
-        return Err(nut_program::Failure::Own(UpsmonFault::NoPrimary));
+        return Err(Failure::Own(UpsmonFault::NoPrimary));
     }
     let _held = hold_closed_streams(rt, alloc)?;
-    let mut out = LossyLines::new(rt, alloc, streams.out)?;
-    Ok(force_all(rt, alloc, &config.monitors.lines, &mut out, told))
+    let lines = config.monitors.lines.as_slice();
+    let mut report = Report {
+        out: LossyLines::new(rt, alloc, streams.out)?,
+        told,
+    };
+    let forced = run_errand(Errand::Force, rt, alloc, lines, &mut report)?;
+    tell_supplies(config, &forced, report.told);
+    Ok(is_all_forced(lines, &forced))
 }
 
-/// Sets FSD at the server of each primary line, and tells what became of it. Returns whether all accepted it.
-fn force_all<R>(
-    rt: &R,
-    alloc: Global,
-    lines: &[Monitored],
-    out: &mut OutputLines,
-    told: &mut ErrorLines,
-) -> bool
-where
-    R: Wait + Net,
-{
-    let mut is_forced = true;
-    for line in lines {
-        if line.role == Role::Primary {
-            let forced = force(rt, alloc, line);
-            is_forced &= forced.is_ok();
-            tell(line, &forced, out, told);
+/// Whether all primary lines are among those that were forced.
+fn is_all_forced(lines: &[Monitored], forced: &[bool]) -> bool {
+    let mut each = lines.iter().zip(forced);
+    each.all(|(line, is_forced)| *is_forced || line.role == Role::Secondary)
+}
+
+/// Where it is told what became of each line.
+#[derive(Drop)]
+struct Report<'e> {
+    out: OutputLines,
+    told: &'e mut ErrorLines,
+}
+
+impl<'e> Teller for Report<'e> {
+    fn tell(&mut self, line: &Monitored, ended: &Result<(), Shortfall>) {
+        let ups = text_of(&line.written);
+        let _ = match ended {
+            Ok(()) => writeln!(self.out.mark(Level::Notice), "{ups}: FSD set"),
+            Err(shortfall @ (Shortfall::Untold(_) | Shortfall::Unshown(_))) => writeln!(
+                self.told.begin(Level::Error),
+                "{ups}: FSD set, but {shortfall}"
+            ),
+            Err(shortfall) => writeln!(
+                self.told.begin(Level::Error),
+                "{ups}: FSD failed: {shortfall}"
+            ),
+        };
+    }
+}
+
+/// Tells which lines still supply this machine, if they supply enough for it.
+fn tell_supplies(config: &MonConfig, forced: &[bool], told: &mut ErrorLines) {
+    let lines = config.monitors.lines.as_slice();
+    let needed = u64::from(config.min_supplies.value);
+    let mut left = 0u64;
+    for (line, is_forced) in lines.iter().zip(forced) {
+        if !*is_forced {
+            left = left.saturating_add(u64::from(line.power.value));
         }
     }
-    is_forced
-}
-
-/// Sets FSD on the UPS of a line, over a connection of its own that is closed at once.
-fn force<R>(rt: &R, alloc: Global, line: &Monitored) -> Result<(), Failure>
-where
-    R: Wait + Net,
-{
-    let target = &line.target;
-    match dial_host(rt, &target.host, target.port) {
-        Ok(mut stream) => force_shutdown(
-            alloc,
-            Word::new(target.ups.as_bytes()),
-            Word::new(line.user.as_bytes()),
-            Word::new(line.password.as_bytes()),
-            &mut stream,
-        ),
-        Err(_) => Err(Failure::NoConnection),
+    if left < needed {
+        return;
     }
-}
-
-/// Tells what became of the FSD of a line.
-fn tell(
-    line: &Monitored,
-    forced: &Result<(), Failure>,
-    out: &mut OutputLines,
-    told: &mut ErrorLines,
-) {
-    let ups = text_of(&line.written);
-    let _ = match forced {
-        Ok(()) => writeln!(out.mark(Level::Notice), "{ups}: FSD set"),
-        Err(failure) => writeln!(
-            told.begin(Level::Error),
-            "{ups}: FSD failed: {}",
-            text_of(failure.reason())
-        ),
-    };
+    let _ = write!(told.begin(Level::Warning), "this machine goes on: ");
+    if needed == 0 {
+        let _ = writeln!(told, "MINSUPPLIES is 0");
+        return;
+    }
+    let mut is_first = true;
+    for (line, is_forced) in lines.iter().zip(forced) {
+        let power = line.power.value;
+        if !*is_forced && power > 0 {
+            if !is_first {
+                let _ = write!(told, ", ");
+            }
+            is_first = false;
+            let _ = write!(told, "{} still supplies {power}", text_of(&line.written));
+        }
+    }
+    let _ = writeln!(told);
 }

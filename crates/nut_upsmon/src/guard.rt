@@ -1,7 +1,7 @@
 //! Has an actor do what a monitor decides.
 
 ghost use Rattle.std.specs.Prelude.{◌≡◌, Some, None, option_map, IfOk, OnOk, OnErr, if◌then◌else◌};
-ghost use Rattle.nut_conf.specs.declared.upsmon.UpsmonConf.{UpsmonConf};
+ghost use Rattle.nut_conf.specs.declared.upsmon.MonConfig.{MonConfig};
 ghost use Rattle.nut_upsmon.specs.Acts.{does, is_to_call, is_to_print, told, Readied, Changed, Says, TriedFlag, RanShutdown};
 ghost use Rattle.nut_upsmon.specs.Course.{tellings};
 ghost use Rattle.nut_upsmon.specs.inside.Ready.{Follows, HaltsAsSaid, IsReady};
@@ -10,7 +10,7 @@ ghost use Rattle.nut_upsmon.specs.inside.Telling.{Tells, tells_on, tells_self};
 use crate::actor::Actor;
 use crate::beginning::Beginning;
 use crate::halt::HaltFault;
-use nut_conf::{NoticeFlags, UpsmonConf};
+use nut_conf::{MonConfig, NoticeFlags};
 use nut_monitor::{Monitor, Notice, Phase};
 use nut_monitor_sockets::Herald;
 use std::alloc::AllocError;
@@ -48,7 +48,7 @@ impl<A: Actor> Guard<A> {
     /// # Errors
     ///
     /// [`AllocError`] if memory cannot be allocated.
-    pub fn begin(&mut self, config: &UpsmonConf) -> Result<(), AllocError>
+    pub fn begin(&mut self, config: &MonConfig) -> Result<(), AllocError>
         ensures ok { OnOk result (A.log self.new.actor ≡ does Changed (does (Readied config.now) (A.log self.old.actor))) }
         ensures err { OnErr result (A.log self.new.actor ≡ A.log self.old.actor) }
         ensures next { self.new.next ≡ self.old.next }
@@ -65,7 +65,7 @@ impl<A: Actor> Guard<A> {
     ///
     /// `Other` if the machine hasn't to be halted, and there is no next configuration.
     pub fn follow(&mut self, phase: Phase) -> io::Result<After>
-        ensures ok { (config : UpsmonConf) → IsReady (A.log self.old.actor) self.old.next config → Says config phase
+        ensures ok { (config : MonConfig) → IsReady (A.log self.old.actor) self.old.next config → Says config phase
             → IfOk result (Follows (A.log self.new.actor) self.new.next) }
         ensures halts { IfOk result (HaltsAsSaid phase) }
         ensures told { option_map tellings (A.log self.new.actor) ≡ option_map tellings (A.log self.old.actor) }

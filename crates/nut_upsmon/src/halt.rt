@@ -4,7 +4,7 @@ use crate::power_down_flag::{FlagFault, FlagState, PowerDownFlag};
 use crate::shutdown_command::{Full, ShellState, ShutdownCommand};
 use libc::ECHILD;
 use linked_list_allocator::LocalHeap;
-use nut_conf::UpsmonConf;
+use nut_conf::MonConfig;
 use nut_log::{Level, Lines};
 use nut_monitor::has_primary;
 use nut_poll::{ErrorLines, OutputLines, text_of};
@@ -97,7 +97,7 @@ impl<'r, 'h, R: Files + Processes + Clock> Halt<'r, 'h, R> {
     /// # Errors
     ///
     /// [`AllocError`] if memory cannot be allocated.
-    pub fn with(&self, config: &UpsmonConf) -> Result<Halt<'r, 'h, R>, AllocError> {
+    pub fn with(&self, config: &MonConfig) -> Result<Halt<'r, 'h, R>, AllocError> {
         let flag = PowerDownFlag::of(self.alloc, config)?;
         Ok(Halt {
             rt: self.rt,
@@ -172,7 +172,7 @@ impl<'r, 'h, R: Files + Processes + Clock> Halt<'r, 'h, R> {
     /// Writes the new file that is to become POWERDOWNFLAG, if this configuration, which the halt was made for, has a
     /// primary line. If that fails, it is tried again at the halt, and why it fails is written to `err`: there is time
     /// to mend it. Nothing is done, or told, if the flag can't be set for what [`Halt::clear_flag`] has told.
-    pub fn ready_flag(&self, config: &UpsmonConf, err: &mut ErrorLines) {
+    pub fn ready_flag(&self, config: &MonConfig, err: &mut ErrorLines) {
         if let Some(flag) = &self.flag
             && has_primary(config)
         {
@@ -224,7 +224,7 @@ impl<'r, 'h, R: Files + Processes + Clock> Halt<'r, 'h, R> {
 pub fn clear_left_flag(
     files: &impl Files,
     alloc: Global,
-    config: &UpsmonConf,
+    config: &MonConfig,
     err: &mut ErrorLines,
 ) -> Result<(), AllocError> {
     if let Some(flag) = PowerDownFlag::of(alloc, config)? {
@@ -242,7 +242,7 @@ pub fn clear_left_flag(
 pub fn check_flag(
     files: &impl Files,
     alloc: Global,
-    config: &UpsmonConf,
+    config: &MonConfig,
     err: &mut ErrorLines,
 ) -> Result<(), AllocError> {
     if let Some(flag) = PowerDownFlag::of(alloc, config)? {
@@ -255,12 +255,12 @@ pub fn check_flag(
 fn check(flag: &PowerDownFlag, files: &impl Files, is_to_set: bool, err: &mut ErrorLines) {
     match flag.state(files) {
         Ok(FlagState::Foreign) => tell_found(flag.path(), FlagState::Foreign, err),
-        Ok(FlagState::Absent) if is_to_set => {
+        Ok(FlagState::Absent | FlagState::Empty) if is_to_set => {
             if let Err(error) = flag.try_ready(files) {
                 tell_failed("written", flag.path(), &error, err);
             }
         }
-        Ok(FlagState::Absent | FlagState::Set) => {}
+        Ok(FlagState::Absent | FlagState::Empty | FlagState::Set) => {}
         Err(error) => tell_failed("removed", flag.path(), &error, err),
     }
 }
@@ -276,7 +276,7 @@ fn clear(flag: &PowerDownFlag, files: &impl Files, err: &mut ErrorLines) {
 /// Tells what was found under the name of POWERDOWNFLAG. A flag that was set is removed.
 fn tell_found(path: &str, found: FlagState, err: &mut ErrorLines) {
     let _ = match found {
-        FlagState::Absent => Ok(()),
+        FlagState::Absent | FlagState::Empty => Ok(()),
         FlagState::Set => writeln!(
             err.begin(Level::Notice),
             "POWERDOWNFLAG {path} of an earlier shutdown is removed"
@@ -306,7 +306,7 @@ fn tell_unset(path: &str, fault: &FlagFault, err: &mut ErrorLines) {
 fn shutdown_command<'r, 'h, R: Processes>(
     processes: &'r R,
     heap: &'h LocalHeap,
-    config: &UpsmonConf,
+    config: &MonConfig,
 ) -> Result<Option<ShutdownCommand<'r, 'h, R>>, AllocError> {
     match &config.shutdown_cmd {
         Some(command) => {

@@ -1,7 +1,7 @@
 //! Whether the UPSes of a machine say LB early enough for it to stop.
 
 use crate::stopping::Stopping;
-use nut_conf::{Monitored, UpsmonConf};
+use nut_conf::{MonConfig, Monitored};
 use nut_log::{Level, Lines};
 use nut_monitor_sockets::{ANSWER_ON_BATTERY, LATE_ANSWERS};
 use nut_poll::{ErrorLines, Program, Question, Questions, text_of};
@@ -107,7 +107,7 @@ impl<'r, R: Processes> LowRuntimes<'r, R> {
     /// # Errors
     ///
     /// [`AllocError`] if memory for their names cannot be allocated. Nothing has changed then.
-    pub fn restart(&mut self, config: &UpsmonConf) -> Result<(), AllocError> {
+    pub fn restart(&mut self, config: &MonConfig) -> Result<(), AllocError> {
         let generation = self.generation.wrapping_add(1);
         let (needed, left) = asked(self.alloc, config, generation)?;
         self.needed = needed;
@@ -212,7 +212,7 @@ impl<'r, R: Processes> LowRuntimes<'r, R> {
 pub fn check_low_runtimes<R: Processes + Clock>(
     rt: &R,
     alloc: Global,
-    config: &UpsmonConf,
+    config: &MonConfig,
     err: &mut ErrorLines,
 ) -> Result<(), AllocError> {
     let mut runtimes = LowRuntimes::none(rt, alloc, CHECK);
@@ -265,7 +265,7 @@ fn tell_unknown(ups: &Ups, err: &mut ErrorLines) {
 /// How many seconds this machine needs by a configuration, and the UPSes that are asked for.
 fn asked(
     alloc: Global,
-    config: &UpsmonConf,
+    config: &MonConfig,
     generation: u32,
 ) -> Result<(u64, Vec<Ups>), AllocError> {
     match Stopping::of(config) {

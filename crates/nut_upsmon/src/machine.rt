@@ -11,7 +11,7 @@ use crate::reloader::{Reload, Reloader};
 use crate::shutdown_report::tell_beginning;
 use crate::starting::tell_start;
 use linked_list_allocator::LocalHeap;
-use nut_conf::UpsmonConf;
+use nut_conf::MonConfig;
 use nut_monitor::{Monitor, Notice, Phase};
 use nut_poll::{ErrorLines, LossyLines};
 use nut_program::{Streams, hold_closed_streams, tell_not_reloaded};
@@ -122,7 +122,7 @@ where
 
     ghost log = { λ s. None };
 
-    fn clear_flag<E: Told>(&mut self, config: &UpsmonConf, err: &mut E) -> Result<(), AllocError> {
+    fn clear_flag<E: Told>(&mut self, config: &MonConfig, err: &mut E) -> Result<(), AllocError> {
         clear_left_flag(self.rt, self.alloc, config, err.lines())
     }
 
@@ -147,18 +147,18 @@ where
 {
     /// Makes ready to take up a configuration in place of an earlier one. Returns what its watch begins with. If that
     /// fails, everything goes on as before, and why is told.
-    fn take_up(&mut self, former: &UpsmonConf, reload: Reload) -> Option<Beginning> {
+    fn take_up(&mut self, former: &MonConfig, reload: Reload) -> Option<Beginning> {
         match self.ready_next(former, reload.config()) {
             Ok(()) => Some(self.reloader.report(reload, &mut self.err)),
             Err(fault) => {
-                tell_not_reloaded(&fault, &mut self.err);
+                tell_not_reloaded(&fault, None, &mut self.err);
                 None
             }
         }
     }
 
     /// Readies the halt of another configuration. A halt that fails to get ready is given up.
-    fn ready_next(&mut self, former: &UpsmonConf, config: &UpsmonConf) -> Result<(), ReloadFault> {
+    fn ready_next(&mut self, former: &MonConfig, config: &MonConfig) -> Result<(), ReloadFault> {
         let mut halt = self.halt.with(config)?;
         let started = self.start_halt(&mut halt, former, config);
         match &started {
@@ -172,8 +172,8 @@ where
     fn start_halt(
         &mut self,
         halt: &mut Halt<'r, 'r, R>,
-        former: &UpsmonConf,
-        config: &UpsmonConf,
+        former: &MonConfig,
+        config: &MonConfig,
     ) -> Result<(), ReloadFault> {
         halt.start_shell()?;
         self.notifier.restart(config)?;
@@ -198,7 +198,7 @@ where
 
     /// Makes the next POWERDOWNFLAG ready, starts the shell that waits to run SHUTDOWNCMD, and tells what is watched. A
     /// shell that can't be started is told.
-    fn ready(&mut self, config: &UpsmonConf) -> Result<(), AllocError> {
+    fn ready(&mut self, config: &MonConfig) -> Result<(), AllocError> {
         self.notifier.restart(config)?;
         let mut halt = self.halt.with(config)?;
         halt.ready_flag(config, &mut self.err);
@@ -255,8 +255,8 @@ where
 /// told of it is mended.
 fn ready_flag<R>(
     halt: &Halt<'_, '_, R>,
-    former: &UpsmonConf,
-    config: &UpsmonConf,
+    former: &MonConfig,
+    config: &MonConfig,
     err: &mut ErrorLines,
 )
 where

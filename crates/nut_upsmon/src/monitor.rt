@@ -4,6 +4,7 @@ use crate::command_line::{Order, Task, order_of};
 use crate::faulty_file::last_flag_in;
 use crate::forcing::force_shutdowns;
 use crate::halt::{HaltFault, check_flag, halt_heap};
+use crate::hindrance::warn_of_hindrances;
 use crate::low_runtime::check_low_runtimes;
 use crate::machine::MachineStarter;
 use crate::power_down_flag::{FlagState, PowerDownFlag};
@@ -13,7 +14,7 @@ use crate::stopping::Stopping;
 use crate::upsmon_fault::{UpsmonFault, tell_failure};
 use crate::warning::read_and_warn;
 use crate::watching::watch_over_sockets;
-use nut_conf::UpsmonConf;
+use nut_conf::MonConfig;
 use nut_log::LogStream;
 use nut_poll::{ErrorLines, LossyLines};
 use nut_program::{Failure, FileFault, Streams, read_conf, refuse_start};
@@ -45,10 +46,11 @@ use std::time::Clock;
 /// With `-K` nothing is watched: the status is 0 if POWERDOWNFLAG is set, else 1. If the file can be read, but a line
 /// has a fault, that is written to `err`, and the last line POWERDOWNFLAG without a fault counts. With `--check`
 /// nothing is watched either: upsmon reads upsmon.conf, writes what it should set otherwise, prints on `out` how soon
-/// this machine stops, and asks the servers whether their UPSes report LB early enough for that. The status is 0 if the
-/// file has no fault. With `--fsd` nothing is watched either: upsmon sets FSD at the server of each primary MONITOR line,
-/// and writes what became of it, on `out` that it is set and on `err` why it isn't. The status is 0 if all of them
-/// accepted it; without such a line that is written to `err`, with status 1.
+/// this machine stops, logs in at the servers, and asks them whether their UPSes report LB early enough for that. The
+/// status is 0 if the file has no fault, each server lets it log in, and SHUTDOWNCMD and NOTIFYCMD can be run. With
+/// `--fsd` nothing is watched either: upsmon sets FSD at the servers of all primary MONITOR lines at once, and writes what
+/// became of each, on `out` that it is set and on `err` why it isn't or why no machine hears of it. The status is 0 if it
+/// is set on all of them and shown; without such a line that is written to `err`, with status 1.
 ///
 /// When somebody makes the file `reload` in the folder, upsmon reads upsmon.conf again. If the file has a fault, the halt
 /// that it sets can't be prepared, or a shutdown has begun, upsmon says so on `err` and watches as before. A UPS that
@@ -149,7 +151,7 @@ fn read_config(
     files: &impl Files,
     alloc: Global,
     folder: &str,
-) -> Result<UpsmonConf, Failure<UpsmonFault>> {
+) -> Result<MonConfig, Failure<UpsmonFault>> {
     Ok(read_conf(files, alloc, folder)?)
 }
 
@@ -170,7 +172,8 @@ fn is_set(files: &impl Files, flag: &Option<PowerDownFlag>) -> bool {
 }
 
 /// Reads upsmon.conf in this folder, writes what it should set otherwise and how soon its machine stops, tells what is
-/// wrong with POWERDOWNFLAG, and asks the servers whether their UPSes report LB early enough.
+/// wrong with POWERDOWNFLAG and what would keep the machine from stopping, and asks the servers whether their UPSes report
+/// LB early enough. Returns the exit status: 0 if nothing keeps the machine from stopping, else 1.
 fn check_file<R>(
     rt: &R,
     alloc: Global,
@@ -179,17 +182,18 @@ fn check_file<R>(
     err: &mut ErrorLines,
 ) -> Result<u8, Failure<UpsmonFault>>
 where
-    R: Files + Clock + Processes,
+    R: Files + Net + Clock + Processes,
 {
     let config = read_and_warn(rt, alloc, folder, err)?;
     Stopping::of(&config).tell(&mut out)?;
     check_flag(rt, alloc, &config, err)?;
+    let stops = warn_of_hindrances(rt, alloc, &config, err)?;
     check_low_runtimes(rt, alloc, &config, err)?;
-    Ok(0)
+    Ok(u8::from(!stops))
 }
 
-/// Forces the shutdown of the UPSes of the primary lines of upsmon.conf in this folder. Returns the exit status: 0 if all
-/// their servers accepted it, else 1.
+/// Forces the shutdown of the UPSes of the primary lines of upsmon.conf in this folder. Returns the exit status: 0 if it
+/// is set on all of them and their machines are told, else 1.
 fn force<R>(
     rt: &R,
     alloc: Global,
@@ -198,7 +202,7 @@ fn force<R>(
     err: &mut ErrorLines,
 ) -> Result<u8, Failure<UpsmonFault>>
 where
-    R: Wait + Files + Net,
+    R: Files + Net + Clock + Processes,
 {
     let config = read_config(rt, alloc, folder)?;
     let is_forced = force_shutdowns(rt, alloc, &config, streams, err)?;

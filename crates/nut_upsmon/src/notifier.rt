@@ -3,7 +3,7 @@
 use crate::low_runtime::LowRuntimes;
 use crate::notify_command::{Call, NotifyCommand, script_in};
 use crate::shutdown_report::tell_left;
-use nut_conf::{MESSAGE_MAX, TARGET_MAX, UpsmonConf};
+use nut_conf::{MESSAGE_MAX, MonConfig, TARGET_MAX};
 use nut_log::{Level, Lines, LogStream};
 use nut_monitor::{Monitor, Notice};
 use nut_poll::{ErrorLines, LossyLines, OutputLines};
@@ -53,7 +53,7 @@ impl<'a, R: Processes> Notifier<'a, R> {
     /// # Errors
     ///
     /// [`AllocError`] if memory cannot be allocated. Nothing has changed then.
-    pub fn restart(&mut self, config: &UpsmonConf) -> Result<(), AllocError> {
+    pub fn restart(&mut self, config: &MonConfig) -> Result<(), AllocError> {
         let script = script_in(self.alloc, config)?;
         self.runtimes.restart(config)?;
         self.command.set_script(script);
@@ -113,7 +113,7 @@ impl<'a, R: Processes> Notifier<'a, R> {
 }
 
 /// Returns the UPS of a notice as MONITOR has it; empty for SHUTDOWN.
-fn ups_of(config: &UpsmonConf, notice: Notice) -> &[u8] {
+fn ups_of(config: &MonConfig, notice: Notice) -> &[u8] {
     let Some(line) = notice.line else {
         return b"";
     };

@@ -1,7 +1,7 @@
 //! NOTIFYCMD: the command that is run with the text of a notice.
 
 use crate::process_state::is_running;
-use nut_conf::UpsmonConf;
+use nut_conf::MonConfig;
 use nut_poll::{shell_command, text_of, unstopped};
 use std::alloc::{AllocError, Global};
 use std::process::{Child, Command, Processes};
@@ -109,7 +109,7 @@ impl<'r, R: Processes> NotifyCommand<'r, R> {
 /// # Errors
 ///
 /// [`AllocError`] if memory cannot be allocated.
-pub fn script_in(alloc: Global, config: &UpsmonConf) -> Result<Option<String>, AllocError> {
+pub fn script_in(alloc: Global, config: &MonConfig) -> Result<Option<String>, AllocError> {
     match &config.notify_cmd {
         Some(command) => Ok(Some(script_of(alloc, command.as_bytes())?)),
         None => Ok(None),

@@ -1,8 +1,8 @@
 //! POWERDOWNFLAG: the file that tells the system's scripts to have the UPS cut its power.
 
-ghost use Rattle.std.specs.Prelude.{◌≡◌, ◌↔◌, ◌⊎◌, IsTrue};
+ghost use Rattle.std.specs.Prelude.{◌≡◌, ◌↔◌, ◌⊎◌, []};
 
-use nut_conf::UpsmonConf;
+use nut_conf::MonConfig;
 use nut_poll::text_of;
 use std::alloc::{AllocError, Global};
 use std::fs::{File, OpenFile, OpenOptions};
@@ -30,7 +30,9 @@ pub enum FlagState {
     Absent,
     /// The flag: a file with the right contents.
     Set,
-    /// Anything else, which is left unchanged: another file, a folder, a link, a pipe.
+    /// An empty file, whose place the flag may take: nothing is lost with it.
+    Empty,
+    /// Anything else, which is left unchanged: a file with other contents, a directory, a link, a pipe.
     Foreign,
 }
 
@@ -71,7 +73,7 @@ impl PowerDownFlag {
     /// # Errors
     ///
     /// [`AllocError`] if memory cannot be allocated.
-    pub fn of(alloc: Global, config: &UpsmonConf) -> Result<Option<PowerDownFlag>, AllocError> {
+    pub fn of(alloc: Global, config: &MonConfig) -> Result<Option<PowerDownFlag>, AllocError> {
         let Some(path) = &config.power_down_flag else {
             return Ok(None);
         };
@@ -109,15 +111,15 @@ impl PowerDownFlag {
         Ok(found)
     }
 
-    /// Writes the new file that is to become the flag, beside it, unless something has the flag's name already, or that
-    /// cannot be found out.
+    /// Writes the new file that is to become the flag, beside it, unless the flag or something that it may not replace has its
+    /// name already, or that cannot be found out.
     ///
     /// # Errors
     ///
     /// If it cannot be written.
     pub fn make_ready(&self, files: &impl Files) -> io::Result<()> {
         match self.state(files) {
-            Ok(FlagState::Absent) => self.write_fresh(files),
+            Ok(FlagState::Absent | FlagState::Empty) => self.write_fresh(files),
             Ok(FlagState::Set | FlagState::Foreign) | Err(_) => Ok(()),
         }
     }
@@ -137,8 +139,8 @@ impl PowerDownFlag {
         written
     }
 
-    /// Sets the flag: the new file beside it, whose name ends in `.new`, takes its name. If that isn't ready, it is
-    /// written first. It allocates nothing, and doesn't wait until the file is on the disk.
+    /// Sets the flag: the new file beside it, whose name ends in `.new`, takes its name, also from an empty file. If the new
+    /// file isn't ready, it is written first. It allocates nothing, and doesn't wait until the file is on the disk.
     ///
     /// # Errors
     ///
@@ -179,27 +181,36 @@ fn state_of(files: &impl Files, path: &str) -> io::Result<FlagState> {
         Err(error) if error.kind() == ErrorKind::NotFound => return Ok(FlagState::Absent),
         Err(error) => return Err(error),
     };
-    if found.is_file() && holds_flag(files, path, found.len())? {
-        Ok(FlagState::Set)
+    if found.is_file() {
+        state_of_file(files, path, found.len())
     } else {
         Ok(FlagState::Foreign)
     }
 }
 
-/// Whether the file of this name and length is a flag.
-fn holds_flag(files: &impl Files, path: &str, length: u64) -> io::Result<bool> {
+/// Returns what the plain file of this name and length is. An empty one isn't opened: upsmon may not be allowed to read it.
+fn state_of_file(files: &impl Files, path: &str, length: u64) -> io::Result<FlagState> {
     if length > LENGTH as u64 {
-        return Ok(false);
+        return Ok(FlagState::Foreign);
     }
     let mut bytes = [0; LENGTH];
     let bytes = &mut bytes[..length as usize];
-    File::open(files, path)?.read_exact(bytes)?;
-    Ok(is_flag(bytes))
+    if !bytes.is_empty() {
+        File::open(files, path)?.read_exact(bytes)?;
+    }
+    Ok(state_with(bytes))
 }
 
-/// Whether these are the bytes of a flag.
-fn is_flag(bytes: &[u8]) -> bool
-    ensures { IsTrue result ↔ ((bytes.now ≡ LINE.now) ⊎ (bytes.now ≡ WORD.now)) }
+/// Returns what a plain file with these bytes is.
+fn state_with(bytes: &[u8]) -> FlagState
+    ensures set { (result ≡ FlagState.Set) ↔ ((bytes.now ≡ LINE.now) ⊎ (bytes.now ≡ WORD.now)) }
+    ensures empty { (result ≡ FlagState.Empty) ↔ (bytes.now ≡ []) }
 {
-    bytes == LINE || bytes == WORD
+    if bytes == LINE || bytes == WORD {
+        FlagState::Set
+    } else if bytes.is_empty() {
+        FlagState::Empty
+    } else {
+        FlagState::Foreign
+    }
 }

@@ -8,13 +8,11 @@ use crate::beginning::Beginning;
 use crate::changes::{Changes, line_of};
 use crate::starting::tell_start;
 use crate::warning::read_and_warn;
-use nut_conf::{Monitored, UpsdConf, UpsmonConf};
+use nut_conf::{MonConfig, Monitored, UpsdConf};
 use nut_log::{Level, Lines};
 use nut_monitor::{Known, Monitor, Phase};
 use nut_poll::{ErrorLines, Reports, text_of};
-use nut_program::{
-    ConfFile, FileFault, Look, ReloadFile, ReloadReport, Turn, tell_not_reloaded, tell_unread,
-};
+use nut_program::{ConfFile, FileFault, Look, ReloadFile, ReloadReport, Turn, tell_not_reloaded};
 use std::alloc::{AllocError, Global};
 use std::io::Write;
 use std::rt::Files;
@@ -32,14 +30,14 @@ pub struct Reload {
 
 impl Reload {
     /// Makes what the watch of a configuration begins with, and compares it with the former one.
-    fn of(alloc: Global, former: &UpsmonConf, config: UpsmonConf) -> Result<Reload, AllocError> {
+    fn of(alloc: Global, former: &MonConfig, config: MonConfig) -> Result<Reload, AllocError> {
         let beginning = Beginning::of(alloc, config)?;
         let changes = Changes::between(alloc, former, beginning.config())?;
         Ok(Reload { beginning, changes })
     }
 
     /// Returns the configuration.
-    pub fn config(&self) -> &UpsmonConf {
+    pub fn config(&self) -> &MonConfig {
         self.beginning.config()
     }
 }
@@ -156,17 +154,20 @@ impl Reloader {
     /// Refuses the reload that was asked for or that waits, since a shutdown has begun.
     fn refuse(&mut self, is_asked: bool, err: &mut ErrorLines) {
         if self.waiting.take().is_some() || is_asked {
-            tell_not_reloaded(&"a shutdown has begun", err);
+            let _ = writeln!(
+                err.begin(Level::Error),
+                "not reloaded: a shutdown has begun"
+            );
         }
     }
 
     /// Reads upsmon.conf. If it can't be read, or nothing in it has changed, that is told.
-    fn read(&mut self, files: &impl Files, former: &UpsmonConf, err: &mut ErrorLines) {
+    fn read(&mut self, files: &impl Files, former: &MonConfig, err: &mut ErrorLines) {
         self.is_wait_told = false;
         self.waiting = match self.read_reload(files, former, err) {
             Ok(reload) => self.unless_same(reload, err),
             Err(fault) => {
-                tell_unread(&fault, err);
+                tell_not_reloaded(&fault, fault.remark(), err);
                 None
             }
         };
@@ -176,7 +177,7 @@ impl Reloader {
     fn read_reload(
         &self,
         files: &impl Files,
-        former: &UpsmonConf,
+        former: &MonConfig,
         err: &mut ErrorLines,
     ) -> Result<Reload, FileFault<'static>> {
         let config = read_and_warn(files, self.alloc, self.folder.as_str(), err)?;
@@ -231,7 +232,7 @@ fn tell_wait(obstacle: Obstacle<'_>, err: &mut ErrorLines) {
 }
 
 /// Returns the first UPS that holds up a reload to this configuration, of those that it goes on watching.
-fn first_obstacle<'a>(monitor: &'a Monitor, config: &UpsmonConf) -> Option<Obstacle<'a>> {
+fn first_obstacle<'a>(monitor: &'a Monitor, config: &MonConfig) -> Option<Obstacle<'a>> {
     let lines = &monitor.config().monitors.lines;
     for (i, line) in lines.iter().enumerate() {
         if let Some(why) = monitor.known(i).and_then(unrest)

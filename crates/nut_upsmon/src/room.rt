@@ -9,7 +9,7 @@ ghost use Rattle.nut_upsmon.specs.Stopping.{prompt};
 use crate::stopping::{DELAY, Stopping, halts_within, seen_within, stops_within};
 use crate::upsmon_fault::UpsmonFault;
 use crate::warning::Warning;
-use nut_conf::{Monitored, Role, UpsmonConf};
+use nut_conf::{MonConfig, Monitored, Role};
 use nut_log::{Level, Lines, LogStream};
 use nut_monitor::has_primary;
 use nut_monitor_sockets::ANSWER_ON_BATTERY;
@@ -28,7 +28,7 @@ const DRIFT: u64 = 1;
 struct Machine<'a> {
     /// The folder of its upsmon.conf.
     folder: &'a str,
-    config: UpsmonConf,
+    config: MonConfig,
     /// The longest time for an answer there, in seconds.
     delay: u32,
 }
@@ -72,7 +72,7 @@ fn read_machine(
     alloc: Global,
     folder: &str,
     err: &mut ErrorLines,
-) -> Result<UpsmonConf, FileFault<'static>> {
+) -> Result<MonConfig, FileFault<'static>> {
     let read = read_conf(files, alloc, folder);
     if read.is_err() {
         let _ = writeln!(err.begin(Level::Error), "in {folder}:");
@@ -380,19 +380,19 @@ fn forces_within(primary: &Machine<'_>) -> u64
 }
 
 /// Whether a machine has one MONITOR line.
-fn has_one_line(config: &UpsmonConf) -> bool
+fn has_one_line(config: &MonConfig) -> bool
     ensures { result ≡ (length (configuration_of config.now).lines == 1) }
 {
     config.monitors.lines.len() == 1
 }
 
 /// Whether a machine has too little for MINSUPPLIES without the UPSes of which another machine, or itself, is the primary.
-fn needs(machine: &UpsmonConf, primary: &UpsmonConf) -> bool {
+fn needs(machine: &MonConfig, primary: &MonConfig) -> bool {
     supply_without(machine, primary) < u64::from(machine.min_supplies.value)
 }
 
 /// Returns the sum of a machine's power values without those of the UPSes of which another machine is the primary.
-fn supply_without(machine: &UpsmonConf, primary: &UpsmonConf) -> u64 {
+fn supply_without(machine: &MonConfig, primary: &MonConfig) -> u64 {
     let mut sum: u64 = 0;
     for line in &machine.monitors.lines {
         if !leads(primary, line) {
@@ -403,7 +403,7 @@ fn supply_without(machine: &UpsmonConf, primary: &UpsmonConf) -> u64 {
 }
 
 /// Whether a machine is the primary of the UPS of a line. All UPSes are at one server, so the name says which one it is.
-fn leads(primary: &UpsmonConf, line: &Monitored) -> bool {
+fn leads(primary: &MonConfig, line: &Monitored) -> bool {
     primary
         .monitors
         .lines
@@ -412,7 +412,7 @@ fn leads(primary: &UpsmonConf, line: &Monitored) -> bool {
 }
 
 /// Whether a machine is the primary of a UPS of another, or of its own.
-fn leads_some(primary: &UpsmonConf, machine: &UpsmonConf) -> bool {
+fn leads_some(primary: &MonConfig, machine: &MonConfig) -> bool {
     machine
         .monitors
         .lines
@@ -425,7 +425,7 @@ fn is_primary_of(primary: &Monitored, line: &Monitored) -> bool {
 }
 
 /// Whether two lines of a machine name different servers.
-fn has_several_servers(machine: &UpsmonConf) -> bool {
+fn has_several_servers(machine: &MonConfig) -> bool {
     let mut lines = machine.monitors.lines.iter();
     match lines.next() {
         Some(first) => lines.any(|it| it.target.host != first.target.host

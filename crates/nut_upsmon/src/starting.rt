@@ -1,13 +1,13 @@
 //! What is reported when a watch begins.
 
 use crate::stopping::Stopping;
-use nut_conf::{Role, UpsmonConf};
+use nut_conf::{MonConfig, Role};
 use nut_log::{Level, Leveled};
 use nut_poll::{ErrorLines, Reports, text_of};
 use std::fmt;
 
 /// Reports which UPSes are watched, and how soon this machine stops, unless that is to be quiet.
-pub fn tell_start(config: &UpsmonConf, is_quiet: bool, err: &mut ErrorLines) {
+pub fn tell_start(config: &MonConfig, is_quiet: bool, err: &mut ErrorLines) {
     if is_quiet {
         return;
     }
@@ -16,7 +16,7 @@ pub fn tell_start(config: &UpsmonConf, is_quiet: bool, err: &mut ErrorLines) {
 }
 
 /// Reports which UPSes are watched.
-fn tell_watched(config: &UpsmonConf, reports: &mut Reports<'_>) {
+fn tell_watched(config: &MonConfig, reports: &mut Reports<'_>) {
     for monitored in &config.monitors.lines {
         reports.tell(Watched {
             target: text_of(&monitored.written),

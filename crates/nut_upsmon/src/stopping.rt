@@ -6,7 +6,7 @@ ghost use Rattle.nut_monitor_spec.specs.Configuration.{configuration_of, line_of
 ghost use Rattle.nut_in_time.specs.InTime.{seen_by, to_halted};
 ghost use Rattle.nut_upsmon.specs.Stopping.{begins_within, bound, is_led, prompt, stops_within as seconds_of};
 
-use nut_conf::{Monitored, Role, UpsmonConf};
+use nut_conf::{MonConfig, Monitored, Role};
 use nut_log::{Level, Lines};
 use nut_monitor::has_primary;
 use nut_monitor_sockets::ANSWER_ON_BATTERY;
@@ -39,18 +39,18 @@ impl fmt::Display for Stopping {
 
 impl Stopping {
     /// Returns how soon the machine of this configuration stops, if each answer comes within [`DELAY`] seconds.
-    pub fn of(config: &UpsmonConf) -> Stopping {
+    pub fn of(config: &MonConfig) -> Stopping {
         Stopping::within(config, seconds_within(config, DELAY), DELAY)
     }
 
     /// Returns how soon the machine of this configuration stops, if each answer comes within `delay` seconds: `None` if
     /// upsmon doesn't wait so long.
-    pub fn with_delay(config: &UpsmonConf, delay: u32) -> Option<Stopping> {
+    pub fn with_delay(config: &MonConfig, delay: u32) -> Option<Stopping> {
         let seconds = stops_within(config, delay)?;
         Some(Stopping::within(config, seconds, delay))
     }
 
-    fn within(config: &UpsmonConf, seconds: u64, delay: u32) -> Stopping {
+    fn within(config: &MonConfig, seconds: u64, delay: u32) -> Stopping {
         if config.min_supplies.value == 0 {
             Stopping::Never
         } else {
@@ -74,7 +74,7 @@ impl Stopping {
 ///
 /// `None` if `delay` is above [`ANSWER_ON_BATTERY`]: then upsmon may give the server up before its answer comes, and no bound
 /// is known.
-pub fn stops_within(config: &UpsmonConf, delay: u32) -> Option<u64>
+pub fn stops_within(config: &MonConfig, delay: u32) -> Option<u64>
     ensures { result ≡ bound (configuration_of config.now) delay }
 {
     if delay > u32::from(ANSWER_ON_BATTERY) {
@@ -84,14 +84,14 @@ pub fn stops_within(config: &UpsmonConf, delay: u32) -> Option<u64>
 }
 
 /// Returns the seconds of [`stops_within`] for a delay that upsmon waits for.
-fn seconds_within(config: &UpsmonConf, delay: u32) -> u64
+fn seconds_within(config: &MonConfig, delay: u32) -> u64
     ensures { result ≡ seconds_of (configuration_of config.now) (prompt delay) }
 {
     begins_within(config, delay) + halts_within(config)
 }
 
 /// Returns the most seconds from the moment at which the server shows OB and LB to the beginning of the shutdown.
-fn begins_within(config: &UpsmonConf, delay: u32) -> u64
+fn begins_within(config: &MonConfig, delay: u32) -> u64
     ensures seconds { result ≡ begins_within (configuration_of config.now) (prompt delay) }
     ensures fits { result < 2 ^ 34 }
 {
@@ -104,7 +104,7 @@ fn begins_within(config: &UpsmonConf, delay: u32) -> u64
 }
 
 /// Returns the most seconds from the moment at which the server shows OB and LB to the moment at which upsmon knows it.
-pub fn seen_within(config: &UpsmonConf, delay: u32) -> u64
+pub fn seen_within(config: &MonConfig, delay: u32) -> u64
     ensures seconds { result ≡ seen_by (configuration_of config.now) (prompt delay) 0 }
     ensures fits { result < 2 ^ 33 }
 {
@@ -112,7 +112,7 @@ pub fn seen_within(config: &UpsmonConf, delay: u32) -> u64
 }
 
 /// Returns how many seconds pass at most from the beginning of the shutdown to the halt, however long an answer takes.
-pub fn halts_within(config: &UpsmonConf) -> u64
+pub fn halts_within(config: &MonConfig) -> u64
     ensures seconds { result ≡ to_halted (configuration_of config.now) (prompt 0) }
     ensures fits { result < 2 ^ 34 }
 {
@@ -125,7 +125,7 @@ pub fn halts_within(config: &UpsmonConf) -> u64
 }
 
 /// Whether some line feeds this machine and has another machine as its primary.
-fn is_led(config: &UpsmonConf) -> bool
+fn is_led(config: &MonConfig) -> bool
     ensures { result ≡ list_any is_led (configuration_of config.now).lines }
 {
     any_led(config.monitors.lines.as_slice())

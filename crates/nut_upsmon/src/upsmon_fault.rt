@@ -3,7 +3,7 @@
 use crate::halt::HaltFault;
 use nut_log::LogStream;
 use nut_poll::ErrorLines;
-use nut_program::{Failure, FileFault, OwnFault};
+use nut_program::{Failure, FileFault, OwnFault, UNKNOWN_OPTION};
 use std::fmt;
 use std::io::Stdout;
 
@@ -14,6 +14,8 @@ pub enum UpsmonFault {
     File(FileFault<'static>),
     /// This word isn't `FOLDER=SECONDS`, or names a folder that isn't checked.
     BadDelay(String),
+    /// The command line has the option `-c` by which NUT's upsmon commands one that runs.
+    NutsCommand,
     /// No MONITOR line of upsmon.conf is primary, so this machine may force no shutdown.
     NoPrimary,
     /// The machine wasn't halted.
@@ -28,6 +30,10 @@ impl fmt::Display for UpsmonFault {
                 f,
                 "--delay {word}: DIR=SECONDS is meant, with a DIR that is checked"
             ),
+            UpsmonFault::NutsCommand => write!(
+                f,
+                "-c isn't an option here: upsmon --fsd stands for -c fsd, systemctl reload mulgefa-upsmon for -c reload"
+            ),
             UpsmonFault::NoPrimary => write!(f, "upsmon.conf: no MONITOR line is primary"),
             UpsmonFault::Halt(fault) => write!(f, "{fault}"),
         }
@@ -38,6 +44,7 @@ impl OwnFault for UpsmonFault {
     fn remark(&self) -> Option<&str> {
         match self {
             UpsmonFault::File(fault) => fault.remark(),
+            UpsmonFault::NutsCommand => Some(UNKNOWN_OPTION),
             UpsmonFault::BadDelay(_) | UpsmonFault::NoPrimary | UpsmonFault::Halt(_) => None,
         }
     }
@@ -61,5 +68,9 @@ pub fn tell_failure(
     mut out: LogStream<Stdout>,
     told: &mut ErrorLines,
 ) -> u8 {
-    failure.tell_of_nuts(&mut out, told)
+    let status = failure.tell_of_nuts(&mut out, told);
+    match failure {
+        Failure::Own(UpsmonFault::NutsCommand) => 2,
+        _ => status,
+    }
 }

@@ -3,7 +3,7 @@
 ghost use Rattle.std.specs.Prelude.{◌↔◌, ◌≡◌, ◌<◌, ◌+◌, IsSome, None};
 
 use crate::stopping::DELAY;
-use nut_conf::UpsmonConf;
+use nut_conf::MonConfig;
 use nut_poll::ErrorLines;
 use nut_program::{FileFault, read_conf, readable_file, warn};
 use std::alloc::{AllocError, Global};
@@ -48,7 +48,7 @@ impl fmt::Display for Warning {
 
 impl Warning {
     /// Returns what an operator should set otherwise, in the order in which it is told.
-    pub fn all_of(config: &UpsmonConf) -> [Option<Warning>; 3] {
+    pub fn all_of(config: &MonConfig) -> [Option<Warning>; 3] {
         [
             Warning::of_shutdown_command(config),
             Warning::of_dead_time(config),
@@ -57,7 +57,7 @@ impl Warning {
     }
 
     /// Warns if no command is set to halt the machine with.
-    pub fn of_shutdown_command(config: &UpsmonConf) -> Option<Warning>
+    pub fn of_shutdown_command(config: &MonConfig) -> Option<Warning>
         ensures { IsSome result ↔ (config.now.shutdown_cmd ≡ None) }
     {
         match config.shutdown_cmd {
@@ -67,7 +67,7 @@ impl Warning {
     }
 
     /// Warns if POLLFREQ and the [`DELAY`] of an answer are together greater than DEADTIME.
-    pub fn of_dead_time(config: &UpsmonConf) -> Option<Warning>
+    pub fn of_dead_time(config: &MonConfig) -> Option<Warning>
         ensures { IsSome result ↔ (config.now.dead_time.value < config.now.poll_freq.value + 2) }
     {
         let poll_freq = config.poll_freq.value;
@@ -82,7 +82,7 @@ impl Warning {
     }
 
     /// Warns if POLLFREQ is greater than HOSTSYNC.
-    pub fn of_host_sync(config: &UpsmonConf) -> Option<Warning>
+    pub fn of_host_sync(config: &MonConfig) -> Option<Warning>
         ensures { IsSome result ↔ (config.now.host_sync.value < config.now.poll_freq.value) }
     {
         let poll_freq = config.poll_freq.value;
@@ -107,7 +107,7 @@ pub fn read_and_warn(
     alloc: Global,
     folder: &str,
     err: &mut ErrorLines,
-) -> Result<UpsmonConf, FileFault<'static>> {
+) -> Result<MonConfig, FileFault<'static>> {
     let config = read_conf(files, alloc, folder)?;
     match tell_warnings(files, alloc, folder, &config, err) {
         Ok(()) => Ok(config),
@@ -120,10 +120,10 @@ fn tell_warnings(
     files: &impl Files,
     alloc: Global,
     folder: &str,
-    config: &UpsmonConf,
+    config: &MonConfig,
     err: &mut ErrorLines,
 ) -> Result<(), AllocError> {
-    warn(readable_file::<UpsmonConf>(files, alloc, folder)?, err);
+    warn(readable_file::<MonConfig>(files, alloc, folder)?, err);
     for warning in Warning::all_of(config) {
         warn(warning, err);
     }

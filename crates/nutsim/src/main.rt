@@ -1,16 +1,20 @@
 //! Plays a room of UPSes in memory: one server and its monitors.
 #![tactic(auto)]
 
-use nut_log::LogStream;
+use nut_program::{NamedLines, refuse_start};
+use nut_simulator::{run_nutsim, run_nutsim_on_terminal};
+use std::io::IsTerminal;
 use std::process::ExitCode;
 use std::{env, io};
 
 fn main(rt: HostRuntime) -> ExitCode {
-    let out = LogStream::named("nutsim", rt.stdout());
-    let mut err = LogStream::named("nutsim", rt.stderr());
+    let (mut out, mut err) = (rt.stdout(), rt.stderr());
     let status = match words(&rt) {
-        Ok(words) => nut_simulator::run_nutsim(&rt, rt.alloc(), words.as_slice(), out, err),
-        Err(error) => nut_program::refuse_start(&error, &mut err),
+        Ok(words) if err.is_terminal() => {
+            run_nutsim_on_terminal(&rt, rt.alloc(), words.as_slice(), &mut out, &mut err)
+        }
+        Ok(words) => run_nutsim(&rt, rt.alloc(), words.as_slice(), &mut out, &mut err),
+        Err(error) => refuse_start(&error, &mut NamedLines::new("nutsim", &mut err)),
     };
     ExitCode::from(status)
 }

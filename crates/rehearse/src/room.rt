@@ -14,7 +14,7 @@ use crate::answer::{Answer, put_made};
 use crate::server::read_config;
 use crate::stage::Stage;
 use crate::text::{Step, shown};
-use nut_conf::{UpsmonConf, read_upsmon};
+use nut_conf::{MonConfig, read_upsmon};
 use nut_monitor::{Notice, Phase};
 use nut_play::{Fleet, FleetFault, FleetLog, Logged, News, Step as RoomStep, read_step};
 use std::alloc::Global;
@@ -24,7 +24,7 @@ use std::mem;
 #[derive(Drop)]
 pub struct Rooms {
     fleet: Option<Fleet>,
-    monitors: Vec<UpsmonConf>,
+    monitors: Vec<MonConfig>,
     schedule: Vec<RoomStep>,
 }
 
@@ -72,7 +72,7 @@ fn call(alloc: Global, fleet: &mut Fleet, schedule: &mut Vec<RoomStep>, out: &mu
 }
 
 /// Adds a monitor to the next room.
-fn add_monitor(alloc: Global, file: &[u8], monitors: &mut Vec<UpsmonConf>, out: &mut Answer) {
+fn add_monitor(alloc: Global, file: &[u8], monitors: &mut Vec<MonConfig>, out: &mut Answer) {
     match read_upsmon(alloc, file) {
         Ok(config) => out.put_growth(monitors.push(config).is_ok()),
         Err(fault) => write!(out, "{fault}"),

@@ -23,7 +23,7 @@ use crate::failing_mon_world::FailingMonWorld;
 use crate::serving::piece_of;
 use crate::stage::Stage;
 use crate::text::Step;
-use nut_conf::{UpsmonConf, read_upsmon};
+use nut_conf::{MonConfig, read_upsmon};
 use nut_io::ServeFault;
 use nut_monitor::{Monitor, Notice, Phase};
 use nut_monitor_loop::{Given, MemoryMonWorld, Note, watch, watch_memory};
@@ -87,7 +87,7 @@ fn monitor_of(stage: &mut Stage, file: &[u8]) -> Option<Monitor>
     }
 }
 
-fn make(stage: &mut Stage, config: UpsmonConf) -> Option<Monitor>
+fn make(stage: &mut Stage, config: MonConfig) -> Option<Monitor>
     ensures { IfSome result (λ m. m.content ≡ content m.content.configuration []) }
 {
     match Monitor::new(stage.alloc, config) {

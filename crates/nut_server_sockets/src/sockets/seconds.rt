@@ -127,6 +127,9 @@ impl Sockets {
 fn tell_staleness(driver: &mut Driver, is_stale: bool, reports: &mut Reports<'_>) {
     if driver.note_staleness(is_stale) {
         reports.tell(staleness(driver.name(), is_stale));
+        if !is_stale {
+            driver.warn_if_forced(reports);
+        }
     }
 }
 

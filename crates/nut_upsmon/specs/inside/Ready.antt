@@ -1,7 +1,7 @@
 -- What holds while upsmon watches.
 use Rattle.std.specs.Prelude.{◌≡◌, Bool, List, Option, Some, IfSome}
 use Rattle.std.specs.List.{AllByRecursion}
-use Rattle.nut_conf.specs.declared.upsmon.UpsmonConf.{UpsmonConf}
+use Rattle.nut_conf.specs.declared.upsmon.MonConfig.{MonConfig}
 use Rattle.nut_monitor_spec.specs.declared.Phase.{Phase}
 use Rattle.nut_monitor_spec.specs.declared.Phase.TheVariants.{Halted}
 use Rattle.nut_upsmon.specs.declared.beginning.Beginning.{Beginning}
@@ -11,12 +11,12 @@ use Rattle.nut_upsmon.specs.Acts.{Act, ClearsFirst, IsHalted, IsQuiet, readied, 
 
 -- Nothing of a halt was done, this configuration is in force, if the next watch has its beginning, its configuration was
 -- readied last, and before all else a flag that was left was removed.
-abbrev pub IsReadyIn : Option Beginning → UpsmonConf → List Act → Type 0
+abbrev pub IsReadyIn : Option Beginning → MonConfig → List Act → Type 0
 IsReadyIn next config acts =
     AllByRecursion IsQuiet acts × (in_force acts ≡ Some config) × IfSome next (λ b. readied acts ≡ Some b.monitor.config)
     × ClearsFirst acts
 
-abbrev pub IsReady : Option (List Act) → Option Beginning → UpsmonConf → Type 0
+abbrev pub IsReady : Option (List Act) → Option Beginning → MonConfig → Type 0
 IsReady log next config = IfSome log (IsReadyIn next config)
 
 -- What holds after a watch: the machine was halted as it has to be, or the configuration of another watch is in force.

@@ -1,7 +1,7 @@
 -- How what is told grows.
 use Rattle.std.specs.Prelude.{◌≡◌, ℕ, Bool, true, false, List, [], ◌∷◌, ◌++◌, if◌then◌else◌, Option, Some, None, option_map, refl}
 use Rattle.std.proofs.Common.{sym, ◌∙◌, ap}
-use Rattle.nut_conf.specs.declared.upsmon.UpsmonConf.{UpsmonConf}
+use Rattle.nut_conf.specs.declared.upsmon.MonConfig.{MonConfig}
 use Rattle.nut_conf.specs.Upsmon.{flags_of}
 use Rattle.nut_monitor.specs.Texts.{text_of}
 use Rattle.nut_monitor_spec.specs.declared.Notice.{Notice}
@@ -18,21 +18,21 @@ use Rattle.nut_upsmon.specs.Acts.{Act, TriedFlag, RanShutdown, called, does, is_
 use Rattle.nut_upsmon.specs.Course.{IsWatch, Watch, tellings, told_all}
 use Rattle.nut_upsmon.specs.inside.Ready.{IsReady}
 
-told_all-append : (config : UpsmonConf) (xs ys : List Notice) (acts : Option (List Act))
+told_all-append : (config : MonConfig) (xs ys : List Notice) (acts : Option (List Act))
     → told_all config (xs ++ ys) acts ≡ told_all config ys (told_all config xs acts)
 told_all-append config [] ys acts = refl
 told_all-append config (x ∷ xs) ys acts = told_all-append config xs ys (told config x acts)
 
 -- Notices were told between two histories: what held before holds still, and no other act tells.
-abbrev pub Tells : UpsmonConf → Option (List Act) → Option Beginning → Option (List Act) → Option Beginning → List Notice → Type 0
+abbrev pub Tells : MonConfig → Option (List Act) → Option Beginning → Option (List Act) → Option Beginning → List Notice → Type 0
 Tells config before next after next' given =
     (IsReady before next config → IsReady after next' config)
     × (option_map tellings after ≡ told_all config given (option_map tellings before))
 
-pub tells_self : (config : UpsmonConf) (acts : Option (List Act)) (next : Option Beginning) → Tells config acts next acts next []
+pub tells_self : (config : MonConfig) (acts : Option (List Act)) (next : Option Beginning) → Tells config acts next acts next []
 tells_self config acts next = (λ ready. ready, refl)
 
-pub tells_on : (config : UpsmonConf) (a b c : Option (List Act)) (n n' n'' : Option Beginning) (xs ys : List Notice)
+pub tells_on : (config : MonConfig) (a b c : Option (List Act)) (n n' n'' : Option Beginning) (xs ys : List Notice)
     → Tells config a n b n' xs → Tells config b n' c n'' ys → Tells config a n c n'' (xs ++ ys)
 tells_on config a b c n n' n'' xs ys first second = (
   λ ready. second.0 (first.0 ready),
@@ -41,7 +41,7 @@ tells_on config a b c n n' n'' xs ys first second = (
 
 -- A monitor of this configuration was told some events, and said this phase at last. What its world did meanwhile has all
 -- notices of these events.
-abbrev pub IsWhole : UpsmonConf → (List Entry → Type 0) → Phase → Type 0
+abbrev pub IsWhole : MonConfig → (List Entry → Type 0) → Phase → Type 0
 IsWhole config Did phase =
     (events : List Event) × (entries : List Entry) × Did entries × IsAccepted (configuration_of config) events
     × (handed entries ≡ notices (trace (configuration_of config) events)) × (phase ≡ phase_of (content (configuration_of config) events))
@@ -75,7 +75,7 @@ told_of false true notice text None = refl
 told_of false true notice text (Some acts) = refl
 told_of false false notice text acts = refl
 
-pub told_one : (before after : Option (List Act)) (config : UpsmonConf) (notice : Notice) → after ≡ told config notice before
+pub told_one : (before after : Option (List Act)) (config : MonConfig) (notice : Notice) → after ≡ told config notice before
     → option_map tellings after ≡ told_all config (notice ∷ []) (option_map tellings before)
 told_one before after config notice same =
     let flags = flags_of notice.kind config in

@@ -9,7 +9,7 @@ returns c =
     let name = c.args.name.now in
     let value = c.args.value.now in
     let a : c.extend_from_slice.new.self.items ≡ out ++ codes "SETINFO " = c.in_ok-extend_from_slice.ensures.items in
-    let b : c.put_word.new.out.items ≡ (out ++ codes "SETINFO ") ++ word_text name = c.in_ok-put_word.ensures.ok ∙ ap (λ t. t ++ word_text name) a in
+    let b : c.append_word.new.out.items ≡ (out ++ codes "SETINFO ") ++ word_text name = c.in_ok-append_word.ensures.ok ∙ ap (λ t. t ++ word_text name) a in
     let d : c.push.new.self.items ≡ ((out ++ codes "SETINFO ") ++ word_text name) ++ 32 ∷ [] = c.in_ok-push.ensures.items ∙ ap (λ t. t ++ 32 ∷ []) b in
-    let e : c.put_quoted.new.out.items ≡ (((out ++ codes "SETINFO ") ++ word_text name) ++ 32 ∷ []) ++ quoted value = c.in_ok-put_quoted.ensures.ok ∙ ap (λ t. t ++ quoted value) d in
+    let e : c.append_quoted.new.out.items ≡ (((out ++ codes "SETINFO ") ++ word_text name) ++ 32 ∷ []) ++ quoted value = c.in_ok-append_quoted.ensures.ok ∙ ap (λ t. t ++ quoted value) d in
     c.in_ok-push-2.ensures.items ∙ ap (λ t. t ++ 10 ∷ []) e ∙ put_together out name value

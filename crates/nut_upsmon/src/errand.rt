@@ -1,0 +1,299 @@
+//! What is asked at the servers of MONITOR lines, at all of them at once.
+
+use nut_client::{Failure, MemoryStream, Text, Wanted, ask_server, force_shutdown, log_in};
+use nut_conf::{Monitored, Role};
+use nut_io::{Piece, Written};
+use nut_monitor_sockets::{Visited, Visits};
+use nut_poll::text_of;
+use nut_proto::Word;
+use std::alloc::{AllocError, Global};
+use std::net::Net;
+use std::process::Processes;
+use std::time::Clock;
+use std::{fmt, io};
+
+/// The flag of a status that shows a forced shutdown.
+const FORCED: &[u8] = b"FSD";
+
+/// What is asked at a server.
+#[derive(Clone, Copy, PartialEq, Eq)]
+pub enum Errand {
+    /// FSD, and then whether the UPS shows it. Only lines of a primary are concerned.
+    Force,
+    /// A login.
+    LogIn,
+}
+
+/// Why an errand wasn't done, or not all of it.
+#[derive(Drop)]
+pub enum Shortfall {
+    /// The server wasn't reached.
+    Unreached(io::Error),
+    /// This query failed.
+    Failed(&'static str, Failure),
+    /// FSD is set, but no status shows it, for this reason.
+    Untold(Failure),
+    /// FSD is set, but the status is this one.
+    Unshown(Text),
+}
+
+impl fmt::Display for Shortfall {
+    fn fmt<W: fmt::Write>(&self, f: &mut fmt::Formatter<W>) -> fmt::Result {
+        match self {
+            Shortfall::Unreached(error) => write!(f, "connection failed: {error}"),
+            Shortfall::Failed(query, Failure::Refused(name)) => {
+                write!(f, "{query} refused: {}", text_of(name.as_bytes()))
+            }
+            Shortfall::Failed(_, failure) => write!(f, "{}", text_of(failure.reason())),
+            Shortfall::Untold(Failure::Refused(name)) => write!(
+                f,
+                "its machines aren't told: {}; they stop once the driver is back",
+                text_of(name.as_bytes())
+            ),
+            Shortfall::Untold(failure) => write!(
+                f,
+                "whether its machines are told isn't known: {}",
+                text_of(failure.reason())
+            ),
+            Shortfall::Unshown(status) => write!(
+                f,
+                "its machines aren't told: its status is {}",
+                text_of(status.as_bytes().trim_ascii())
+            ),
+        }
+    }
+}
+
+/// Who hears how an errand ended.
+pub trait Teller {
+    /// Tells how the errand at the server of this line ended.
+    fn tell(&mut self, line: &Monitored, ended: &Result<(), Shortfall>);
+}
+
+impl Errand {
+    /// Whether the server of this line is asked.
+    fn concerns(self, line: &Monitored) -> bool {
+        self == Errand::LogIn || line.role == Role::Primary
+    }
+
+    /// Does the errand over a connection.
+    ///
+    /// # Errors
+    ///
+    /// What is missing. After `ConnectionLost` the end of the connection was met.
+    fn carry_out(
+        self,
+        clock: &impl Clock,
+        alloc: Global,
+        line: &Monitored,
+        stream: &mut MemoryStream<'_>,
+    ) -> Result<(), Shortfall> {
+        let ups = Word::new(line.target.ups.as_bytes());
+        let user = Word::new(line.user.as_bytes());
+        let password = Word::new(line.password.as_bytes());
+        let asked = match self {
+            Errand::Force => force_shutdown(alloc, ups.copy(), user, password, stream),
+            Errand::LogIn => log_in(alloc, ups.copy(), user, password, stream),
+        };
+        match asked {
+            Ok(()) if self == Errand::Force => look_at_status(clock, alloc, ups, stream),
+            Ok(()) => Ok(()),
+            Err(failure) => Err(Shortfall::Failed(last_query(stream.asked()), failure)),
+        }
+    }
+}
+
+/// Asks whether the status of a UPS shows its forced shutdown.
+fn look_at_status(
+    clock: &impl Clock,
+    alloc: Global,
+    ups: Word<'_>,
+    stream: &mut MemoryStream<'_>,
+) -> Result<(), Shortfall> {
+    let status = Wanted::Value(Word::new(b"ups.status"));
+    match ask_server(clock, alloc, ups, status, stream) {
+        Ok(status) if shows_forced(status.as_bytes()) => Ok(()),
+        Ok(status) => Err(Shortfall::Unshown(status)),
+        Err(failure) => Err(Shortfall::Untold(failure)),
+    }
+}
+
+/// Whether a status shows a forced shutdown.
+fn shows_forced(status: &[u8]) -> bool {
+    let mut flags = status.split(|byte| byte.is_ascii_whitespace());
+    flags.any(|flag| flag == FORCED)
+}
+
+/// Returns the name of the last of these queries.
+fn last_query(asked: &[u8]) -> &'static str {
+    match asked.iter().filter(|byte| **byte == b'\n').count() {
+        1 => "USERNAME",
+        2 => "PASSWORD",
+        3 => "LOGIN",
+        4 => "PRIMARY",
+        _ => "FSD",
+    }
+}
+
+/// What was said to a server and by it.
+#[derive(Drop)]
+struct Talk {
+    /// What the server sent.
+    heard: Vec<u8>,
+    /// How many bytes it is to be asked, as far as is known.
+    asked: usize,
+    /// How many of them it took.
+    sent: usize,
+    /// Whether it was reached.
+    is_up: bool,
+}
+
+impl Talk {
+    /// Continues an errand with the next piece of what the server sent. Returns how the errand ended if it has.
+    ///
+    /// The errand is done anew from its beginning, over all that the server sent so far. If that ends too early, the server
+    /// has more to say, once it was sent what it was asked.
+    fn go_on<R: Net + Clock + Processes>(
+        &mut self,
+        errand: Errand,
+        rt: &R,
+        alloc: Global,
+        visits: &mut Visits<'_, R>,
+        i: usize,
+        line: &Monitored,
+        piece: &Piece,
+    ) -> Option<Result<(), Shortfall>> {
+        self.is_up = true;
+        if self.heard.extend_from_slice(piece.as_slice()).is_err() {
+            return Some(Err(Shortfall::Failed("", Failure::Memory)));
+        }
+        let mut stream = MemoryStream::new(alloc, self.heard.as_slice(), 1);
+        let ended = errand.carry_out(rt, alloc, line, &mut stream);
+        if stream.is_lost() {
+            return Some(Err(Shortfall::Failed("", Failure::Memory)));
+        }
+        let asked = stream.asked();
+        if asked.len() > self.asked {
+            self.asked = asked.len();
+            visits.renew(i);
+        }
+        if let Some(left) = asked.get(self.sent..)
+            && !left.is_empty()
+            && let Written::Took(count) = visits.offer(i, left)
+        {
+            self.sent = self.sent.saturating_add(count);
+        }
+        if is_waiting(&ended) || (ended.is_ok() && self.sent < self.asked) {
+            return None;
+        }
+        Some(ended)
+    }
+
+    /// Returns how an errand ended whose connection did, for this reason.
+    fn break_off(
+        &self,
+        errand: Errand,
+        clock: &impl Clock,
+        alloc: Global,
+        line: &Monitored,
+        error: io::Error,
+    ) -> Result<(), Shortfall> {
+        if !self.is_up {
+            return Err(Shortfall::Unreached(error));
+        }
+        let mut stream = MemoryStream::new(alloc, self.heard.as_slice(), 1);
+        match errand.carry_out(clock, alloc, line, &mut stream) {
+            Ok(()) => Err(Shortfall::Failed("", Failure::ConnectionLost)),
+            Err(shortfall) => Err(shortfall),
+        }
+    }
+}
+
+/// Whether an errand can be done further once the server has sent more.
+fn is_waiting(ended: &Result<(), Shortfall>) -> bool {
+    matches!(
+        ended,
+        Err(
+            Shortfall::Failed(_, Failure::ConnectionLost)
+                | Shortfall::Untold(Failure::ConnectionLost)
+        )
+    )
+}
+
+/// Does an errand at the servers of all lines that it concerns, at once, and tells of each how it ended as soon as it has.
+/// A server that isn't reached, or takes longer than 10 seconds for an answer, keeps nobody else waiting. Returns for each
+/// line whether all was done.
+///
+/// # Errors
+///
+/// A lack of memory or descriptors before any server was called; later the error of the wait or of the clock.
+pub fn run_errand<R: Net + Clock + Processes>(
+    errand: Errand,
+    rt: &R,
+    alloc: Global,
+    lines: &[Monitored],
+    teller: &mut impl Teller,
+) -> io::Result<Vec<bool>> {
+    let mut visits = Visits::new(rt, alloc, lines)?;
+    let mut talks = talks_of(alloc, lines)?;
+    let mut done = Vec::new(alloc);
+    for (i, line) in lines.iter().enumerate() {
+        done.push(false)?;
+        if !errand.concerns(line) {
+            visits.end(i);
+        }
+    }
+    let mut piece = Piece::new();
+    for _ in 0..u64::MAX {
+        let Some(visited) = visits.next(&mut piece)? else {
+            break;
+        };
+        let i = match &visited {
+            Visited::Came(i) | Visited::Lost(i, _) => *i,
+        };
+        let (Some(talk), Some(line)) = (talks.get_mut(i), lines.get(i)) else {
+            continue;
+        };
+        let ended = match visited {
+            Visited::Came(i) => talk.go_on(errand, rt, alloc, &mut visits, i, line, &piece),
+            Visited::Lost(_, error) => Some(talk.break_off(errand, rt, alloc, line, error)),
+        };
+        if let Some(ended) = ended {
+            leave(&mut visits, i, &ended);
+            teller.tell(line, &ended);
+            if let Some(is_done) = done.get_mut(i) {
+                *is_done = ended.is_ok();
+            }
+        }
+    }
+    Ok(done)
+}
+
+/// Ends a visit: a server where the user is logged in is told so.
+fn leave<R: Net + Clock + Processes>(
+    visits: &mut Visits<'_, R>,
+    i: usize,
+    ended: &Result<(), Shortfall>,
+) {
+    match ended {
+        Ok(()) | Err(Shortfall::Untold(_) | Shortfall::Unshown(_)) => {
+            let _ = visits.offer(i, b"LOGOUT\n");
+        }
+        Err(Shortfall::Unreached(_) | Shortfall::Failed(_, _)) => {}
+    }
+    visits.end(i);
+}
+
+/// Returns the talks with the servers of these lines, before anything was said.
+fn talks_of(alloc: Global, lines: &[Monitored]) -> Result<Vec<Talk>, AllocError> {
+    let mut talks = Vec::new(alloc);
+    for _ in lines {
+        talks.push(Talk {
+            heard: Vec::new(alloc),
+            asked: 0,
+            sent: 0,
+            is_up: false,
+        })?;
+    }
+    Ok(talks)
+}
