@@ -308,9 +308,9 @@ class Tests:
         """It says which machines have to stop in time, which keep running, and about which nothing is promised."""
         path = self.room("machine m1 both.conf delay 0 1\nmachine m2 m2.conf delay 0 1\nmachine m3 m2.conf delay 0 5\n" + LOW)
         lines = self.printed("-n", "2", path).splitlines()
-        ensure("  m1  goes on: its UPSes are neither low nor forced, and DEADTIME is long enough" in lines, lines)
+        ensure("  m1  keeps running: its UPSes are neither low nor forced, and DEADTIME is long enough" in lines, lines)
         rows = {it.split()[0]: it.split()[2:] for it in lines if it.startswith(("m1 ", "m2 ", "m3 "))}
-        expect((rows["m1"], rows["m2"][6], rows["m3"][6]), (["-"] * 6 + ["goes", "on"], "42", "46"), "the table")
+        expect((rows["m1"], rows["m2"][6], rows["m3"][6]), (["-"] * 6 + ["keeps", "running"], "42", "46"), "the table")
         for line in ("is enough for m2 (13)", "may be too short for m3 (17)"):
             ensure(f"HOSTSYNC 15 of m1 {line}; in brackets what is enough" in lines, lines)
         cut = self.printed("-n", "4", self.room(f"{PAIR}{LOW}at 15 m2 cut\n")).splitlines()
@@ -321,7 +321,7 @@ class Tests:
         sums = "4 * delay 2 + delay 2 + HOSTSYNC 15 + 1 + FINALDELAY 5 = 31"
         ensure(f"      once its links are back, and these UPSes are shown so: halted within {sums} s" in back, back)
         online = self.printed("-n", "2", self.room(f"{PAIR}at 5 su700 OB\nat 15 m2 cut\nat 8 su700 OL\n")).splitlines()
-        ensure("  m1  goes on: its UPSes are neither low nor forced, and DEADTIME is long enough" in online and "  m2  nothing is said of it" in online, online)
+        ensure("  m1  keeps running: its UPSes are neither low nor forced, and DEADTIME is long enough" in online and "  m2  nothing is said of it" in online, online)
         ensure("  nobody: 2 of 2" in online, online)
 
     def test_host_sync_that_is_too_short(self):
@@ -419,7 +419,7 @@ class Tests:
         aside = "21 s of its last status, if its UPSes were at one server"
         for changes, said in (
             ("at 5 su700@m1 OB\nat 5 su700@m2 OB\nat 15 m3 cut\n", f"cut off on battery: halted within DEADTIME 15 + 1 + FINALDELAY 5 = {aside}"),
-            ("at 5 su700@m1 OB\n", "  m3  goes on: its UPSes are neither low nor forced, and DEADTIME is long enough, if its UPSes were at one server"),
+            ("at 5 su700@m1 OB\n", "  m3  keeps running: its UPSes are neither low nor forced, and DEADTIME is long enough, if its UPSes were at one server"),
         ):
             out = self.printed("-n", "2", self.room(text.partition("battery")[0] + changes, config={"m1": CONFIG, "m2": CONFIG}, files=files))
             ensure(said in out, f"{said!r} isn't printed: {out}")

@@ -95,13 +95,13 @@ def seed_of_runs(word):
 
 
 def arguments(words):
-    parser = argparse.ArgumentParser(prog="nutroom", description="Plays a power failure in a room many times, and tells when each machine stops.", add_help=False)
+    parser = argparse.ArgumentParser(prog="nutroom", description="Simulates a power failure in a room many times, and shows when each machine halts.", add_help=False)
     parser.add_argument("room", metavar="ROOM", help="the file that describes the room")
     parser.add_argument("-n", dest="count", metavar="RUNS", type=count_of_runs, default=100, help="how many runs; 100")
-    parser.add_argument("-s", dest="seed", metavar="SEED", type=seed_of_runs, help="the seed of all that is random; without it a new one, which is told")
+    parser.add_argument("-s", dest="seed", metavar="SEED", type=seed_of_runs, help="the seed of all that is random; by default a new one, which is printed")
     parser.add_argument("--svg", metavar="FILE", help="draw a run as a time line")
-    parser.add_argument("--steps", metavar="FILE", help="write the steps of that run, as nutsim takes them")
-    parser.add_argument("--run", metavar="RUN", type=count_of_runs, help="which run these two are of; without it the one that ends latest")
+    parser.add_argument("--steps", metavar="FILE", help="write the steps of that run for nutsim")
+    parser.add_argument("--run", metavar="RUN", type=count_of_runs, help="which run these two show; by default the one that ends latest")
     parser.add_argument("--nutsim", metavar="PROGRAM", help="the program nutsim")
     parser.add_argument("-h", "--help", action="help", help="print this")
     parser.add_argument("-V", "--version", action="version", version=f"nutroom {VERSION}", help="print the version")

@@ -59,7 +59,7 @@ class Summary:
             for times in ([it.begun for it in stories], [it.halted for it in stories]):
                 found = [it for it in times if it is not None]
                 row += [seconds(it) for it in (min(found), statistics.median(found), max(found))] if found else ["-"] * 3
-            promise = "goes on" if bound is None else short_seconds(bound.end)
+            promise = "keeps running" if bound is None else short_seconds(bound.end)
             row.append(promise if self.kept(stories) else "-")
             if has_battery:
                 row.append(self.still_up(machine, stories))
@@ -90,7 +90,7 @@ class Summary:
             if bound is not None:
                 text = f"halted by {short_seconds(bound.start)} + {bound.terms} = {short_seconds(bound.end)}"
             elif kept:
-                text = f"goes on: its UPSes are neither low nor forced, and DEADTIME is long enough{aside}"
+                text = f"keeps running: its UPSes are neither low nor forced, and DEADTIME is long enough{aside}"
             else:
                 text = "nothing is said of it"
             if bound is not None and kept == 0:
