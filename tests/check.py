@@ -39,6 +39,7 @@ TESTS = (
     ("rehearsals.words", ("rehearse",)),
     ("rehearsals.examples", ("rehearse",)),
     ("gate.borrows", ()),
+    ("gate.upsmon_page", ()),
     ("programs.tools", ("upsc", "upsrw", "upscmd")),
     ("programs.upsd_sockets", ("upsd", "dummy_ups", "upsrw", "upscmd")),
     ("programs.upsd_reload", ("upsd", "dummy_ups")),
