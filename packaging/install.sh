@@ -138,6 +138,7 @@ put 644 packaging/completions.bash share/bash-completion/completions/nutroom
 put 755 packaging/until-ready lib/mulgefa/until-ready
 put 755 packaging/mulgefa-check sbin/mulgefa-check
 put 644 man/mulgefa-check.8 share/man/man8/mulgefa-check.8
+put 644 man/mulgefa.7 share/man/man7/mulgefa.7
 for page in man/*.5; do
     put 644 "$page" "share/man/man5/${page##*/}"
 done
