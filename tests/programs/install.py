@@ -1073,8 +1073,8 @@ class Tests:
         for page in os.listdir(os.path.join(ROOT, "man")):
             with open(os.path.join(ROOT, "man", page)) as file:
                 text = file.read()
-            for name, section in re.findall(r"^\.BR (\S+) \((\d)\)", text, re.MULTILINE):
-                if name in ("getent", "resolv.conf", "systemd.exec"):  # the system's
+            for name, section in re.findall(r"(?:^\.BR |\\fB)(\S+?)(?: |\\fR)\((\d)\)", text, re.MULTILINE):
+                if name in ("getent", "resolv.conf", "syslog", "systemd.exec"):  # the system's
                     continue
                 other = f"{name.replace(chr(92), '')}.{section}"
                 expect(os.path.exists(os.path.join(ROOT, "man", other)), True, f"{page}: {other}")
