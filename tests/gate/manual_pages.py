@@ -13,18 +13,21 @@ MAN = os.path.join(ROOT, "man")
 CRATES = os.path.join(ROOT, "crates")
 
 # What all daemons report, by the files that have the texts. mulgefa(7) has those that no other page has.
-SHARED = ("nut_program/failure", "nut_program/reload_report", "nut_program/stack", "nut_program/warning", "nut_poll/lossy_lines")
+SHARED = ("nut_program/failure", "nut_program/stack", "nut_poll/lossy_lines")
 # A program's page, and the files that have what the program alone reports.
 REPORTS = {
-    "upsd": ("nut_server_sockets/report", "nut_server_sockets/deed_report", "nut_upsd/report", "nut_upsd/upsd_fault"),
+    "upsd": (
+        "nut_server_sockets/report", "nut_server_sockets/deed_report", "nut_upsd/report", "nut_upsd/upsd_fault", "nut_program/reload_report",
+        "nut_program/warning",
+    ),
     "dummy-ups": ("nut_dummy_ups/dummy", "nut_dummy_ups/dummy_driver", "nut_dummy_ups/listen_fault"),
 }
 
 # Texts in mulgefa(7) and upsd(8) with the constants that their numbers are, by the crate and the file that define these.
 LIMITS = {
     "mulgefa.7": (
-        ("the limit of the stack is below {} KiB", "nut_program/stack NEEDED"),
-        ("{} are needed", "nut_program/stack NEEDED"),
+        ("the limit of the stack is below {} KiB", "nut_program/stack (?:NEEDED|DAEMON_STACK)"),
+        ("{} are needed", "nut_program/stack (?:NEEDED|DAEMON_STACK)"),
         ("A line has at most {} bytes; the rest", "nut_poll/lossy_lines LOG_LINE_MAX"),
     ),
     "upsd.8": (
@@ -129,8 +132,13 @@ def texts(name):
 
 
 def fragments(text):
-    """Returns what stands between the places of a text, but for signs."""
-    return [it.strip() for it in re.split(r"\{[^{}]*\}", text) if re.search(r"[a-z]{2}", it)]
+    """Returns what stands between the places and colons of a text, but for signs."""
+    return [it.strip() for it in re.split(r"\{[^{}]*\}|: ", text) if re.search(r"[a-z]{2}", it)]
+
+
+def forms(written, place):
+    """Returns regular expressions for texts, with this one for each of their places."""
+    return [place.join(map(re.escape, re.split(r"\{[^{}]*\}", it))) for it in written if fragments(it)]
 
 
 def numbers(place):
@@ -152,22 +160,23 @@ class Tests:
                         ensure(part.rstrip("; ") in both, f"{program}(8) lacks {part!r} of {name}")
 
     def test_heads_are_reported(self):
-        """Each line under DIAGNOSTICS is one that the program writes: a place has a word in capitals, or one of the texts that stand alone."""
+        """Each line under DIAGNOSTICS is one that the program writes. In a place stands a word in capitals, a number, a file or another
+        text."""
         for program, names in REPORTS.items():
             written, alone = [], []
             for name in (*names, *SHARED):
                 for found, more in zip((written, alone), texts(name)):
                     found += more
-            alone = "|".join(sorted(map(re.escape, filter(None, alone)), key=len, reverse=True))
-            place = rf"(?:[A-Z]\S*?|{alone})"
-            forms = [place.join(map(re.escape, re.split(r"\{[^{}]*\}", it))) for it in written if fragments(it)]
-            # a place that is a whole line, and counts in brackets
-            known = re.compile(rf"{program}: (?:{'|'.join(forms)}| ?\([A-Z]+ requests\))+")
+            place = "|".join([r"[A-Z]+(?:[@:/]?[A-Za-z]+)*", r"\d+", r"upsd\.users", *map(re.escape, filter(None, alone))])
+            # a place may have a short text with places of its own
+            short = [it for it in written if len(it) < 30 and ":" not in it]
+            place = "|".join([place, *forms(short, f"(?:{place})")])
+            known = [re.compile(f"{program}: {form}") for form in forms(written, f"(?:{place})")]
             diagnostics = [it for it in heads(program + ".8", "DIAGNOSTICS") if it.startswith(program + ": ")]
             ensure(len(diagnostics) > 5, f"{program}(8) has no diagnostics")
             for head in diagnostics:
                 is_reason = re.fullmatch(rf"{program}: (?:FILE(?::LINE)?: (?:WHY|KIND)|WHY|--ups: KIND)", head)
-                ensure(is_reason or known.fullmatch(head), f"{program}(8) has {head!r}, which nothing writes")
+                ensure(is_reason or any(form.fullmatch(head) for form in known), f"{program}(8) has {head!r}, which nothing writes")
 
     def test_errors_of_the_tools(self):
         """upsc(8) has each reason of a tool's failure."""
