@@ -26,8 +26,8 @@ REPORTS = {
 # Texts in mulgefa(7) and upsd(8) with the constants that their numbers are, by the crate and the file that define these.
 LIMITS = {
     "mulgefa.7": (
-        ("the limit of the stack is below {} KiB", "nut_program/stack (?:NEEDED|DAEMON_STACK)"),
-        ("{} are needed", "nut_program/stack (?:NEEDED|DAEMON_STACK)"),
+        ("the limit of the stack is below {} KiB", "nut_program/stack DAEMON_STACK"),
+        ("{} are needed", "nut_program/stack DAEMON_STACK"),
         ("A line has at most {} bytes; the rest", "nut_poll/lossy_lines LOG_LINE_MAX"),
     ),
     "upsd.8": (
