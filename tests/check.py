@@ -27,6 +27,7 @@ TESTS = (
     ("gate.believe", ()),
     ("gate.front_pages", ()),
     ("gate.pages", ()),
+    ("gate.manual_pages", ()),
     ("gate.surface", ()),
     ("gate.builders", ()),
     ("programs.upsd_stdio", ("upsd",)),

@@ -1,0 +1,219 @@
+#!/usr/bin/env python3
+"""Holds manual pages against the sources: the lines that a program reports and what its page says of them, the kinds of errors in
+files, the priorities, and the numbers of limits and timeouts. It needs no built program. The last line is 'N passed, M failed'."""
+
+import functools
+import os
+import re
+import sys
+
+from tests.support.harness import ROOT, ensure, expect, run_tests
+
+MAN = os.path.join(ROOT, "man")
+CRATES = os.path.join(ROOT, "crates")
+
+# What all daemons report, by the files that have the texts. mulgefa(7) has those that no other page has.
+SHARED = ("nut_program/failure", "nut_program/stack", "nut_poll/lossy_lines")
+# A program's page, and the files that have what the program alone reports.
+REPORTS = {
+    "upsd": (
+        "nut_server_sockets/report", "nut_server_sockets/deed_report", "nut_upsd/report", "nut_upsd/upsd_fault", "nut_program/reload_report",
+        "nut_program/warning",
+    ),
+    "dummy-ups": ("nut_dummy_ups/dummy", "nut_dummy_ups/dummy_driver", "nut_dummy_ups/listen_fault"),
+}
+
+# Texts in mulgefa(7) and upsd(8) with the constants that their numbers are, by the crate and the file that define these.
+LIMITS = {
+    "mulgefa.7": (
+        ("the limit of the stack is below {} KiB", "nut_program/stack DAEMON_STACK"),
+        ("{} are needed", "nut_program/stack DAEMON_STACK"),
+        ("A line has at most {} bytes; the rest", "nut_poll/lossy_lines LOG_LINE_MAX"),
+    ),
+    "upsd.8": (
+        ("client silent, not logged in {} s", "nut_server_sockets/client PATIENCE"),
+        ("client silent, logged in {} s", "nut_server_sockets/client PATIENCE_WITH_LOGIN"),
+        ("driver silent MAXAGE ({} s)", "nut_conf/upsd max_age"),
+        ("clients MAXCONN ({})", "nut_conf/limits CONNECTIONS_MAX"),
+        ("UPSes, users, LISTEN lines {}, {}, {}", "nut_conf/limits UPSES_MAX USERS_MAX LISTENERS_MAX"),
+        ("variables, commands of a UPS {}, {}", "nut_state/limits VARIABLES_MAX COMMANDS_MAX"),
+        ("enum values, ranges of a variable {}, {}", "nut_state/limits ENUMS_MAX RANGES_MAX"),
+        ("name, value from a driver {}, {} bytes", "nut_words/limits NAME_MAX VALUE_MAX"),
+        ("line from a driver {} bytes", "nut_words/limits LINE_MAX"),
+        ("tracked requests of a UPS {}", "nut_server_spec/limits TRACKED_MAX"),
+        ("The file has at most {} lines VARDESC", "nut_conf/limits DESCRIPTIONS_MAX"),
+        ("a text has at most {}.", "nut_conf/limits DESCRIPTION_MAX"),
+        ("about more than {} variables", "nut_server/unread UNREAD_MAX"),
+        ("Addresses beyond {} share a line", "nut_server_sockets/denials ADDRESSES_MAX"),
+        ("{} clients have connected since the start", "nut_server_spec/limits OPENED_MAX"),
+        ("serve this UPS without files; up to {} times", "nut_conf/limits UPSES_MAX"),
+    ),
+    "ups.conf.5": (
+        ("A file has at most {} bytes, and a line at most {} before", "nut_conf/limits FILE_MAX FILE_LINE_MAX"),
+        ("consists of words, at most {},", "nut_words/limits WORDS_MAX"),
+        ("section for each UPS, at most {}.", "nut_conf/limits UPSES_MAX"),
+        ("Names are 1 to {} letters", "nut_words/limits UPS_NAME_MAX"),
+        ("What the driver opens, at most {} bytes", "nut_conf/limits DEVICE_MAX"),
+        ("What people call the UPS, at most {} bytes", "nut_conf/limits DESCRIPTION_MAX"),
+    ),
+    "upsd.conf.5": (
+        ("ADDRESS has 1 to {} letters", "nut_conf/limits HOST_MAX"),
+        ("There are at most {} lines", "nut_conf/limits LISTENERS_MAX"),
+    ),
+    "upsd.users.5": (
+        ("for each user of upsd (8), at most {}.", "nut_conf/limits USERS_MAX"),
+        ("1 to {} bytes, once", "nut_conf/limits PASSWORD_MAX"),
+        ("May give this command, a name of 1 to {} bytes", "nut_words/limits NAME_MAX"),
+        ("At most {} lines", "nut_conf/limits INSTCMDS_MAX"),
+    ),
+    "dummy-ups.8": (
+        ("Wait this long, 1 to {} seconds", "nut_dummy/limits TIMER_MAX"),
+        ("A script has at most {} names and {} settings, and lines of at most {} bytes", "nut_dummy/limits SCRIPT_VARIABLES_MAX STEPS_MAX SCRIPT_LINE_MAX"),
+        ("Names have at most {} letters", "nut_words/limits NAME_MAX"),
+        ("values at most {} printing bytes", "nut_words/limits VALUE_MAX"),
+        ("more than {} bytes", "nut_dummy_ups/dummy FILE_MAX"),
+    ),
+    "upsc.8": (
+        ("accepted the connection; each has {} seconds", "nut_client/dialing ACCEPT_SECONDS"),
+        ("took more than {} seconds for an answer", "nut_client/timed_stream ANSWER_SECONDS"),
+        ("more than {} bytes of one line", "nut_words/limits LINE_MAX"),
+    ),
+    "upscmd.8": (
+        ("answers later than after {} seconds", "nut_client/timed_stream ANSWER_SECONDS"),
+        ("hasn't answered within {} seconds", "nut_client/deeds PAUSES_MAX"),
+        ("{} later requests to the UPS were tracked", "nut_server_spec/limits TRACKED_MAX"),
+        ("of at most {} bytes: the driver", "nut_words/limits VALUE_MAX"),
+    ),
+}
+
+
+@functools.lru_cache(maxsize=None)
+def code(name):
+    """Returns a source, by its crate and file, without comments."""
+    crate, _, file = name.partition("/")
+    with open(os.path.join(CRATES, crate, "src", file + ".rt"), encoding="utf-8") as source:
+        return re.sub(r"//.*", "", source.read())
+
+
+@functools.lru_cache(maxsize=None)
+def lines(page):
+    """Returns the lines of a page as they are read, each with its macro, if it has one."""
+    with open(os.path.join(MAN, page), encoding="utf-8") as file:
+        text = file.read()
+    text = re.sub(r"\\f[BIR]", "", text).replace(r"\&", "")
+    for escape, sign in (("-", "-"), ("~", " "), ("(aq", "'"), ("(dq", '"'), ("(lq", '"'), ("(rq", '"'), ("(bu", "*"), ("e", "\\")):
+        text = text.replace("\\" + escape, sign)
+    return text.splitlines()
+
+
+def words(page):
+    """Returns what a page says, with one blank between words."""
+    plain = (re.sub(r'"', "", re.sub(r"^\.[A-Z]+ ?", "", it)) if it.startswith(".") else it for it in lines(page))
+    return " ".join(" ".join(plain).replace(" ,", ",").replace(" .", ".").split())
+
+
+def heads(page, section):
+    """Returns the heads of the paragraphs in a section."""
+    found, inside, is_head = [], False, False
+    for line in lines(page):
+        if line.startswith(".SH"):
+            inside = line.removeprefix(".SH").strip(' "') == section
+        elif inside and is_head:
+            found.append(" ".join(re.sub(r'"', "", re.sub(r"^\.[A-Z]+ ", "", line)).split()))
+        is_head = line in (".TP", ".TQ")
+    return found
+
+
+def texts(name):
+    """Returns the texts that a source writes, and those that stand there alone, such as what a match gives."""
+    written = re.findall(r'write(?:ln)?!\([^"]*?"((?:[^"\\]|\\.)*)"', code(name))
+    alone = [it for it in re.findall(r'"((?:[^"\\{}]|\\.)*)"', code(name)) if it not in written]
+    return [re.sub(r"\s+", " ", it) for it in written], alone
+
+
+def fragments(text):
+    """Returns what stands between the places and colons of a text, but for signs."""
+    return [it.strip() for it in re.split(r"\{[^{}]*\}|: ", text) if re.search(r"[a-z]{2}", it)]
+
+
+def forms(written, place):
+    """Returns regular expressions for texts, with this one for each of their places."""
+    return [place.join(map(re.escape, re.split(r"\{[^{}]*\}", it))) for it in written if fragments(it)]
+
+
+def numbers(place):
+    """Returns the values of constants of a source, or the default of a directive's number."""
+    name, *constants = place.split(" ")
+    for it in constants:
+        found = re.search(rf"\bconst {it}: \w+ = ([\d_]+);|\b{it}: NumberOr<.*, ([\d_]+)>", code(name))
+        yield int((found[1] or found[2]).replace("_", ""))
+
+
+class Tests:
+    def test_reports_stand_on_the_page(self):
+        """What a program writes stands on its page, or in mulgefa(7) if other programs write it too."""
+        for program, names in REPORTS.items():
+            both = words(program + ".8") + " " + words("mulgefa.7")
+            for name in (*names, *SHARED):
+                for text in texts(name)[0]:
+                    for part in fragments(text):
+                        ensure(part.rstrip("; ") in both, f"{program}(8) lacks {part!r} of {name}")
+
+    def test_heads_are_reported(self):
+        """Each line under DIAGNOSTICS is one that the program writes. In a place stands a word in capitals, a number, a file or another
+        text."""
+        for program, names in REPORTS.items():
+            written, alone = [], []
+            for name in (*names, *SHARED):
+                for found, more in zip((written, alone), texts(name)):
+                    found += more
+            place = "|".join([r"[A-Z]+(?:[@:/]?[A-Za-z]+)*", r"\d+", r"upsd\.users", *map(re.escape, filter(None, alone))])
+            # a place may have a short text with places of its own
+            short = [it for it in written if len(it) < 30 and ":" not in it]
+            place = "|".join([place, *forms(short, f"(?:{place})")])
+            known = [re.compile(f"{program}: {form}") for form in forms(written, f"(?:{place})")]
+            diagnostics = [it for it in heads(program + ".8", "DIAGNOSTICS") if it.startswith(program + ": ")]
+            ensure(len(diagnostics) > 5, f"{program}(8) has no diagnostics")
+            for head in diagnostics:
+                is_reason = re.fullmatch(rf"{program}: (?:FILE(?::LINE)?: (?:WHY|KIND)|WHY|--ups: KIND)", head)
+                ensure(is_reason or any(form.fullmatch(head) for form in known), f"{program}(8) has {head!r}, which nothing writes")
+
+    def test_errors_of_the_tools(self):
+        """upsc(8) has each reason of a tool's failure."""
+        reasons = re.findall(r'=> b"([a-z ]*[a-zU][a-zPS ]*)"', code("nut_client/failure"))
+        ensure(len(reasons) > 5, "no reasons of failures are found")
+        found = {it.removeprefix("Error: ") for it in heads("upsc.8", "DIAGNOSTICS") if it.startswith("Error: ")}
+        wanted = {*reasons, "FAILED", "PENDING", "UNKNOWN", "NAME OF A REFUSAL"}
+        expect(sorted(found), sorted(wanted), "the errors in upsc(8)")
+
+    def test_kinds(self):
+        """mulgefa(7) has each kind of error in a configuration file, and dummy-ups(8) each in a script."""
+        for name, page, section in (("nut_conf/fault", "mulgefa.7", "ERRORS IN FILES"), ("nut_dummy/fault", "dummy-ups.8", "DIAGNOSTICS")):
+            wanted = set(re.findall(r'#\[error\("([A-Z]\w+)"\)\]', code(name))) - {"Memory"}
+            ensure(len(wanted) > 5, f"{name} has no kinds")
+            found = {word for it in heads(page, section) if re.fullmatch(r"[A-Z]\w+(, [A-Z]\w+)*", it) for word in it.split(", ")}
+            expect(sorted(found), sorted(wanted), f"the kinds in {page}")
+
+    def test_priorities(self):
+        marks = re.findall(r'Level::(\w+) => "<(\d)>"', code("nut_log/level"))
+        short = {"Error": "err", "Warning": "warning", "Notice": "notice", "Info": "info"}
+        expect(heads("mulgefa.7", "LOG LINES"), [f"{mark} ({short[name]})" for name, mark in marks], "the priorities in mulgefa(7)")
+
+    def test_limits(self):
+        """The numbers of limits and timeouts are those of the sources."""
+        for page, rows in LIMITS.items():
+            for text, place in rows:
+                found = re.findall(re.escape(text).replace(r"\{\}", r"([\d,]+\d|\d)").replace(r"\ ", " "), words(page))
+                ensure(found, f"{page} doesn't say {text!r}")
+                for it in found:
+                    shown = [int(n.replace(",", "")) for n in ([it] if isinstance(it, str) else it)]
+                    expect(shown, list(numbers(place)), f"{page}: {text}")
+
+    def test_probes(self):
+        """upsd(8) says after how many seconds a machine counts as gone that answers no probe."""
+        idle, interval, probes = numbers("nut_server_sockets/keepalive IDLE INTERVAL PROBES")
+        ensure(f"its machine answers no probe {idle + interval * probes} s" in words("upsd.8"), "the time of probes in upsd(8)")
+
+
+if __name__ == "__main__":
+    sys.exit(run_tests(Tests(), sys.argv[1:]))
