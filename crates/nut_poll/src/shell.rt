@@ -11,8 +11,8 @@ use std::process::{Command, Stdio};
 const SHELL: &str = "/bin/sh";
 
 /// The script of a command of the operator's, with this literal behind its first words. By these the script and what it
-/// runs ignore the signals TTIN and TTOU, which would stop a command in the background that uses its terminal, and with it
-/// the program that started it, since that is in the same process group.
+/// runs ignore the signals TTIN and TTOU. They would suspend a command in the background that uses its terminal, and the
+/// program that started it, which is in the same process group.
 #[macro_export]
 macro_rules! unstopped {
     ($rest:literal) => {
