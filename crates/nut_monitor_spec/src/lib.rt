@@ -164,8 +164,8 @@ pub fn linked_is_made()
     ensures { LinkedIsMade }
 {}
 
-/// States a law and does nothing when called: what waits on a link is what the server hasn't accepted yet of the
-/// queries put on it since it was made, joined. On a link that isn't up it is empty.
+/// States a law and does nothing when called: what waits on a link is left of its queries. It is what the server
+/// hasn't accepted yet of the queries put on it since it was made, joined. On a link that isn't up it is empty.
 pub fn waiting_is_left()
     ensures { WaitingIsLeft }
 {}
@@ -224,8 +224,9 @@ pub fn cuts_do_not_matter()
     ensures { CutsDoNotMatter }
 {}
 
-/// States a law and does nothing when called: if the queries of a MONITOR line can be written, its link keeps at most one
-/// query of [`QUERY_MAX`](nut_link::QUERY_MAX) bytes, and [`LINE_MAX`](nut_words::LINE_MAX) bytes of an unfinished line.
+/// States a law and does nothing when called: links are bounded. If the queries of a MONITOR line can be written, its
+/// link keeps at most one query of [`QUERY_MAX`](nut_link::QUERY_MAX) bytes, and [`LINE_MAX`](nut_words::LINE_MAX) bytes
+/// of an unfinished line.
 pub fn links_are_bounded()
     ensures { LinksAreBounded }
 {}

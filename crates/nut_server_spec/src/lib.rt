@@ -86,15 +86,16 @@ pub fn same_steps_same_answers()
     ensures { SameStepsSameAnswers }
 {}
 
-/// States a law and does nothing when called: however the bytes of a connection are cut, and whatever connections
-/// accept in between, the steps are those of all the bytes in one piece. So are the answers.
+/// States a law and does nothing when called: cuts and writes don't matter. However the bytes of a connection are
+/// cut, and whatever connections accept in between, the steps are those of all the bytes in one piece. So are the
+/// answers.
 pub fn cuts_and_writes_do_not_matter()
     ensures { CutsAndWritesDoNotMatter }
 {}
 
-/// States a law and does nothing when called: however the bytes of a driver are cut, and whatever drivers accept in
-/// between, the result is that of all the bytes in one piece. This holds of what is known of each UPS, of the requests
-/// to each driver, and of the answers to each connection.
+/// States a law and does nothing when called: cuts and writes don't matter. However the bytes of a driver are cut, and
+/// whatever drivers accept in between, the result is that of all the bytes in one piece. This holds of what is known
+/// of each UPS, of the requests to each driver, and of the answers to each connection.
 pub fn driver_cuts_and_writes_do_not_matter()
     ensures { DriverCutsAndWritesDoNotMatter }
 {}
@@ -135,8 +136,8 @@ pub fn sent_is_front_of_due()
     ensures { SentIsFrontOfDue }
 {}
 
-/// States a law and does nothing when called: what a driver was sent since it was connected is what it accepted,
-/// piece by piece, of the bytes that waited for it.
+/// States a law and does nothing when called: a driver was sent what it accepted. Since it was connected that
+/// is, piece by piece, the bytes that it accepted of those that waited for it.
 pub fn driver_sent_is_received()
     ensures { DriverSentIsReceived }
 {}
@@ -219,8 +220,8 @@ pub fn tracking_looks_back()
     ensures { TrackingLooksBack }
 {}
 
-/// States a law and does nothing when called: the text of `GET VAR` for `ups.status` is that of the last SETINFO of the
-/// UPS's driver, or `FSD ` and that text. So a server shows no status of its own.
+/// States a law and does nothing when called: a server shows no status of its own. The text of `GET VAR` for
+/// `ups.status` is that of the last SETINFO of the UPS's driver, or `FSD ` and that text.
 pub fn status_is_the_drivers()
     ensures { StatusIsTheDrivers }
 {
@@ -245,7 +246,7 @@ pub fn numbers_are_distinct()
 {}
 
 /// States a law and does nothing when called: what a reload leaves of a UPS and of the connections that are logged in to
-/// it, if the names of each configuration's UPSes are distinct.
+/// it. Suppose that the names of each configuration's UPSes are distinct.
 pub fn upses_stay()
     ensures { UpsesStay }
 {}

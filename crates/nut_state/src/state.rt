@@ -338,9 +338,9 @@ impl UpsState {
     /// Changes the table as a line of the driver says. The line comes without its line feed.
     ///
     /// Only a line that has a backslash, or adds a variable, enum value, range or command, allocates memory; any other
-    /// succeeds. The table ignores a line if a name isn't a name, a value is too long, a number or range can't be read,
-    /// the variable or entry doesn't exist, the entry is there already, or a limit is reached. PONG and TRACKING never
-    /// change the table.
+    /// succeeds. The table ignores a line if a name isn't a name, a value is too long, or a number or range can't be
+    /// read. It also does if the variable or entry doesn't exist, the entry is there already, or a limit is reached.
+    /// PONG and TRACKING never change the table.
     ///
     /// # Errors
     ///
