@@ -239,14 +239,14 @@ impl Monitor {
         ensures stands { (configuration : Configuration) (events : List Events) → Tells configuration events self.old.content
             → Tells configuration (after result (event_of event.entry) events) self.new.content }
 
-        // It goes on with the configuration that it was made with.
+        // It keeps the configuration that it was made with.
         ensures config { self.new.config ≡ self.old.config }
 
         // A refused event changes nothing.
         ensures unchanged { (fault : AnyFault) → refusal self.old.content (event_of event.entry) ≡ Some fault
             → (result ≡ Err fault) × (self.new ≡ self.old) }
 
-        // Few notices wait, and each link keeps at most one query, a line and the rows of a list, whatever was told.
+        // Few notices wait, and each link keeps at most one query, a line and the rows of a list, after any events.
         ensures little { KeepsLittle self.new.content }
     {
         let answer = self.step(event);

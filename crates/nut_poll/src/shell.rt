@@ -6,7 +6,7 @@ ghost use Rattle.std.specs.Process.{command_program, command_args};
 use std::alloc::{AllocError, Allocator};
 use std::process::{Command, Stdio};
 
-/// The shell, by its path. The folders of PATH aren't searched for it, since one of them may be on a server that doesn't
+/// The shell, by its path. The directories of PATH aren't searched for it, since one of them may be on a server that doesn't
 /// answer.
 const SHELL: &str = "/bin/sh";
 
@@ -23,7 +23,7 @@ macro_rules! unstopped {
 /// Returns the command by which the shell runs a script without input: `/bin/sh -c SCRIPT sh ARGUMENT`. The argument is
 /// `$1` there, and no byte of it is read as a command.
 ///
-/// A program that the script names is looked for by the shell. So if a folder of PATH doesn't answer, the shell waits, and
+/// A program that the script names is looked for by the shell. So if a directory of PATH doesn't answer, the shell waits, and
 /// not the process that starts the command.
 ///
 /// # Errors

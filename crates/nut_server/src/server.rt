@@ -280,7 +280,7 @@ impl Server {
         ensures unchanged { (r : Refused) → refusal self.old (event_of arrival.entry) ≡ Some r
             → (result ≡ Err r) × (self.new ≡ self.old) }
 
-        // Whatever the server was told, at most 256 connections are open, and at most 4,294,967,295 were opened.
+        // After any arrivals at most 256 connections are open, and at most 4,294,967,295 were opened.
         ensures few { HasFewConnections CONNECTIONS_MAX self.new }
     {
         let answer = self.step(arrival);

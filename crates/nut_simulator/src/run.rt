@@ -99,7 +99,7 @@ fn run_words<'a, S: AsStr, O: Write, E: Write>(
     play_room(files, alloc, names, out, err, is_terminal)
 }
 
-/// The names on a command line: the folder of the server's files, the schedule, and the file of each monitor.
+/// The names on a command line: the directory of the server's files, the schedule, and the file of each monitor.
 #[derive(Clone, Copy)]
 struct Names<'a, 'b> {
     folder: &'a str,
