@@ -36,25 +36,25 @@ PROMISES = (
         ("nut_server_spec", None, (
             "tracking_looks_back", "reload_is_downs_then_closes_then_itself", "keeps_its_number", "numbers_are_distinct",
             "upses_stay")),)),
-    ("The server's loop", "what a world gives and takes is what a server is told and sends", (
+    ("The server's loop", "what a world gives and accepts is what a server receives and sends", (
         ("nut_server_loop", "serving.rt", ("serve",)), ("nut_server_loop", "world.rt", ("World.*",)),
         ("nut_server_loop", None, ("serve_memory",)))),
-    ("A server's sockets", "who is looked at next, and when a second is told", (
+    ("A server's sockets", "who is looked at next, and when a second counts", (
         ("nut_server_sockets", "sockets.rt", ("Sockets.next",)),
         ("nut_poll", None, ("Ready.*", "Rounds.turn", "nobody_is_passed_over")))),
-    ("A monitor", "what a monitor asks, tells and decides, and what callers see of that", (
+    ("A monitor", "what a monitor asks, reports and decides, and what callers see of that", (
         ("nut_monitor", None, ("Monitor.*",)),)),
     ("A monitor's laws", "what holds over whole histories of a monitor", (
         ("nut_monitor_spec", None, (
             "cuts_do_not_matter", "notices_are_few", "links_are_bounded", "notices_come_in_order", "linked_is_made", "waiting_is_left",
             "links_are_told", "answers_are_told", "sent_and_waiting_is_due", "queries_come_alone", "answers_come_in_turn",
             "logins_follow_fsd", "others_stay", "shutdown_stays")),)),
-    ("The monitor's loop", "what a world gives and takes is what a monitor is told and asks", (
+    ("The monitor's loop", "what a world gives and accepts is what a monitor receives and asks", (
         ("nut_monitor_loop", "watching.rt", ("watch",)), ("nut_monitor_loop", "world.rt", ("MonWorld.*",)),
         ("nut_monitor_loop", None, ("watch_memory",)))),
     ("A monitor's sockets", "which link is looked at next", (
         ("nut_monitor_sockets", "links.rt", ("Links.next",)),)),
-    ("What upsmon does to its machine", "when SHUTDOWNCMD is run, and who is told a notice", (
+    ("What upsmon does to its machine", "when SHUTDOWNCMD is run, and who gets a notice", (
         ("nut_upsmon", "watching.rt", ("watch_in_turn",)), ("nut_upsmon", "guard.rt", ("tell",)),
         ("nut_upsmon", "actor.rt", ("Actor.*",)))),
     ("Configuration files", "what a file means", (
@@ -75,7 +75,7 @@ PROMISES = (
             "configurations_are_spoken", "events_are_accepted", "pipes_carry_beginnings", "statuses_were_shown",
             "shutdowns_have_causes", "primaries_go_last")),
         ("nut_play", None, ("Fleet.new", "Fleet.config", "Fleet.play", "rooms_hold")))),
-    ("A room in time", "by when machines begin to stop and are halted, and when none is", (
+    ("A room in time", "by when machines begin to shut down and are halted, and when none is", (
         ("nut_in_time", None, (
             "links_open_in_time", "statuses_come_in_time", "shutdowns_begin_in_time", "machines_halt_in_time", "shutdowns_go_on",
             "hostsync_suffices", "nobody_halts_in_vain", "the_last_ups_counts", "forced_is_shown", "room_stops_in_time",
@@ -101,18 +101,19 @@ CRATES_OF_LAWS = ("nut_server_spec", "nut_monitor_spec", "nut_conf", "nut_client
 
 HEAD = """# What has to be believed
 
-Whoever believes the definitions below believes what the clauses of these calls and laws say (docs/proved.md; a law's definition has its
-name). Each section lists what it adds to those before it, by crate, with the number of its lines, and by file, in the order in which
-definitions rest on each other: Lines of `nut_words` is `crates/nut_words/specs/Lines.antt`, where comments say what they mean.
-All that a section leads to by itself is printed by `python3 -m tests.gate.believe 'A monitor'`. Lines are those of a definition with its
-comment. Types and constants of the code that definitions name stand at the end, and words of the toolchain's library aren't listed.
+For whoever checks what is proved. If you believe the definitions below, you believe what the clauses of these calls and laws say
+(docs/proved.md; a law's definition has its name). Each section lists what it adds to those before it: by crate, with the number of
+lines, comments included, and by file, in the order in which definitions build on each other. Lines of `nut_words` is
+`crates/nut_words/specs/Lines.antt`, whose comments say what it means. The last section has the types and constants of the code that
+definitions name. Words of the toolchain's library aren't listed. `python3 -m tests.gate.believe 'A monitor'` prints all that one
+section leads to.
 
-Two files are second forms of shorter ones, and are listed since the clauses cite them. Whoever believes `nut_words: Spelling` needn't
-believe `nut_words: Reader`, except `has_backslash`, `with_backslash` and `Gives` (law `spelled_is_meant`). Whoever believes
-`nut_state: LookBack` needn't believe `nut_state: Step`, except `line_adds` (law `every_table_holds`).
+Two files are second forms of shorter ones, and are listed since clauses cite them. If you believe `nut_words: Spelling`, you need
+only `has_backslash`, `with_backslash` and `Gives` of `nut_words: Reader` (law `spelled_is_meant`). If you believe
+`nut_state: LookBack`, you need only `line_adds` of `nut_state: Step` (law `every_table_holds`).
 
-`python3 -m tests.gate.believe --write` makes this page. A test compares it, and fails where something that a clause or a definition
-names isn't found, or where a law is in no section.
+`python3 -m tests.gate.believe --write` makes this page. A test fails if the page differs, if it doesn't find a name that a clause or a
+definition has, or if a law is in no section.
 """
 
 
@@ -289,7 +290,7 @@ def section(library, title, about, called, found, before):
     lines, code_lines = library.sums(found)
     added = library.sums(new)[0]
     what_is_new = f", {added:,} of them new" if before else ""
-    out = [f"## {title}\n", f"Of {called}: {about}. {lines:,} lines{what_is_new}, and {code_lines:,} of code.\n"]
+    out = [f"## {title}\n", f"By {called}: {about}. {lines:,} lines{what_is_new}, and {code_lines:,} of code.\n"]
     return "\n".join(out + list(rows(library, new))) + "\n"
 
 

@@ -13,7 +13,7 @@ from tools.crates import below, built_programs, is_program, name_of, rows
 
 PAGES = ("README.md", "CONTRIBUTING.md", "SECURITY.md", "CHANGELOG.md")
 # The greatest lengths in bytes.
-LENGTHS = {"README.md": 8192, "CONTRIBUTING.md": 6144}
+LENGTHS = {"README.md": 8192, "CONTRIBUTING.md": 12 * 1024}
 # Commands of CONTRIBUTING.md that take seconds, and the others, which are looked at by their names.
 PASTED = ("python3 -m tests.gate.wrong_bodies --look", "python3 -m tests.gate.layout", "python3 -m tests.gate.believe")
 LOOKED_AT = (

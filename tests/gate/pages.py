@@ -22,8 +22,8 @@ from tests.support.harness import ensure, expect, ROOT, run_tests
 DOCS = os.path.join(ROOT, "docs")
 PROVED = os.path.join(DOCS, "proved.md")
 # The greatest sizes, in bytes: of all of docs/, and of some pages.
-ALL_DOCS = 200 * 1024
-SIZES = {"DECISIONS.md": 35 * 1024, "believe.md": 28 * 1024}
+ALL_DOCS = 200_000
+SIZES = {"DECISIONS.md": 30_000, "believe.md": 26_000, "maintaining.md": 4_000}
 
 # Names of others that pages have, and that stand nowhere in the sources.
 OF_OTHERS = {"SyslogLevel"}

@@ -4,7 +4,7 @@
 usage: python3 -m tests.gate.wrong_bodies [--look | --one-by-one | --anew] [--after-gate] [CRATE ..]
 
 The edits are crates/NAME/wrong-bodies/*.edit, and crates/NAME/must-fail/*.edit, which the toolchain's own gate tries.
-docs/tests.md says how to write one. Most are tried in one check of their crate: one edit of each function in its place, and
+CONTRIBUTING.md says how to write one. Most are tried in one check of their crate: one edit of each function in its place, and
 others in copies of the function beside it. All other functions have empty bodies and open proofs there. What is left is tried
 in rounds: edits of different functions together, and most edits of a definition alone. The functions have been proved as they
 are. Copies without edits, and a method of a trait without one, have to pass in the same check: so a function doesn't fail

@@ -224,13 +224,13 @@ class Tests:
                 expect(len(row), 2, f"the cells of {row}")
 
     def test_taken_directives_are_those_of_the_readers(self):
-        """What is called taken here is in the file's manual page, or for cmdvartab in docs/configuration.md, and what isn't is not.
+        """What is called taken here is in the file's manual page, or for cmdvartab in docs/programs.md, and what isn't is not.
         The page says of a directive if NUT has none of that name."""
         for section, found in self.sections().items():
             if section not in LINES:
                 continue
             if section == "cmdvartab":
-                table = text_of(os.path.join(ROOT, "docs/configuration.md")).partition(f"\n## {section}\n")[2].partition("\n## ")[0]
+                table = text_of(os.path.join(ROOT, "docs/programs.md")).partition(f"\n## {section}\n")[2].partition("\n## ")[0]
                 ours = re.findall(r"^\| `([A-Za-z]+)", table, re.MULTILINE)
             else:
                 ours = [word for word, text in manual.directives(section).items() if "NUT has no such directive." not in text]

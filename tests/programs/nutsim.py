@@ -35,7 +35,7 @@ RANDOM_FILES = fewer(400)
 SCHEDULES_A_ROOM = 20
 ROOMS_A_RUN = 25
 LONG_STEPS = 300_000
-# the largest configuration file, in bytes (docs/configuration.md)
+# the largest configuration file, in bytes (docs/programs.md)
 FILE_MAX = 1_048_576
 
 ALONE = Config(UPSES[:1], {b"mon": User(b"m1", (), (), "primary")})

@@ -79,7 +79,8 @@ fn show_stdio(rt: &(impl Wait + Files), alloc: Global, out: &mut Stdout) -> Opti
     show(status, &told, &faults, out)
 }
 
-/// Plays `room.sched` into vectors, and writes the status, what its steps told, and the fault of the last one.
+/// Plays `room.sched` into vectors, and writes the status, the news of its steps, and the fault of the last
+/// one.
 fn show_nutsim(files: &impl Files, alloc: Global, out: &mut Stdout) -> Option<()> {
     let words = ["nutsim", ".", "room.sched", "upsmon.conf"];
     let (mut told, mut faults) = (Vec::new(alloc), Vec::new(alloc));

@@ -1,11 +1,12 @@
 //! The library of Mulgefa: a server of UPSes, its monitors, the loops that run them, and rooms of both in memory.
 //!
 //! A [`Config`] is made from the files of a server, which [`read_ups`], [`read_users`] and [`read_upsd`] read, and a
-//! [`Server`] from it. [`serve`] runs the server over a [`World`], which brings what clients and drivers send and takes what
-//! they are sent: [`MemoryWorld`] has a list of arrivals and notes all that happens, [`StreamWorld`] has one client over a
-//! reader and a writer, and [`MioWorld`] has sockets. A [`Monitor`] is made from the [`MonConfig`] that [`read_upsmon`]
-//! reads, and [`watch`] runs it over a [`MonWorld`]: [`MemoryMonWorld`] or [`MioMonWorld`]. A [`Fleet`] joins a server and
-//! monitors by pipes in memory, and plays steps. [`run_stdio`] and [`run_nutsim`] are two of the programs, over any streams.
+//! [`Server`] from it. [`serve`] runs the server over a [`World`], which brings what clients and drivers send and carries
+//! what they are sent. [`MemoryWorld`] has a list of arrivals and notes all that happens, [`StreamWorld`] has one client
+//! over a reader and a writer, and [`MioWorld`] has sockets. A [`Monitor`] is made from the [`MonConfig`] that
+//! [`read_upsmon`] reads, and [`watch`] runs it over a [`MonWorld`]: [`MemoryMonWorld`] or [`MioMonWorld`]. A [`Fleet`]
+//! joins a server and monitors by pipes in memory, and plays steps. [`run_stdio`] and [`run_nutsim`] are two of the
+//! programs, over any streams.
 //!
 //! Nothing is defined here. Each item comes from a crate below, and its promise stands there beside its code. A caller whose own
 //! clauses cite definitions names the crates that have these, too.
@@ -17,7 +18,7 @@ pub use nut_conf::{read_ups, read_upsd, read_upsmon, read_users};
 /// What these files set, and the first fault of a file.
 pub use nut_conf::{ConfFault, FaultKind, MonConfig, UpsConf, UpsdConf, UsersConf};
 
-/// A server, which is told arrivals one by one.
+/// A server, which handles arrivals one by one.
 pub use nut_server::{Arrival, Config, Place, Refused, Server, ServerFault};
 
 /// What the worlds of a server and of a monitor share.
@@ -35,7 +36,7 @@ pub use nut_server_loop::{Stream, StreamWorld};
 /// A server's world over sockets.
 pub use nut_server_sockets::{Drivers, Listeners, MioWorld, Reloader};
 
-/// A monitor, which is told events one by one.
+/// A monitor, which handles events one by one.
 pub use nut_monitor::{Event, Monitor, MonitorFault, Notice, Phase};
 
 /// Which notice a [`Notice`] is.

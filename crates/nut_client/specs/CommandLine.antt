@@ -1,4 +1,4 @@
--- What the command lines of the tools ask for (docs/tools.md).
+-- What the command lines of the tools ask for (docs/programs.md).
 --
 -- clap says how words are split into options and arguments. A command line can be read if clap finds no fault in its
 -- words; its options are then those of clap's matches.

@@ -1,5 +1,5 @@
 -- What each tool asks and prints: one query after the other, each chosen by the answers so far, and the text that is
--- printed once the last answer has come (upsc(8), upsrw(8), upscmd(8), in the forms of docs/tools.md).
+-- printed once the last answer has come (upsc(8), upsrw(8), upscmd(8), in the forms of docs/programs.md).
 use Rattle.std.specs.Prelude.{ℕ, zero, suc, Bool, true, List, [], ◌∷◌, ◌++◌, codes, slice_index_or, Option, Some, None, if◌then◌else◌}
 use Rattle.std.specs.Option.{option_map_or}
 use Rattle.std.specs.List.{flat_map, list_any}

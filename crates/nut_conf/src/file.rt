@@ -12,7 +12,7 @@ use crate::line::Line;
 use nut_words::cut;
 use std::alloc::Global;
 
-/// Adds what a line of the file sets to the draft. A line without words sets nothing.
+/// Adds what a line of the file sets to the draft. A blank line changes nothing.
 fn take_line<D: Draft>(alloc: Global, draft: &mut D, bytes: &[u8]) -> Result<(), FaultKind>
     ensures memory { (before : List LineWords) → D.Holds draft.old before → result ≡ Err FaultKind.Memory → MayTake D.fault D.grows before bytes.now }
     ensures takes { (before : List LineWords) → D.Holds draft.old before

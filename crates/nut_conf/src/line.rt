@@ -36,7 +36,7 @@ fn words(alloc: Global, bytes: &[u8]) -> Result<Words<'_>, FaultKind>
 }
 
 impl<'a> Line<'a> {
-    /// Reads a line. Returns `None` if it has no words.
+    /// Reads a line. Returns `None` for a blank line.
     pub fn read(alloc: Global, bytes: &'a [u8]) -> Result<Option<Self>, FaultKind>
         ensures line { Gives (λ line. option_map_or (λ l. l.words) line []) result (words_of bytes.now) }
         ensures memory { result ≡ Err FaultKind.Memory → (length bytes.now ≤ FILE_LINE_MAX) × IsTrue (has_backslash bytes.now) }

@@ -137,7 +137,7 @@ impl Target {
 
 /// Reads `ups[@host[:port]]`, cut at its first `@` and after that at the first `:`.
 ///
-/// If no host is named it is `localhost`, and if no port is named it is 3493. Allocates no memory.
+/// The default host is `localhost`, the default port 3493. Allocates no memory.
 ///
 /// # Errors
 ///

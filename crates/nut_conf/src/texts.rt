@@ -84,8 +84,8 @@ impl Texts {
         }
     }
 
-    /// Returns the text of this name: 0 to [`DESCRIPTION_MAX`] printing bytes. `None` if the name has no text.
-    /// Allocates no memory. The time doesn't grow with the number of names.
+    /// Returns the text of this name: 0 to [`DESCRIPTION_MAX`] printing bytes. `None` for a name without a
+    /// text. Allocates no memory. The time doesn't grow with the number of names.
     pub fn find(&self, name: &[u8]) -> Option<&[u8]>
         ensures text { option_map (λ t. t.now) result ≡ lookup (bytes_eq name.now) (rows_of self.now) }
         ensures bounded { IfSome result (λ t. IsTrue (is_text 0 DESCRIPTION_MAX t.now)) }

@@ -105,10 +105,10 @@ impl UpsConf {
     ///
     /// # Errors
     ///
-    /// The first test that fails, in this order: `BadName` if the name is empty or has a byte that may not stand there;
-    /// `PastLimit` if the name has more than [`UPS_NAME_MAX`] bytes, the description has more than [`DESCRIPTION_MAX`],
-    /// or there are [`UPSES_MAX`] UPSes; `Repeated` if one has this name; `Unreadable` if a byte of the description
-    /// isn't printing; `Memory`. Nothing changes then.
+    /// The first test that fails, in the order of these sentences; nothing changes then. `BadName` if the name is empty
+    /// or has a byte that may not stand there. `PastLimit` if the name has more than [`UPS_NAME_MAX`] bytes, the
+    /// description has more than [`DESCRIPTION_MAX`], or there are [`UPSES_MAX`] UPSes. `Repeated` if one has this
+    /// name. `Unreadable` if a byte of the description isn't printing. `Memory`.
     pub fn add(&mut self, name: &[u8], desc: &[u8]) -> Result<(), FaultKind>
         ensures added { Gives (λ _. shown_in self.new) result (with_ups (shown_in self.old) name.now desc.now) }
         ensures unchanged { OnErr result (shown_in self.new ≡ shown_in self.old) }

@@ -27,11 +27,11 @@ pub struct MonConfig {
     pub monitors: Lines<Monitored, MONITORS_MAX>,
     /// MINSUPPLIES: a shutdown begins if the power values of the UPSes that aren't critical sum to less than this.
     pub min_supplies: NumberOr<0, 32_000, 1>,
-    /// SHUTDOWNCMD, run by the shell. If none is set, nothing is run.
+    /// SHUTDOWNCMD, which the shell runs, if it is set.
     pub shutdown_cmd: Option<Text<1, COMMAND_MAX>>,
-    /// NOTIFYCMD, run by the shell. If none is set, nothing is run.
+    /// NOTIFYCMD, which the shell runs, if it is set.
     pub notify_cmd: Option<Text<1, COMMAND_MAX>>,
-    /// POWERDOWNFLAG, the path of a file. If none is set, no file is written.
+    /// POWERDOWNFLAG, the path of the file to write, if it is set.
     pub power_down_flag: Option<Text<1, COMMAND_MAX>>,
     /// POLLFREQ: the seconds between two queries for the status of a UPS.
     pub poll_freq: NumberOr<1, 1_000_000, 5>,
@@ -119,7 +119,7 @@ impl MonConfig {
     }
 }
 
-/// States a law and does nothing when called: the least and the greatest number that each directive takes, and its
+/// States a law and does nothing when called: the least and the greatest number of each directive, and its
 /// default; and the least and the greatest length of a text.
 pub fn upsmon_limits()
     ensures min_supplies { numbers_of (λ (c : MonConfig). c.min_supplies) ≡ (0, 32000, 1) }

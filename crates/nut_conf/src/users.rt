@@ -31,7 +31,7 @@ pub struct User {
     pub actions: Vec<Action>,
     /// The values of `instcmds`: the commands that the user may give, or all.
     pub instcmds: Vec<Commands>,
-    /// The role in which a monitor may log in as this user. `None` if no monitor may.
+    /// The role in which a monitor may log in as this user, if one may.
     pub upsmon: Option<Role>,
 }
 
@@ -96,7 +96,7 @@ impl Commands {
 }
 
 impl User {
-    /// Whether this is the user's password. If the user has no password, no password is right.
+    /// Whether this is the user's password. For a user without a password it is always false.
     pub fn has_password(&self, password: &[u8]) -> bool
         ensures { result ≡ password_is password.now self.now }
     {

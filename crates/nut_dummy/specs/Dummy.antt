@@ -12,7 +12,7 @@ use Rattle.nut_dummy.specs.Script.{Script, Timeline, timeline}
 use Rattle.nut_dummy.specs.Teller.{Variable, Teller, Passing, changed, heard_all, may_take_memory, relinked, tells_more}
 
 -- The moment of the start and the greatest so far, in seconds; the seconds of a round; whether there is a link, and its
--- unfinished line; what is held and told.
+-- unfinished line; what is held and reported.
 pub record Content : Type 0 where
   pub start : ℕ
   pub clock : ℕ
@@ -61,7 +61,7 @@ linked s = record s { linked = true; rest = Text []; teller = relinked s.teller 
 abbrev pub cut : Content → Content
 cut s = record s { linked = false; rest = Text []; teller = relinked s.teller }
 
--- Time never runs back. Of each variable the newest value that became due since the last moment takes effect. It is told
+-- Time never runs back. Of each variable the newest value that became due since the last moment takes effect. It is reported
 -- if it differs from the one before and DUMPALL was asked.
 abbrev pub passed : ℕ → Content → Content
 passed t s = record s {
@@ -112,7 +112,7 @@ MayRunOut k piece s =
 abbrev pub IsRefused : Content → Content → Option DummyFault → DummyFault → Type 0
 IsRefused old new refusal fault = (refusal ≡ Some fault) × (new ≡ old)
 
--- A moment passes or is refused. If memory ran out, something was to be told, and nothing changed.
+-- A moment passes or is refused. If memory ran out, something had to be reported, and nothing changed.
 abbrev pub Passes : {U : Type 0} → ℕ → Content → Content → Result U DummyFault → Type 0
 Passes t old new (Ok u) = (moment_refusal old ≡ None) × (new ≡ passed t old)
 Passes t old new (Err (faults.Memory k)) =

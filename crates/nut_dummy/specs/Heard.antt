@@ -1,4 +1,4 @@
--- How a server hears the lines that a dummy driver tells.
+-- How a server hears the lines that a dummy driver sends.
 use Rattle.std.specs.Prelude.{◌≡◌, ℕ, ◌==◌, Bool, List, [], ◌∷◌, ◌++◌, Option, Some, codes, decimal, if◌then◌else◌, map}
 use Rattle.nut_words.specs.Quoting.{IsPrintable}
 use Rattle.nut_proto.specs.Lines.{message}

@@ -1,4 +1,4 @@
--- What a dummy driver was told, and what looking back over it says: the values, and the lines that are owed to a link.
+-- The inputs of a dummy driver, and what looking back over it says: the values, and the lines that are owed to a link.
 -- Histories and lists of deeds have the newest first.
 use Rattle.std.specs.Prelude.{◌≡◌, ℕ, ◌+◌, ◌-◌, ◌||◌, ◌&&◌, Bool, true, false, List, [], ◌∷◌, ◌++◌, Option, Some, None, Result, Ok, Err, if◌then◌else◌, codes, drop, is_some, map, max, take}
 use Rattle.std.specs.List.{flat_map}
@@ -44,7 +44,7 @@ value t (Dumps ∷ past) = value t past
 value t (Pongs ∷ past) = value t past
 value t (Fails number ∷ past) = value t past
 
--- whether a variable was told on this link
+-- whether a variable was reported on this link
 abbrev pub was_told : Timeline → List Deed → Bool
 was_told t [] = false
 was_told t (Fresh ∷ past) = false
@@ -57,7 +57,7 @@ was_told t (Fails number ∷ past) = was_told t past
 abbrev pub seen : List Deed → Timeline → Variable
 seen past t = record { name = t.name; steps = t.steps; value = value t past; told = was_told t past }
 
--- The bytes that a deed owes the link. A change, and how a request with a number ended, are told only once DUMPALL was asked.
+-- The bytes that a deed owes the link. A change, and how a request with a number ended, are reported only once DUMPALL was asked.
 abbrev pub owed : List Timeline → Deed → List Deed → List ℕ
 owed ts Fresh past = []
 owed ts (Changes number change) past =
@@ -163,11 +163,11 @@ abbrev pub IsAccepted : Script → ℕ → List Call → Type 0
 IsAccepted script start [] = Unit {0}
 IsAccepted script start (call ∷ h) = IsAccepted script start h × (refusal call (driver script start h) ≡ None)
 
--- what a driver holds and tells, by looking back over deeds, after n bytes were taken
+-- what a driver holds and reports, by looking back over deeds, after n bytes were taken
 abbrev pub told_by : List Timeline → List Deed → ℕ → Teller
 told_by ts past n = record { variables = map (seen past) ts; asked = has_asked past; waits = drop n (told ts past) }
 
--- ---- what was told and taken
+-- ---- what was reported and accepted
 
 -- whether there is a link
 abbrev pub is_linked : List Call → Bool
@@ -188,7 +188,7 @@ left_by_cut ts round start (Moment t ∷ h) = left_by_cut ts round start h
 left_by_cut ts round start (Bytes piece ∷ h) = left_by_cut ts round start h
 left_by_cut ts round start (Took n ∷ h) = left_by_cut ts round start h
 
--- The bytes told on the last link: those owed to it; after a cut, those of them that were taken.
+-- The bytes reported on the last link: those owed to it; after a cut, those of them that were accepted.
 abbrev pub told_on_link : List Timeline → ℕ → ℕ → List Call → List ℕ
 told_on_link ts round start h = if is_linked h then told ts (deeds round start h) else left_by_cut ts round start h
 
@@ -208,7 +208,7 @@ abbrev pub timelines : Script → List Timeline
 timelines script = all_declared command_variables script.variables
 
 -- This history of accepted calls led to the driver. Its values are those that looking back gives. The bytes that wait
--- are those owed to the link without those taken. The bytes taken, followed by those that wait, are the bytes told.
+-- are those owed to the link without those taken. The bytes taken, followed by those that wait, are the bytes reported.
 pub record Stands (script : Script) (start : ℕ) (h : List Call) (s : Content) : Type 0 where
   pub accepted : IsAccepted script start h
   pub is_driver : s ≡ driver script start h

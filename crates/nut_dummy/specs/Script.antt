@@ -60,7 +60,7 @@ extended s (Setting name value) =
 
 -- ---- reading a script
 
--- what a line says is taken in if there is room
+-- what a line says is added if there is room
 abbrev pub taken_in : Script → Result Item ScriptFaultKind → Result Script ScriptFaultKind
 taken_in s (Ok said) = if has_room s said then Ok (extended s said) else Err PastLimit
 taken_in s (Err fault) = Err fault

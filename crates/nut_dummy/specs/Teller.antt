@@ -1,4 +1,4 @@
--- What a driver holds and tells, and how each call and each line changes it. The law `looks_back` says that this is
+-- What a driver holds and reports, and how each call and each line changes it. The law `looks_back` says that this is
 -- what looking back over all calls says.
 use Rattle.std.specs.Prelude.{ℕ, ◌||◌, ◌&&◌, Bool, true, false, not, List, [], ◌++◌, Option, Some, None, if◌then◌else◌, codes, decimal, is_some, length, map, nat_lt}
 use Rattle.std.specs.List.{flat_map, list_any}
@@ -18,7 +18,7 @@ use Rattle.nut_dummy.specs.Script.{Step}
 use Rattle.nut_dummy.specs.Telling.{text, variable_messages, closing_messages}
 use Rattle.nut_dummy.specs.Writable.{may_be}
 
--- a variable: the values that it gets in a round, its value if it has one, and whether it was told on this link
+-- a variable: the values that it gets in a round, its value if it has one, and whether it was reported on this link
 pub record Variable : Type 0 where
   pub name : List ℕ
   pub steps : List Step
@@ -59,7 +59,7 @@ differ None (Some b) = true
 differ (Some a) None = true
 differ (Some a) (Some b) = not (bytes_eq a b)
 
--- Whether a change is told of a variable: its value differs, or a client set it.
+-- Whether a change of a variable is reported: its value differs, or a client set it.
 abbrev pub is_told : Change → List ℕ → List Step → Option (List ℕ) → Bool
 is_told (Passing round after until) own steps before = differ before (value_after (Passing round after until) own steps before)
 is_told (Assigning name value) own steps before = is_assigned name value own before
@@ -69,7 +69,7 @@ is_told (Doing name value) own steps before = differ before (value_after (Doing 
 abbrev pub lines_of : Bool → List ℕ → Option (List ℕ) → List ℕ
 lines_of limited name value = option_map_or (λ x. text (variable_messages limited name x)) value []
 
--- the lines that tell a change of a variable, with its limits if it wasn't told on this link before
+-- the lines that report a change of a variable, with its limits if it wasn't reported on this link before
 abbrev pub says : Change → Variable → List ℕ
 says change v = if is_told change v.name v.steps v.value then lines_of (not v.told) v.name (value_after change v.name v.steps v.value) else []
 
@@ -82,7 +82,7 @@ followed asked change v = record {
   told = v.told || (asked && is_told change v.name v.steps v.value);
 }
 
--- the variable after a dump, which told it if it has a value
+-- the variable after a dump, which reported it if it has a value
 abbrev pub dumped : Variable → Variable
 dumped v = record { name = v.name; steps = v.steps; value = v.value; told = v.told || is_some v.value }
 
@@ -103,7 +103,7 @@ abbrev pub ended : Option ℕ → Bool → List ℕ
 ended None done = []
 ended (Some number) done = codes "TRACKING " ++ (decimal number ++ (if done then codes " 0\n" else codes " 1\n"))
 
--- All variables follow a change. It is told only if DUMPALL was asked, and behind it how the request with this number
+-- All variables follow a change. It is reported only if DUMPALL was asked, and behind it how the request with this number
 -- ended.
 abbrev pub changed : Option ℕ → Change → Teller → Teller
 changed number change s = record {
@@ -142,11 +142,11 @@ heard_all lines s = all_heard heard lines s
 
 -- ---- where memory may run out
 
--- whether something is told between two tellers: more bytes wait
+-- whether something is reported between two tellers: more bytes wait
 abbrev pub tells_more : Teller → Teller → Bool
 tells_more before after = nat_lt (length before.waits) (length after.waits)
 
--- Whether a line may take memory: it holds a backslash, or something is told for it.
+-- Whether a line may take memory: it holds a backslash, or something is reported for it.
 abbrev pub may_take_memory : LineText → Teller → Bool
 may_take_memory line s = with_backslash line || tells_more s (heard line s)
 
@@ -155,6 +155,6 @@ may_take_memory line s = with_backslash line || tells_more s (heard line s)
 abbrev pub untold : Variable → Variable
 untold v = record v { told = false }
 
--- No bytes wait, nothing was told, and DUMPALL wasn't asked.
+-- No bytes wait, nothing was reported, and DUMPALL wasn't asked.
 abbrev pub relinked : Teller → Teller
 relinked s = record { variables = map untold s.variables; asked = false; waits = [] }

@@ -1,4 +1,4 @@
--- The lines that a driver tells (NUT developer guide, on a driver and its server on one machine).
+-- The lines that a driver sends (NUT developer guide, on a driver and its server on one machine).
 use Rattle.std.specs.Prelude.{ℕ, Bool, List, [], ◌∷◌, ◌++◌, if◌then◌else◌, codes, map}
 use Rattle.std.specs.List.{flat_map}
 use Rattle.std.specs.Option.{option_map_or}
@@ -29,7 +29,7 @@ text_limits name most enums =
     ∷ (Word (codes "SETAUX") ∷ Word name ∷ Word most ∷ [])
     ∷ map (λ value. Word (codes "ADDENUM") ∷ Word name ∷ Quoted value ∷ []) enums
 
--- The lines that tell the flags, aux, enum values and ranges of a writable variable. That they say exactly its
+-- The lines that report the flags, aux, enum values and ranges of a writable variable. That they say exactly its
 -- attributes is the law `told_lines_are_heard`.
 abbrev pub limits_of : Writable → List Message
 limits_of ChargeLow = number_limits (name_of ChargeLow) (codes "100")

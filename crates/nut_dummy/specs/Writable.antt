@@ -11,7 +11,7 @@ use Rattle.nut_dummy.specs.declared.writable.Writable.{Writable}
 use Rattle.nut_dummy.specs.Item.{is_value}
 use Rattle.nut_dummy.specs.declared.writable.Writable.TheVariants.{ChargeLow, RuntimeLow, Sensitivity, ShutdownDelay, Id}
 
--- what a driver tells of a variable besides its value
+-- what a driver reports of a variable besides its value
 pub record Attributes : Type 0 where
   pub flags : Flags
   pub aux : ℕ

@@ -36,7 +36,7 @@ pub enum DummyFault {
     PieceTooLong,
 }
 
-/// A dummy driver: it tells a script to one server at a time.
+/// A dummy driver: it plays a script to one server at a time.
 pub struct Dummy {
     alloc: Global,
     start: u64,
@@ -82,7 +82,7 @@ impl Model for Dummy {
 }
 
 impl Dummy {
-    /// Makes a driver that tells this script from `start` on, a moment in whole seconds. It has no link yet.
+    /// Makes a driver that plays this script from `start` on, a moment in whole seconds. It has no link yet.
     ///
     /// # Errors
     ///
@@ -120,13 +120,13 @@ impl Dummy {
     }
 
     /// Sets the clock to a moment in whole seconds; a moment before the greatest so far changes nothing. Values that
-    /// became due are told if DUMPALL was asked on the link. However far ahead the moment is, the cost is that of the
-    /// steps of one round.
+    /// became due are reported if DUMPALL was asked on the link. However far ahead the moment is, the cost is that of
+    /// the steps of one round.
     ///
     /// # Errors
     ///
-    /// `Busy` exactly while bytes wait. `Memory(0)` if memory cannot be allocated, which comes only if something is to be
-    /// told. Nothing changed then.
+    /// `Busy` exactly while bytes wait. `Memory(0)` if memory cannot be allocated, which comes only if something has to
+    /// be reported. Nothing changed then.
     pub fn moment(&mut self, t: u64) -> Result<(), DummyFault>
         ensures passes { Passes t self.old self.new result }
         ensures stands { (script : ScriptValue) (start : ℕ) (h : List Call) → Stands script start h self.old
@@ -141,8 +141,8 @@ impl Dummy {
         Ok(())
     }
 
-    /// Sets the clock to a moment, unless it is past, and tells what became due. Nothing changes if memory cannot be
-    /// allocated, which comes only if something is to be told.
+    /// Sets the clock to a moment, unless it is past, and reports what became due. If memory cannot be allocated,
+    /// nothing changes; only a report needs any.
     fn pass(&mut self, t: u64) -> Result<(), AllocError>
         ensures ok { OnOk result (self.new ≡ passed t self.old) }
         ensures err { OnErr result ((self.new ≡ self.old) × IsTrue (tells_more self.old.teller (passed t self.old).teller)) }
@@ -186,7 +186,7 @@ impl Dummy {
     ///
     /// The first of these that applies: `NotLinked`; `Busy`, exactly while bytes wait; `PieceTooLong` past [`PIECE_MAX`]
     /// bytes. These change nothing. `Memory` with the number of lines that were done, which stand; then the link is cut.
-    /// It comes only at a line that holds a backslash, or for which something is told.
+    /// It comes only at a line that holds a backslash, or for which something is reported.
     pub fn server_bytes(&mut self, piece: &[u8]) -> Result<(), DummyFault>
         ensures heard { Hears piece.now self.old self.new result }
         ensures stands { (script : ScriptValue) (start : ℕ) (h : List Call) → Stands script start h self.old

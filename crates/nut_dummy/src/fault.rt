@@ -17,7 +17,7 @@ pub enum ScriptFaultKind {
     /// The time of a timer isn't a number of 1 to 86,400 seconds.
     #[error("BadTimer")]
     BadTimer,
-    /// A timer in a `.dev` script, which is told only once.
+    /// A timer in a `.dev` script, which is played only once.
     #[error("TimerInDev")]
     TimerInDev,
     /// A line, a name or a value is too long, or there are too many variables or values.

@@ -19,7 +19,7 @@ use nut_words::{
 };
 use std::alloc::Global;
 
-/// How a script is told (NUT manual page dummy-ups(8)).
+/// How a script is played (NUT manual page dummy-ups(8)).
 #[derive(Clone, Copy, PartialEq, Eq)]
 pub enum ScriptKind {
     /// `.dev`: once, at the start. It has no timers.

@@ -1,4 +1,4 @@
-//! Scripts: the values that a dummy driver tells, and when.
+//! Scripts: the values that a dummy driver reports, and when.
 ghost use Rattle.std.specs.Prelude.{◌≡◌, ◌⊎◌, ◌+◌, ◌<◌, ◌≤◌, ◌^◌, ◌||◌, [], ◌∷◌, length, map, is_some, nat_lt, if◌then◌else◌, IfErr, OnErr, OnOk, IsTrue, Ok, Err};
 ghost use Rattle.std.specs.List.{insert};
 ghost use Rattle.nut_state.specs.Sorted.{IsAscending};
@@ -224,8 +224,8 @@ impl Script {
     /// # Errors
     ///
     /// The fault of the first faulty line. For any line, in this order: `PastLimit` if it has more than
-    /// [`SCRIPT_LINE_MAX`](crate::limits::SCRIPT_LINE_MAX) bytes; `BadLine` if a byte is neither 0x20 to 0x7E nor tab
-    /// nor carriage return.
+    /// [`SCRIPT_LINE_MAX`](crate::limits::SCRIPT_LINE_MAX) bytes; `BadLine` if a byte isn't 0x20 to 0x7E, tab or
+    /// carriage return.
     ///
     /// Then, without a colon: `BadLine` if its words aren't `TIMER` and one more; `BadTimer` if the time isn't 1 to
     /// [`TIMER_MAX`](crate::limits::TIMER_MAX) seconds; `TimerInDev` in a `.dev` script.

@@ -1,4 +1,4 @@
-//! What a driver holds and tells.
+//! What a driver holds and reports.
 ghost use Rattle.std.specs.Prelude.{◌≡◌, ◌<◌, [], ◌++◌, Some, ⊤, false, if◌then◌else◌, length, IsTrue, OnErr, OnOk};
 ghost use Rattle.std.specs.List.{flat_map};
 ghost use Rattle.nut_dummy.specs.Command.{command_of};
@@ -31,7 +31,7 @@ impl Model for Teller {
     ghost view = { λ t. record { variables = t.variables.items; asked = t.asked; waits = t.outbox } };
 }
 
-/// Appends these bytes to those that wait. If there are none, it takes no memory.
+/// Appends these bytes to those that wait. Only one or more bytes need memory.
 fn queue(outbox: &mut Outbox, bytes: &[u8]) -> Result<(), AllocError>
     ensures ok { OnOk result (outbox.new ≡ outbox.old ++ bytes.now) }
     ensures err { OnErr result ((outbox.new ≡ outbox.old) × (0 < length bytes.now)) }
@@ -43,7 +43,7 @@ fn queue(outbox: &mut Outbox, bytes: &[u8]) -> Result<(), AllocError>
     }
 }
 
-/// Appends the line that tells how the request with this number ended, if it has a number.
+/// Appends the line that reports how the request with this number ended, if it has a number.
 fn put_end(
     out: &mut Vec<u8>,
     variables: &[Variable],
@@ -58,7 +58,7 @@ fn put_end(
     Ok(())
 }
 
-/// Makes the lines that tell a change, and how the request with this number ended, if DUMPALL was asked.
+/// Makes the lines that report a change, and how the request with this number ended, if DUMPALL was asked.
 fn make_lines(
     out: &mut Vec<u8>,
     asked: bool,
@@ -99,8 +99,8 @@ impl Teller {
         &self.variables
     }
 
-    /// Applies a change to all variables, and tells how the request with this number ended. The lines are made first, so
-    /// that nothing changes if memory cannot be allocated. It takes none unless something is told.
+    /// Applies a change to all variables, and reports how the request with this number ended. The lines are made first,
+    /// so that nothing changes if memory cannot be allocated. Only a report needs memory.
     pub fn change(&mut self, change: &Change<'_>, number: Option<u32>) -> Result<(), AllocError>
         ensures ok { OnOk result (self.new ≡ changed number (change_of change.now) self.old) }
         ensures err { OnErr result ((self.new ≡ self.old) × IsTrue (tells_more self.old (changed number (change_of change.now) self.old))) }
@@ -130,7 +130,7 @@ impl Teller {
         Ok(())
     }
 
-    /// Does what the server asked. It takes no memory unless something is told.
+    /// Does what the server asked. Only a report needs memory.
     fn answer(&mut self, ask: Option<DriverAsk<'_>>) -> Result<(), AllocError>
         ensures ok { OnOk result (self.new ≡ answered ask.entry self.old) }
         ensures err { OnErr result ((self.new ≡ self.old) × IsTrue (tells_more self.old (answered ask.entry self.old))) }
@@ -141,7 +141,7 @@ impl Teller {
         }
     }
 
-    /// Does what the server asked. It takes no memory unless something is told.
+    /// Does what the server asked. Only a report needs memory.
     fn obey(&mut self, ask: DriverAsk<'_>) -> Result<(), AllocError>
         ensures ok { OnOk result (self.new ≡ answered (Some ask.entry) self.old) }
         ensures err { OnErr result ((self.new ≡ self.old) × IsTrue (tells_more self.old (answered (Some ask.entry) self.old))) }
@@ -168,7 +168,7 @@ impl Teller {
         }
     }
 
-    /// Does an instant command, if the driver knows it. It takes no memory unless something is told.
+    /// Does an instant command, if the driver knows it. Only a report needs memory.
     fn command(&mut self, name: &[u8], number: Option<u32>) -> Result<(), AllocError>
         ensures ok { OnOk result (self.new ≡ commanded number (command_of name.now) self.old) }
         ensures err { OnErr result ((self.new ≡ self.old) × IsTrue (tells_more self.old (commanded number (command_of name.now) self.old))) }
@@ -185,8 +185,8 @@ impl Teller {
         }
     }
 
-    /// Tells that the request with this number wasn't done, if DUMPALL was asked. It takes no memory unless something is
-    /// told.
+    /// Reports that the request with this number wasn't done, if DUMPALL was asked. Only a report needs
+    /// memory.
     fn fail(&mut self, number: Option<u32>) -> Result<(), AllocError>
         ensures ok { OnOk result (self.new ≡ commanded number None self.old) }
         ensures err { OnErr result ((self.new ≡ self.old) × IsTrue (tells_more self.old (commanded number None self.old))) }
@@ -198,7 +198,7 @@ impl Teller {
         }
     }
 
-    /// Starts a new link, or ends one: no bytes wait, and nothing was told on it.
+    /// Starts a new link, or ends one. Nothing waits then. All variables count as unreported.
     pub fn relink(&mut self)
         ensures { self.new ≡ relinked self.old }
     {
@@ -209,7 +209,7 @@ impl Teller {
 }
 
 /// Takes in the lines of the server. If memory cannot be allocated for one, nothing changes. That comes only at a line
-/// that holds a backslash, or for which something is told.
+/// that holds a backslash, or for which something is reported.
 impl HearLine for Teller {
     type With = Global;
 

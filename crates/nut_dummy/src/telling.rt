@@ -1,4 +1,4 @@
-//! The lines that tell of all variables, in their order.
+//! The lines that report all variables, in their order.
 ghost use Rattle.std.specs.Prelude.{◌≡◌, ◌<◌, ◌++◌, true, length, map, OnErr, OnOk};
 ghost use Rattle.std.specs.List.{flat_map, list_any};
 ghost use Rattle.nut_dummy.specs.Telling.{text, closing_messages};
@@ -14,7 +14,7 @@ use std::alloc::AllocError;
 const CLOSING: &[u8] =
     b"ADDCMD beeper.disable\nADDCMD beeper.enable\nADDCMD load.off\nADDCMD load.on\nADDCMD test.battery.start\nADDCMD test.battery.stop\nADDCMD test.failure.start\nADDCMD test.failure.stop\nDATAOK\nDUMPDONE\n";
 
-/// Appends the lines that tell a change.
+/// Appends the lines that report a change.
 pub fn say_all(
     out: &mut Vec<u8>,
     variables: &[Variable],
@@ -48,7 +48,7 @@ pub fn is_done(change: &Change<'_>, variables: &[Variable]) -> bool
     }
 }
 
-/// Returns the line that tells how a request ended, if the request has a number.
+/// Returns the line that reports how a request ended, if the request has a number.
 pub fn ended(number: Option<u32>, done: bool) -> ArrayVec<u8, 32>
     ensures { result.items ≡ ended number done }
 {
@@ -97,7 +97,7 @@ pub fn dump(out: &mut Vec<u8>, variables: &[Variable]) -> Result<(), AllocError>
     Ok(())
 }
 
-/// Marks all variables that have a value as told: a dump told them.
+/// Marks all variables that have a value as reported: a dump reported them.
 pub fn mark_all_dumped(variables: &mut [Variable])
     ensures { variables.new ≡ map dumped variables.old }
 {
@@ -106,7 +106,7 @@ pub fn mark_all_dumped(variables: &mut [Variable])
     }
 }
 
-/// Marks all variables as not told on the link.
+/// Marks all variables as not reported on the link.
 pub fn forget_link(variables: &mut [Variable])
     ensures { variables.new ≡ map untold variables.old }
 {

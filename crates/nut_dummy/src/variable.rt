@@ -37,7 +37,7 @@ pub enum Change<'a> {
     },
 }
 
-/// A variable: the values that it gets in a round, its value, and whether it was told on this link.
+/// A variable: the values that it gets in a round, its value, and whether it was reported on this link.
 #[derive(Drop)]
 pub struct Variable {
     name: Name,
@@ -65,7 +65,7 @@ fn differ(before: Option<&[u8]>, after: Option<&[u8]>) -> bool
     }
 }
 
-/// Appends the lines that limit the variable of this name; none if clients may not set it.
+/// Appends the lines that limit the variable of this name, if clients may set it.
 fn put_limits(out: &mut Vec<u8>, name: &[u8]) -> Result<(), AllocError>
     ensures { OnOk result (out.new.items ≡ out.old.items ++ text (limits name.now)) }
 {
@@ -188,7 +188,7 @@ impl Variable {
         }
     }
 
-    /// Whether a change of it is told.
+    /// Whether a change of the variable is reported.
     fn is_told(&self, change: &Change<'_>) -> bool
         ensures { result ≡ is_told (change_of change.now) self.now.name self.now.steps self.now.value }
     {
@@ -200,7 +200,7 @@ impl Variable {
         }
     }
 
-    /// Appends the lines that tell a change of it.
+    /// Appends the lines that report a change of the variable.
     pub(crate) fn say(&self, out: &mut Vec<u8>, change: &Change<'_>) -> Result<(), AllocError>
         ensures ok { OnOk result (out.new.items ≡ out.old.items ++ says (change_of change.now) self.now) }
         ensures err { OnErr result (0 < length (says (change_of change.now) self.now)) }
@@ -237,14 +237,14 @@ impl Variable {
         }
     }
 
-    /// Marks it as told if it has a value: a dump told it.
+    /// Marks the variable as reported if it has a value: a dump reported it.
     pub(crate) fn mark_dumped(&mut self)
         ensures { self.new ≡ dumped self.old }
     {
         self.told = self.told || self.value.is_some();
     }
 
-    /// Marks it as not told on this link.
+    /// Marks the variable as not reported on this link.
     pub(crate) fn forget_link(&mut self)
         ensures { self.new ≡ untold self.old }
     {

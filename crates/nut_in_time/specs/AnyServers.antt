@@ -10,7 +10,7 @@ use Rattle.nut_monitor_spec.specs.Trace.{Answer, Entry, clock, has_begun, linked
 use Rattle.nut_in_time.specs.Pace.{Pace, IsPolled, IsPrompt, Says}
 use Rattle.nut_in_time.specs.InTime.{BeginsBy, IsKnown, Needs, has_fsd, is_low, secondary_by, seen_by, to_halted}
 
--- This holds of a monitor's past at each time since the events `first`, after which it was told `newest`.
+-- This holds of a monitor's past at each time since the events `first`, after which it had `newest`.
 abbrev pub Always : Configuration → (List Entry → Type 0) → List Event → List Event → Type 0
 Always configuration Holds first [] = Holds (trace configuration first)
 Always configuration Holds first (event ∷ newest) =
@@ -42,7 +42,7 @@ pub record IsTold (configuration : Configuration) (pace : Pace) (Words : List (L
       × EachGiven i (length first) Words (trace configuration (newest ++ first))
 
 -- The shutdown has begun once the clock is past `by`, and it began at most `more` later, if this holds of the lines `low` at
--- `first`. Then the machine is in Halted `to_halted` after that, whatever it is told next.
+-- `first`. Then the machine is in Halted `to_halted` after that, whatever comes next.
 abbrev pub StopsAsTold : Configuration → Pace → (List (List ℕ) → Bool) → (ℕ → Bool) → (ℕ → List Entry → Type 0) → (ℕ → ℕ) → ℕ → Type 0
 StopsAsTold configuration pace Words low Has by more = (first newest later : List Event) →
     let t : ℕ = by (clock (trace configuration first)) in

@@ -1,4 +1,4 @@
--- A primary whose UPSes may be at several servers, and the machines that need these, by what each is told.
+-- A primary whose UPSes may be at several servers, and the machines that need these, by what each reads.
 use Rattle.std.specs.Prelude.{ℕ, ◌≡◌, ◌+◌, ◌-◌, ◌*◌, ◌<◌, ◌≤◌, Bool, true, false, List, [], ◌∷◌, ◌++◌, length, Some}
 use Rattle.nut_monitor_spec.specs.declared.Query.TheVariants.{Fsd}
 use Rattle.nut_monitor_spec.specs.Acceptance.{IsAccepted}
@@ -36,7 +36,7 @@ PrimariesForceAsTold configuration pace = (first newest : List Event) (i : ℕ) 
     i < length configuration.lines → (line_in configuration.lines i).primary ≡ true → has_begun configuration past ≡ true →
     clock (begun configuration past) + 2 * pace.delay < clock past → forced i past ≡ true
 
--- Since `first` a machine is told that the UPSes of its lines `low` are forced, at least until its shutdown begins. At that
+-- Since `first` a machine reads that the UPSes of its lines `low` are forced, at least until its shutdown begins. At that
 -- time, which for their primary is `first_p`, the primary's shutdown had begun, at most `before` seconds ago. From then on its
 -- clock goes by at most `drift` seconds more than the machine's. If its HOSTSYNC suffices, and it has left Forcing though its
 -- counts of logins don't say that it is alone, then the machine is in Halted.

@@ -5,8 +5,8 @@ ghost use Rattle.std.specs.Prelude.{◌≡◌, ◌≤◌, ◌+◌, ◌↔◌, �
 use nut_words::{Full, PIECE_MAX};
 use std::marker::Model;
 
-/// The bytes of one arrival: at most [`PIECE_MAX`]. They lie in the value itself, and what lies behind them is left as it is:
-/// so neither a read into a piece nor clearing it has to write over its room.
+/// The bytes of one arrival: at most [`PIECE_MAX`]. They lie in the value itself, and what lies behind them is left as it is.
+/// So a read into a piece, and clearing it, needn't write over its room.
 #[derive(Drop)]
 pub struct Piece {
     pub(crate) room: [u8; PIECE_MAX],

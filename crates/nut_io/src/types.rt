@@ -9,7 +9,7 @@ pub enum Written {
     Took(usize),
     /// No byte was taken. Some may be taken after the next arrival.
     Later,
-    /// No byte was taken, and none will be.
+    /// The connection accepts no bytes any more.
     Failed,
 }
 

@@ -89,7 +89,7 @@ has_more mores.OneOrMore words = nat_le 1 (length words)
 abbrev pub is_numbered : List (List ℕ) → Bool
 is_numbered words = length words == 2 && bytes_eq (word_at words 0) (codes "TRACKING") && is_some (tracking_number (word_at words 1))
 
--- What a line that matches does to a query: its list goes on, with these rows so far, or it is complete.
+-- What a line that matches does to a query: its list has more rows, with these so far, or it is complete.
 pub data Progress : Type 0 where
   Listing : List (List (List ℕ)) → Progress
   Complete : Outcome → Progress

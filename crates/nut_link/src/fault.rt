@@ -15,8 +15,8 @@ pub enum LinkFault {
     /// more than [`ROWS_MAX`](nut_proto::ROWS_MAX) rows.
     #[error("the line does not read")]
     BadLine,
-    /// A line came while no query was outstanding, or before the server took all bytes of the query; or a query was
-    /// asked while another one, or its answer, was still there.
+    /// A line came while no query was outstanding, or before the server had accepted all bytes of the query. Or a
+    /// query was asked while another one, or its answer, was still there.
     #[error("out of order")]
     OutOfOrder,
     /// Memory could not be allocated.

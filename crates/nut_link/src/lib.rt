@@ -1,5 +1,5 @@
-//! The client's end of a connection to upsd (RFC 9271): a link, which asks one query after the other and takes a line as
-//! an answer only where it matches the query.
+//! The client's end of a connection to upsd (RFC 9271): a link, which asks one query after the other. It accepts a line
+//! as an answer only if it matches the query.
 //!
 //! What answer a request expects and when a line matches it is in `specs/Matching.antt`, what a link is and how each call
 //! and each line moves it in `specs/Link.antt`.

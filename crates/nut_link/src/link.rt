@@ -72,9 +72,9 @@ impl Link {
     ///
     /// # Errors
     ///
-    /// The first of these that applies, and then nothing changed: the fault with which the link failed; `OutOfOrder`
-    /// where a query or its answer is still there; `BadQuery` where the query has a byte outside 0x20 to 0x7E or more
-    /// than [`LINE_MAX`](nut_words::LINE_MAX) bytes before its line feed.
+    /// The first of these that applies; nothing changes then. The fault with which the link failed. `OutOfOrder` if a
+    /// query or its answer is still there. `BadQuery` if the query has a byte outside 0x20 to 0x7E or more than
+    /// [`LINE_MAX`](nut_words::LINE_MAX) bytes before its line feed.
     pub fn ask(&mut self, request: &Request<'_>) -> Result<(), LinkFault>
         ensures answered { result ≡ answer_by (ask_fault request.now self.old.exchange) }
         ensures stands { self.new ≡ with_exchange (asked request.now self.old.exchange) self.old }
@@ -116,11 +116,11 @@ impl Link {
     ///
     /// # Errors
     ///
-    /// The fault with which the link failed before, or with which it fails at the first line that it can't take: in
-    /// this order `BadLine` for its form, `OutOfOrder`, `NotMine`, and `BadLine` for a row past
-    /// [`ROWS_MAX`](nut_proto::ROWS_MAX). An answer that was complete before that line can still be taken out. `Memory`
-    /// comes only at a line that has a backslash, names an error, gives a request its number, is a row of a list, or is
-    /// any other line that isn't `OK`, `BEGIN LIST` or `END LIST`.
+    /// The fault with which the link failed before, or with which it fails at the first line that it refuses. These
+    /// are, in this order, `BadLine` for its form, `OutOfOrder`, `NotMine`, and `BadLine` for a row past
+    /// [`ROWS_MAX`](nut_proto::ROWS_MAX). An answer that was complete before that line stays available. `Memory` comes
+    /// only at these lines: one with a backslash; one that names an error or gives a request its number; a row of a
+    /// list; and any other that isn't `OK`, `BEGIN LIST` or `END LIST`.
     pub fn feed(&mut self, piece: &[u8]) -> Result<(), LinkFault>
         ensures feeds { (done : ℕ) × Feeds self.old piece.now done result self.new }
 

@@ -19,8 +19,8 @@ use std::alloc::Global;
 use std::marker::Model;
 use std::mem;
 
-/// A query that was asked: what it expects, its line and how much of that the server took, and the rows of its list so
-/// far once the list has begun.
+/// A query that was asked: what it expects, its line, and how much of that the server has accepted. Once a list has
+/// begun, also its rows so far.
 #[derive(Drop)]
 pub struct Query {
     expected: Expected,
@@ -101,7 +101,7 @@ impl Query {
         self.taken += n;
     }
 
-    /// Takes in an answer. Returns the outcome of the query, or `None` if its list goes on.
+    /// Takes in an answer. Returns the outcome of the query, or `None` if its list has more rows.
     pub(crate) fn hear(
         &mut self,
         alloc: Global,

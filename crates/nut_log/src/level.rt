@@ -7,7 +7,7 @@ use std::fmt::Display;
 pub enum Level {
     /// Why a program ends, the fault of a file, or a reload that is refused: 3, Error.
     Error,
-    /// What may keep a machine from being told or stopped in time: 4, Warning.
+    /// What may keep a machine from being warned or shut down in time: 4, Warning.
     Warning,
     /// What is normal and matters, such as a notice or the beginning of a shutdown: 5, Notice.
     Notice,

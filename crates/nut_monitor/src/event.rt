@@ -1,6 +1,6 @@
-//! The events that a monitor is told.
+//! The events of a monitor: its inputs.
 
-/// An event that a monitor is told. A link has the number of its MONITOR line, from 0 on.
+/// An event: one input of a monitor. A link has the number of its MONITOR line, from 0 on.
 #[derive(Clone, Copy, Drop)]
 pub enum Event<'a> {
     /// This many seconds have passed since the start. A time before the latest one leaves the clock as it is.

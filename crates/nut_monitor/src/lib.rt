@@ -1,4 +1,4 @@
-//! A monitor of UPSes (upsmon(8)): it is told one event at a time, and decides what it asks, which notices it gives,
+//! A monitor of UPSes (upsmon(8)): it handles one event at a time, and decides what it asks, which notices it gives,
 //! and when its machine shuts down.
 #![tactic(auto)]
 

@@ -123,8 +123,8 @@ fn keep_answer(last: Option<LastQuery>, outcome: Option<Outcome>, kept: &mut Opt
     }
 }
 
-/// Queues NOCOMM if more than NOCOMMWARNTIME seconds have passed since the last status of the UPS (since the start, if
-/// there was none) and since its last NOCOMM, if there was one. Returns whether it did.
+/// Queues NOCOMM if more than NOCOMMWARNTIME seconds have passed since the last status of the UPS and since its last
+/// NOCOMM. Before the first status the time counts from the start. Returns whether it did.
 fn tell_silence(
     config: &MonConfig,
     clock: u64,
@@ -145,7 +145,7 @@ fn tell_silence(
 }
 
 impl MonitorLine {
-    /// Makes a line without a link, of whose UPS nothing is known.
+    /// Makes a line whose link isn't made and whose UPS isn't known yet.
     pub fn new() -> MonitorLine
         ensures { result ≡ unwatched }
     {
@@ -259,8 +259,8 @@ impl MonitorLine {
         (done, heard)
     }
 
-    /// Queues NOCOMM if more than NOCOMMWARNTIME seconds have passed since the last status of its UPS (since the start,
-    /// if there was none) and since its last NOCOMM, if there was one.
+    /// Queues NOCOMM if more than NOCOMMWARNTIME seconds have passed since the last status of its UPS and since its
+    /// last NOCOMM. Before the first status the time counts from the start.
     pub fn tell_silence(
         &mut self,
         config: &MonConfig,

@@ -57,7 +57,7 @@ impl Model for Monitor {
 }
 
 impl Monitor {
-    /// Makes a monitor that was told nothing yet. It allocates what it keeps of each line, and room for all notices
+    /// Makes a monitor before its first event. It allocates what it keeps of each line, and room for all notices
     /// that may wait; afterwards only `LinkBytes` events allocate.
     ///
     /// # Errors
@@ -131,7 +131,7 @@ impl Monitor {
         self.state.waiting(i)
     }
 
-    /// Returns what is known of the UPS of the MONITOR line with this number; `None` if there is no such line.
+    /// Returns what is known of the UPS of the MONITOR line with this number; `None` for an unknown number.
     pub fn known(&self, i: usize) -> Option<Known>
         ensures { result ≡ option_map (λ w. w.known) (watch_at i self.now.content.watches) }
     {
@@ -139,7 +139,7 @@ impl Monitor {
     }
 
     /// Returns the last query put on the link of the MONITOR line with this number since it was last made, and when.
-    /// `None` if there was none, or no line has the number.
+    /// `None` before the first, and for an unknown number.
     pub fn last_query(&self, i: usize) -> Option<LastQuery>
         ensures { result ≡ last_on (watch_at i self.now.content.watches) }
     {
@@ -147,7 +147,7 @@ impl Monitor {
     }
 
     /// Returns the last answer on the link of the MONITOR line with this number since it was last made, and the query that
-    /// it answers. `None` if there was none, or no line has the number.
+    /// it answers. `None` before the first, and for an unknown number.
     pub fn last_answer(&self, i: usize) -> Option<&LastAnswer>
         ensures value { option_map (λ a. a.now) result ≡ answer_on (watch_at i self.now.content.watches) }
 
@@ -185,8 +185,9 @@ impl Monitor {
         self.state.notices.take()
     }
 
-    /// Appends the text of a notice to `out`: the message of its type (NOTIFYMSG in upsmon.conf(5), or the default),
-    /// with its first `%s` replaced by the UPS as upsmon.conf writes it. The message of SHUTDOWN is appended as it is.
+    /// Appends the text of a notice to `out`: the message of its type, which is NOTIFYMSG in upsmon.conf(5) or the
+    /// default. Its first `%s` is replaced by the UPS as upsmon.conf writes it. The message of SHUTDOWN is appended as
+    /// it is.
     ///
     /// # Errors
     ///
@@ -238,14 +239,14 @@ impl Monitor {
         ensures stands { (configuration : Configuration) (events : List Events) → Tells configuration events self.old.content
             → Tells configuration (after result (event_of event.entry) events) self.new.content }
 
-        // It goes on with the configuration that it was made with.
+        // It keeps the configuration that it was made with.
         ensures config { self.new.config ≡ self.old.config }
 
         // A refused event changes nothing.
         ensures unchanged { (fault : AnyFault) → refusal self.old.content (event_of event.entry) ≡ Some fault
             → (result ≡ Err fault) × (self.new ≡ self.old) }
 
-        // Few notices wait, and each link keeps at most one query, a line and the rows of a list, whatever was told.
+        // Few notices wait, and each link keeps at most one query, a line and the rows of a list, after any events.
         ensures little { KeepsLittle self.new.content }
     {
         let answer = self.step(event);

@@ -96,7 +96,7 @@ fn ask_all(config: &MonConfig, clock: u64, phase: Phase, watches: &mut Vec<Monit
 }
 
 impl State {
-    /// Makes the state of a monitor that was told nothing.
+    /// Makes the state of a monitor before its first event.
     pub fn new(alloc: Global, config: &MonConfig) -> Result<State, AllocError>
         ensures { IfOk result (λ s. content_in (configuration_of config.now) s ≡ content (configuration_of config.now) []) }
     {

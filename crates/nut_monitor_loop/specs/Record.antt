@@ -1,4 +1,4 @@
--- What a world tells of itself: a list of entries, the newest first.
+-- What a world states about itself: a list of entries, the newest first.
 use Rattle.std.specs.Prelude.{◌≡◌, ◌<◌, ℕ, Bool, true, List, [], ◌∷◌, length, take, Option, Some, None}
 use Rattle.nut_monitor_spec.specs.declared.Notice.{Notice}
 use Rattle.nut_monitor_spec.specs.Event.{Event}
@@ -37,11 +37,11 @@ abbrev pub giving : Option Event → List Entry
 giving None = []
 giving (Some e) = Gave e ∷ []
 
--- what `next` is told by that gave this value, with these bytes in the piece
+-- what `next` leaves in the record if it gave this value, with these bytes in the piece
 abbrev pub given_by : Next → List ℕ → List Entry
 given_by n piece = giving (event_given n piece)
 
--- what a write of these bytes to link i is told by
+-- what a write of these bytes to link i leaves in the record
 abbrev pub written_by : Written → ℕ → List ℕ → Entry
 written_by (Took n) i bytes = TookBytes i (take n bytes)
 written_by Later i bytes = WasLate i

@@ -59,7 +59,7 @@ Stands first h owed (WriteBroke i) event owed' =
     (refusal (content first h) (LinkLost i) ≡ None) × (event ≡ Some (LinkLost i)) × (owed ≡ None) × (owed' ≡ Some i)
 -- Only the link that has to be closed is closed.
 Stands first h owed (WasClosed i) event owed' = (event ≡ None) × (owed ≡ Some i) × (owed' ≡ None)
--- The notice that is handed over is the oldest that waits, and is taken.
+-- The notice that is handed over is the oldest that waits, and is handed out.
 Stands first h owed (WasTold notice) event owed' =
     (others : List Notice) × ((content first h).notices ≡ notice ∷ others) × (event ≡ Some NoticeTaken) × (owed' ≡ owed)
 

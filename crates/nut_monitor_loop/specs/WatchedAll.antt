@@ -10,7 +10,7 @@ use Rattle.nut_monitor_loop.specs.Watched.{Step, entries_of, history_of, Told, t
 use Rattle.nut_monitor_loop.specs.Memory.{MemoryState, event_of, given_in}
 
 -- The first of the events that `old` had left were given in order, and `new` has the others left: none, unless the
--- machine has to be halted. What was given, taken, closed and handed over tells a history whose content the monitor
+-- machine has to be halted. What was given, accepted, closed and handed over leads to a history whose content the monitor
 -- has. The bytes taken of each link since it was made are those that were sent on it. The notices handed over are those
 -- of the history, in order.
 pub record WatchedAll (first : Configuration) (old new : MemoryState) (s : Content) (phase : Phase) : Type 0 where

@@ -15,14 +15,15 @@ use std::sync::Wait;
 
 /// Watches until the machine has to be halted or the world ends. Returns the phase.
 ///
-/// The monitor must have been told nothing yet. It is told each event of the world, and the result of each write.
-/// Before the next event is asked for, the bytes that wait on each link were offered until none waited or the world
-/// took no more; each link that the monitor dropped by itself, or that a failed write ended, was closed; and each
-/// notice was handed to the world. No other link is closed.
+/// The monitor has to be new. It gets each event of the world, and the result of each write. Before the loop asks
+/// for the next event, it offers the bytes that wait on each link, until they are written or the world accepts no
+/// more. It closes each link that the monitor dropped by itself, or that a failed write ended; all others stay. It
+/// hands each notice to the world.
 ///
-/// At the return, with or without an error, the monitor's content is that of a history of accepted events which what the
-/// world did tells. The bytes that the world took of each link since it was made are those that were sent on it.
-/// The notices that the world was handed are those of the history, in order; after an error some may still wait.
+/// At the return, with or without an error, the monitor's content is that of a history of accepted events that follows
+/// from what the world did. The bytes that the world accepted for each link since it was made are those that were sent
+/// on it. The notices that the world was handed are those of the history, in order; after an error some may still
+/// wait.
 ///
 /// # Errors
 ///
@@ -80,7 +81,7 @@ fn go_on<W: MonWorld>(
 }
 
 /// Writes what waits, hands over the notices, and handles the next event, unless the machine has to be halted. Returns
-/// whether the loop goes on.
+/// whether the loop continues.
 fn round<W: MonWorld>(
     monitor: &mut Monitor,
     world: &mut W,
@@ -106,7 +107,8 @@ fn round<W: MonWorld>(
     turn(monitor, world, piece)
 }
 
-/// Asks for the next event, unless the machine has to be halted, and handles it. Returns whether the loop goes on.
+/// Asks for the next event, unless the machine has to be halted, and handles it. Returns whether the loop
+/// continues.
 fn turn<W: MonWorld>(monitor: &mut Monitor, world: &mut W, piece: &mut Piece) -> Result<bool, Fault>
     ghost since: { Since W }
     requires few { W.fault_count world.old < 2 ^ 64 - 1 }
@@ -143,7 +145,8 @@ fn has_halted(monitor: &Monitor) -> bool
     }
 }
 
-/// Tells the monitor the event that the world gave, if it gave one, and closes the link that the monitor dropped at it.
+/// Passes the event that the world gave, if it gave one, to the monitor, and closes the link that the monitor dropped
+/// at it.
 fn hand_on<W: MonWorld>(
     monitor: &mut Monitor,
     world: &mut W,
@@ -232,7 +235,8 @@ fn settle_links<W: MonWorld>(monitor: &mut Monitor, world: &mut W) -> Result<boo
     Ok(true)
 }
 
-/// Writes until nothing waits on a link or the world takes no more. Returns whether no write failed.
+/// Writes until all that waits on a link is written or the world accepts no more. Returns whether all writes
+/// succeeded.
 fn flush<W: MonWorld>(monitor: &mut Monitor, world: &mut W, i: usize) -> Result<bool, Fault>
     ghost since: { Since W }
     requires few { W.fault_count world.old < 2 ^ 64 - 1 }
@@ -257,7 +261,7 @@ fn flush<W: MonWorld>(monitor: &mut Monitor, world: &mut W, i: usize) -> Result<
     Ok(true)
 }
 
-/// Offers what waits on a link to the world once, and tells the monitor the result.
+/// Offers what waits on a link to the world once, and passes the result to the monitor.
 fn write_once<W: MonWorld>(monitor: &mut Monitor, world: &mut W, i: usize) -> Result<Written, Fault>
     ghost since: { Since W }
     requires few { W.fault_count world.old < 2 ^ 64 - 1 }

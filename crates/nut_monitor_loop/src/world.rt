@@ -15,10 +15,10 @@ use nut_monitor::{Monitor, Notice};
 /// line, from 0 on. Each call is shown the monitor, for example so that the world can report what the monitor has heard.
 ///
 /// Any call except `faults` may return a fault instead, if its input or output fails. It has then done nothing, and
-/// the fault is counted. After `next`, with or without a fault, no link is late.
+/// the fault is counted. After `next`, also after its fault, no link is late.
 pub trait MonWorld {
-    /// Calls that are shown monitors of this configuration may lead from the first state to the second, and this, the newest
-    /// first, is what it gave, took, closed and was handed by them.
+    /// Calls that are shown monitors of this configuration may lead from the first state to the second. This, the newest
+    /// first, is what the world gave, accepted, closed and was handed by them.
     ghost did: { MonConfig → Self → Self → List Entry → Type 0 };
 
     /// On which links a write was `Later` since the last `next`.
@@ -76,7 +76,7 @@ pub trait MonWorld {
         ensures late { (j : ℕ) → late self.new j ≡ late self.old j }
         ensures counted { fault_count self.new ≡ (if is_ok result then fault_count self.old else fault_count self.old + 1) };
 
-    /// Without a call nothing is done.
+    /// An empty list of calls leads from each state to itself.
     ghost did_self: { (config : MonConfig) (w : Self) → did config w w [] };
 
     /// What is done by calls after calls.

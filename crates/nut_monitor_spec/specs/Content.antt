@@ -40,7 +40,7 @@ stage_in line None waits = stages.Idle
 stage_in line (Some asked) waits =
     stages.Asked (record { expected = expected (request line asked.query); waits = waits; rows = None })
 
--- the link of line i as the past tells it
+-- the link of line i as the past has it
 abbrev pub link_at : Configuration → List Entry → ℕ → LinkValue
 link_at configuration past i = record {
   rest = rest (input i past);
@@ -73,7 +73,7 @@ content_of configuration past = record {
   watches = for_each_line (watch configuration past) configuration.lines;
 }
 
--- the content of a monitor that was made with this configuration and told these events
+-- the content of a monitor that was made with this configuration and had these events
 abbrev pub content : Configuration → List Event → Content
 content configuration events = content_of configuration (trace configuration events)
 

@@ -1,4 +1,4 @@
--- What a monitor is told: events, and histories of them, which are lists with the newest first.
+-- The inputs of a monitor: events, and histories of them, which are lists with the newest first.
 use Rattle.std.specs.Prelude.{ℕ, List}
 
 -- A link has the number of its MONITOR line, from 0 on.

@@ -1,4 +1,4 @@
-//! What a monitor of UPSes is told and what it decides (upsmon(8)): definitions, and the laws that tie the machine of a
+//! What a monitor of UPSes receives and decides (upsmon(8)): definitions, and the laws that tie the machine of a
 //! monitor to the history of its events.
 #![tactic(auto)]
 
@@ -34,7 +34,7 @@ pub struct StatusFlags {
 /// Whether the status of a UPS is available.
 #[derive(Clone, Copy, Debug, PartialEq, Eq)]
 pub enum Communication {
-    /// No status query was answered or refused yet, and no link was lost.
+    /// Before the first answer to a status query, its first refusal, and the first loss of a link.
     Never,
     /// The last status query was answered by a status, and the link wasn't lost since.
     Good,
@@ -118,8 +118,8 @@ pub enum Phase {
     Forcing,
     /// SHUTDOWN was given, and FINALDELAY passes.
     Final,
-    /// The machine has to be halted. `flag` says whether a MONITOR line is primary: then the UPS has to be told to cut
-    /// its power.
+    /// The machine has to be halted. `flag` says whether a MONITOR line is primary: then the UPS has to be ordered to
+    /// cut its power.
     Halted { flag: bool },
 }
 
@@ -142,7 +142,7 @@ pub enum MonitorFault {
     #[error("a notice waits")]
     Busy,
     /// Memory could not be allocated at a piece on `link`. The first `lines` lines that the piece completes took
-    /// effect; at the next one the link was lost. When a monitor is made, `link` is `None`, and there is no monitor.
+    /// effect; at the next one the link was lost. If a monitor couldn't be made, `link` is `None`.
     #[error("out of memory")]
     Memory { link: Option<usize>, lines: usize },
 }
@@ -164,8 +164,8 @@ pub fn linked_is_made()
     ensures { LinkedIsMade }
 {}
 
-/// States a law and does nothing when called: what waits on a link is what the server hasn't taken of the queries put
-/// on it since it was made, joined; nothing if the link isn't up.
+/// States a law and does nothing when called: what waits on a link is left of its queries. It is what the server
+/// hasn't accepted yet of the queries put on it since it was made, joined. On a link that isn't up it is empty.
 pub fn waiting_is_left()
     ensures { WaitingIsLeft }
 {}
@@ -182,8 +182,9 @@ pub fn answers_are_told()
     ensures { AnswersAreTold }
 {}
 
-/// States a law and does nothing when called: on a link that is up, the bytes that the server took, followed by those
-/// that wait, are the queries put on it since it was made, joined.
+/// States a law and does nothing when called: what was accepted and what waits on a link is all that is due. On a
+/// link that is up, the bytes that the server accepted, followed by those that wait, are the queries put on it
+/// since it was made, joined.
 pub fn sent_and_waiting_is_due()
     ensures { SentAndWaitingIsDue }
 {}
@@ -194,8 +195,8 @@ pub fn shutdown_stays()
     ensures { ShutdownStays }
 {}
 
-/// States a law and does nothing when called: the answers on a link that is up belong to its queries in turn: each
-/// query but the newest has its answer, and the newest may have none.
+/// States a law and does nothing when called: the answers on a link that is up belong to its queries in turn. Each
+/// query but the newest has its answer; the newest may still wait for its own.
 pub fn answers_come_in_turn()
     ensures { AnswersComeInTurn }
 {}
@@ -223,9 +224,9 @@ pub fn cuts_do_not_matter()
     ensures { CutsDoNotMatter }
 {}
 
-/// States a law and does nothing when called: if the queries of a MONITOR line can be written, its link keeps no more than
-/// one query of at most [`QUERY_MAX`](nut_link::QUERY_MAX) bytes, and [`LINE_MAX`](nut_words::LINE_MAX) bytes of an
-/// unfinished line.
+/// States a law and does nothing when called: links are bounded. If the queries of a MONITOR line can be written, its
+/// link keeps at most one query of [`QUERY_MAX`](nut_link::QUERY_MAX) bytes, and [`LINE_MAX`](nut_words::LINE_MAX) bytes
+/// of an unfinished line.
 pub fn links_are_bounded()
     ensures { LinksAreBounded }
 {}
@@ -237,13 +238,13 @@ pub fn notices_are_few()
 {}
 
 /// States a law and does nothing when called: the notices handed out, followed by those that wait, are all notices in
-/// their order: none is lost, none comes twice, and each one handed out was the oldest.
+/// their order. Each comes exactly once, and each one handed out was the oldest.
 pub fn notices_come_in_order()
     ensures { NoticesComeInOrder }
 {}
 
-/// States worked examples and does nothing when called: what is told, asked, decided and refused in some runs, computed
-/// from the definitions.
+/// States worked examples and does nothing when called: what is reported, asked, decided and refused in some runs,
+/// computed from the definitions.
 #[tactic(auto, unfolding(nut_words::specs::Reader::read, nut_proto::specs::Answers::answer_of, nut_proto::specs::Lines::line, nut_proto::specs::Requests::request_line, crate::specs::Trace::entry_of))]
 pub fn worked_examples()
     ensures primaries { PrimaryExamples }

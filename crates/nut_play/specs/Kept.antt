@@ -47,14 +47,14 @@ fleet_of k = record {
 
 -- ---- before any step
 
--- a monitor of this file that was told nothing
+-- a new monitor of this file
 abbrev pub fresh_seat : MonConfig → Seat
 fresh_seat c = record {
   monitor = record { config = c; content = knowledge.content (configuration_of c) [] };
   links = map (λ line. no_ends) (configuration_of c).lines;
 }
 
--- a server of this configuration and the monitors of these files, which were told nothing
+-- a server of this configuration and the monitors of these files, all of them new
 abbrev pub fresh_fleet : ServerConfiguration → List MonConfig → Kept
 fresh_fleet first monitors = record { server = server.content first []; seats = map fresh_seat monitors; failed = false }
 

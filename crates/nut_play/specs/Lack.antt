@@ -7,7 +7,7 @@ use Rattle.nut_fleet.specs.Schedule.{Step, Out, Back}
 use Rattle.nut_fleet.specs.World.{Setup, World, Deed, Tell, Inform, known, is_open, is_linked, deed}
 use Rattle.nut_fleet.specs.Log.{news}
 
--- A core may lack memory at what a step does: the server, or a monitor, at what it is told.
+-- A core may lack memory at what a step does: the server, or a monitor, at its event.
 abbrev pub CoreMayLack : Setup → World → Deed → Type 0
 CoreMayLack setup w (Tell event) = (place : Place) × server.MayLack setup.server w.server place event
 CoreMayLack setup w (Inform m event) = (link : Option ℕ) × (k : ℕ) × monitor.MayLack (known setup w m) link k event

@@ -27,7 +27,7 @@ HasPlayed setup schedule k = IsFleet setup (world setup schedule) k
 abbrev pub AreFit : Setup → List S.Step → Type 0
 AreFit setup steps = AllByRecursion (λ step. is_fit setup step ≡ true) steps
 
--- These steps, the newest first, were played after the steps `before`, and told this.
+-- These steps, the newest first, were played after the steps `before`, and had this news.
 pub record WerePlayed (setup : Setup) (before steps : List S.Step) (told : List Logged) (new : Kept) : Type 0 where
   pub fit : AreFit setup steps
   pub fleet : HasPlayed setup (steps ++ before) new

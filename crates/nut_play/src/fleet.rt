@@ -81,7 +81,7 @@ impl Fleet {
         }
     }
 
-    /// Returns the configuration that a monitor was made with; `None` if there is no such monitor.
+    /// Returns the configuration that a monitor was made with; `None` for an unknown monitor.
     pub fn config(&self, m: usize) -> Option<&MonConfig>
         ensures { option_map (λ c. c.now) result ≡ option_map (λ seat. seat.monitor.config) (slice_get self.now.seats m) }
     {
@@ -91,7 +91,7 @@ impl Fleet {
         Some(self.seats[m].monitor.config())
     }
 
-    /// Tells the server an event. Returns whether it was accepted.
+    /// Passes an event to the server. Returns whether it was accepted.
     fn serve(&mut self, arrival: Arrival<'_>) -> Result<bool, Lack>
         ensures played { IfOk result (λ played. played ≡ is_played (tell_by self.old.server (event_of arrival.entry))) }
         ensures fleet { OnOk result (self.new ≡ told_to self.old (event_of arrival.entry)) }
@@ -100,7 +100,7 @@ impl Fleet {
         tell(&mut self.server, arrival)
     }
 
-    /// Tells a monitor an event, and logs what it tells. Returns whether it was accepted.
+    /// Passes an event to a monitor, and logs what it reports. Returns whether it was accepted.
     fn hear(
         &mut self,
         m: usize,
@@ -210,7 +210,7 @@ impl Fleet {
         self.serve(Arrival::DriverUp(u))
     }
 
-    /// Tells the server a line of the driver of a UPS. Returns whether the step was played.
+    /// Passes a line of the driver of a UPS to the server. Returns whether the step was played.
     fn say(&mut self, u: usize, line: &[u8]) -> Result<bool, Lack>
         requires fit { length line.now < PIECE_MAX }
         ensures played { IfOk result (λ played. played ≡ is_played (tell_by self.old.server (arrivals.DriverBytes u (line.now ++ 10 ∷ [])))) }
@@ -242,7 +242,8 @@ impl Fleet {
         self.serve(Arrival::Close(c))
     }
 
-    /// Plays one step, and logs what its monitor tells. Returns whether the step was played; if not, it is skipped.
+    /// Plays one step, and logs what its monitor reports. Returns whether the step was played; if not, it is
+    /// skipped.
     fn step(&mut self, step: &Step, k: usize, log: &mut Vec<Logged>) -> Result<bool, Lack>
         requires fit { fits self.old (step_of step.now) ≡ true }
         ensures played { IfOk result (λ played. played ≡ is_played (deed_by (fleet_of self.old) (step_of step.now))) }
@@ -296,7 +297,7 @@ impl Fleet {
         }
     }
 
-    /// Plays one step and logs what it tells, also that it was skipped.
+    /// Plays one step and logs its news, also that it was skipped.
     fn play_one(&mut self, step: &Step, k: usize, log: &mut Vec<Logged>) -> Result<(), Lack>
         requires fit { fits self.old (step_of step.now) ≡ true }
         ensures fleet { OnOk result (self.new ≡ next self.old (step_of step.now)) }
@@ -326,7 +327,7 @@ impl Fleet {
         Ok(())
     }
 
-    /// Plays the steps of a call in order, up to the first that doesn't fit, and logs what they tell.
+    /// Plays the steps of a call in order, up to the first that doesn't fit, and logs their news.
     fn play_all(&mut self, schedule: &[Step], log: &mut FleetLog) -> Result<(), FleetFault>
         requires { log.old.items ≡ [] }
         ensures played { OnOk result (IsLog self.old (map step_of schedule.now) (map logged_of log.new.items) self.new) }
@@ -361,7 +362,7 @@ impl Fleet {
         }
     }
 
-    /// Plays the steps in order. Returns what they told; there the steps of this call are numbered from 1.
+    /// Plays the steps in order. Returns their news, in which the steps of this call are numbered from 1.
     ///
     /// Whatever was played before, the fleet is then that of the world to which the whole schedule leads. What holds of
     /// every world holds of it, see [`rooms_hold`](crate::rooms_hold).
@@ -369,10 +370,9 @@ impl Fleet {
     /// # Errors
     ///
     /// `BadStep` if a step names what doesn't exist or has a line that is too long; the steps before it took effect.
-    /// What they told is not returned: a caller that needs it plays one step at a time. `Memory` if memory cannot be
-    /// allocated, which can happen where the server or a monitor may need some for a line, where bytes come into a pipe,
-    /// and where something is told. The fleet has then failed: nothing is claimed of it, and every later call returns
-    /// `Failed`.
+    /// Their news is lost: a caller that needs it plays one step at a time. `Memory` if memory cannot be allocated.
+    /// That can happen where the server or a monitor may need some for a line, where bytes come into a pipe, and where
+    /// there is news. The fleet has then failed: nothing is claimed of it, and every later call returns `Failed`.
     pub fn play(&mut self, schedule: &[Step]) -> Result<FleetLog, FleetFault>
         ensures failed { self.old.failed ≡ true → (result ≡ Err Failed) × (self.new ≡ self.old) }
         ensures played { (setup : Setup) (before : List S.Step) → HasPlayed setup before self.old
@@ -389,7 +389,7 @@ impl Fleet {
     }
 }
 
-/// Makes a fleet of this server and of these monitors, which were told nothing.
+/// Makes a fleet of this server and of these monitors, which are new.
 fn with_server(alloc: Global, server: Server, monitors: Vec<MonConfig>) -> Result<Fleet, FleetFault>
     ensures made { IfOk result (λ fleet. fleet ≡ record { server = server; seats = map fresh_seat monitors.items; failed = false }) }
     ensures fault { IfErr result (λ fault. fault ≡ Memory 0) }
@@ -416,7 +416,7 @@ fn with_seats(alloc: Global, server: Server, seats: Vec<Seat>) -> Fleet
     }
 }
 
-/// Makes the seats of these monitors, which were told nothing.
+/// Makes the seats of these monitors, which are new.
 fn seats_of(alloc: Global, monitors: Vec<MonConfig>) -> Result<Vec<Seat>, Lack>
     ensures { IfOk result (λ seats. seats.items ≡ map fresh_seat monitors.items) }
 {

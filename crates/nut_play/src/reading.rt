@@ -17,8 +17,8 @@ use thiserror::Error;
 /// Why a line of a schedule isn't a step.
 #[derive(Clone, Copy, Debug, PartialEq, Eq, Error)]
 pub enum StepFault {
-    /// The line is no step: it has more than [`STEP_LINE_MAX`] bytes, it can't be split into words, it has none, or its
-    /// words fit no form.
+    /// The line isn't a step: it has more than [`STEP_LINE_MAX`] bytes, it can't be split into words, or its words
+    /// don't fit a form.
     #[error("BadStep")]
     BadStep,
     /// Memory could not be allocated.

@@ -44,7 +44,7 @@ fn unmade(alloc: Global, lines: &[Monitored]) -> Result<Vec<Link>, AllocError>
 }
 
 impl Seat {
-    /// Makes a monitor that was told nothing, with links that were never connected.
+    /// Makes a new monitor, with links that were never connected.
     pub fn new(alloc: Global, config: MonConfig) -> Result<Seat, Lack>
         ensures { IfOk result (λ seat. seat ≡ fresh_seat config) }
     {
@@ -58,7 +58,7 @@ impl Seat {
         Ok(Seat { monitor, links })
     }
 
-    /// Tells the monitor an event, and logs what it tells. Returns whether it was accepted.
+    /// Passes an event to the monitor, and logs what it reports. Returns whether it was accepted.
     pub fn hear(
         &mut self,
         m: usize,

@@ -1,11 +1,11 @@
-//! The steps of a schedule, what they tell, and why they cannot be played.
+//! The steps of a schedule, their news, and why they cannot be played.
 
 use nut_monitor::{Notice, Phase};
 use thiserror::Error;
 
 /// One step of a schedule. Monitors are counted from 0, UPSes by their places in ups.conf, and the links of a monitor by the
-/// places of its MONITOR lines. A step that moves bytes moves as many as are there, but no more than its last number and no
-/// more than [`PIECE_MAX`](nut_words::PIECE_MAX).
+/// places of its MONITOR lines. A step that moves bytes moves as many as are there, but at most its last number and at most
+/// [`PIECE_MAX`](nut_words::PIECE_MAX).
 #[derive(Drop)]
 pub enum Step {
     /// The server's clock shows this many seconds since the start.
@@ -37,10 +37,10 @@ pub enum Step {
     CutMonitor(usize, usize),
 }
 
-/// What a step tells.
+/// The news of a step.
 #[derive(Clone, Copy)]
 pub enum News {
-    /// The step was not possible in this state, and changed nothing.
+    /// The step was impossible in this state: all stays as it was.
     Skipped,
     /// A monitor gave a notice.
     Notice(usize, Notice),
@@ -48,16 +48,16 @@ pub enum News {
     Phase(usize, Phase),
 }
 
-/// Something that a step tells.
+/// One piece of news of a step.
 #[derive(Clone, Copy)]
 pub struct Logged {
     /// The number of the step, counted from 1.
     pub step: usize,
-    /// What it tells.
+    /// The news.
     pub news: News,
 }
 
-/// What the steps of a call tell, in order.
+/// The news of the steps of a call, in order.
 pub type FleetLog = Vec<Logged>;
 
 /// Why a fleet cannot be made, or a schedule cannot be played.

@@ -1,6 +1,6 @@
-//! What the sockets of a server, of a monitor and of a dummy driver share: a connection's end whose reads and writes don't
-//! block, the sockets that may be ready, rounds over them, whole seconds, programs that are asked and the shell that starts
-//! them, look-ups of hosts, and lines to an operator that nobody has to read.
+//! What the sockets of a server, of a monitor and of a dummy driver share. These are a connection's end whose reads and
+//! writes don't block, the sockets that may be ready, rounds over them, and whole seconds. Also programs that are asked and
+//! the shell that starts them, look-ups of hosts, and lines to an operator that never wait for a reader.
 #![tactic(auto)]
 
 mod lateness;

@@ -64,8 +64,8 @@ impl<S: Read + Write> Link<S> {
         &self.stream
     }
 
-    /// Reads what is there, up to a piece. If it is less than a piece, there was no more, unless the connection is over a
-    /// Unix socket, or the other end has ended or sent urgent data. Urgent data itself is skipped.
+    /// Reads what is there, up to a piece. Less than a piece means that all was read, except on a Unix socket, or if the
+    /// other end has ended or sent urgent data. Urgent data itself is skipped.
     pub fn hear(&mut self, piece: &mut Piece) -> Heard
         ensures heard { IsHeard result piece.new.items (S.remaining self.old.stream) (S.remaining self.new.stream) }
         ensures left { self.old.reads_on ≡ true → result ≢ heard.All }

@@ -16,10 +16,10 @@ const PATIENCE: u8 = 5;
 /// three lines, without the host's name, which only the first line of all has.
 const OUTPUT_MAX: usize = 4096;
 
-/// Why there are no addresses if the look-up can't begin, or the shell finds no `getent`.
+/// The reason if the look-up can't begin, or the shell doesn't find `getent`.
 const NOT_STARTED: &str = "getent, which looks its name up, cannot be started";
 
-/// Why there are no addresses if the resolver answered that it has none.
+/// The reason if the resolver answered that it has no address.
 pub const HOST_UNKNOWN: &str = "its name is not known";
 
 /// The result of a look-up.
@@ -29,7 +29,7 @@ pub struct Found {
     pub name: String,
     /// Its addresses, at most [`ADDRESSES_MAX`].
     pub addresses: Vec<IpAddr>,
-    /// Why there are no addresses, if there are none.
+    /// Why addresses are missing, if they are.
     pub reason: &'static str,
 }
 
@@ -101,7 +101,7 @@ impl<'r, R: Processes> LookUps<'r, R> {
     }
 }
 
-/// Returns why an ended look-up has no addresses, if it has none.
+/// Returns why addresses are missing after a look-up, if they are.
 fn reason_of<P: OpenProcess>(look_up: &mut Question<P, String>) -> &'static str {
     if look_up.is_late {
         "its name is not looked up in time"
@@ -127,8 +127,8 @@ fn addresses_of<P: OpenProcess>(alloc: Global, look_up: &mut Question<P, String>
     addresses
 }
 
-/// Returns the address in a line of `getent ahosts`, which prints each once for each type of socket: it is taken if the
-/// type is `STREAM`.
+/// Returns the address in a line of `getent ahosts`, which prints each once for each type of socket: the one of type
+/// `STREAM` counts.
 fn address_in(line: &[u8]) -> Option<IpAddr> {
     let text = str::from_utf8(line).ok()?;
     let mut words = text.split_ascii_whitespace();

@@ -22,19 +22,19 @@ const TEXT_MAX: usize = LOG_LINE_MAX + 128;
 
 /// A stream that may take nothing, for example a pipe that is full because its reader has stopped, or whose reader is gone.
 pub trait Outlet: Write {
-    /// Whether a line that is written now is taken at once, as far as the system knows. Nothing is allocated for the answer.
+    /// Whether the stream accepts a line at once, as far as the system knows. Nothing is allocated for the answer.
     fn takes_line(&mut self) -> bool;
 }
 
-/// A stream of lines that doesn't wait for its reader. A line that the stream can't take at once is dropped. Before the
-/// next line that is taken, the stream says how many were dropped, as in `upsd: lines let go: 3`.
+/// A stream of lines that doesn't wait for its reader. A line that the stream doesn't accept at once is dropped. Before
+/// the next accepted line the stream says how many were dropped, as in `upsd: lines let go: 3`.
 ///
 /// What is written is kept until a line is whole. A write never fails.
 ///
 /// The stream keeps its mode, because other processes may share it. Instead the system is asked, before each line,
-/// whether the stream takes one; of a file it always says yes. A write may still wait in four cases: another process
-/// fills a shared pipe between the question and the write, a terminal has room for only a part of the line, a file lies
-/// on a disk or server that doesn't answer, or the system can't be asked, for then a line is written all the same.
+/// whether the stream takes one; of a file it always says yes. A write may still wait in four cases. Another process
+/// fills a shared pipe between the question and the write. A terminal has room for only a part of the line. A file is
+/// on a disk or server that doesn't answer. Or the system can't be asked; a line is then written all the same.
 pub struct LossyLines<S> {
     stream: S,
     style: Style,
@@ -56,14 +56,14 @@ impl<S: Drop> Drop for LossyLines<S> {
     }
 }
 
-/// Standard output, line by line. A line that isn't taken at once is dropped.
+/// Standard output, line by line. A line that isn't accepted at once is dropped.
 pub type OutputLines = LossyLines<Stdout>;
 
-/// Standard error, line by line. A line that isn't taken at once is dropped.
+/// Standard error, line by line. A line that isn't accepted at once is dropped.
 pub type ErrorLines = LossyLines<Stderr>;
 
 impl<S: Write + AsRawFd + Copy> LossyLines<S> {
-    /// Returns the lines on a stream. Neither a descriptor nor memory is needed to ask the system, so this never fails.
+    /// Returns the lines on a stream. Asking the system takes neither a descriptor nor memory, so this always succeeds.
     ///
     /// # Errors
     ///

@@ -7,11 +7,11 @@ use std::alloc::{AllocError, Global};
 use std::io::Read;
 use std::process::{Child, Command, OpenProcess, Processes, Stdio};
 
-/// The greatest number of questions that go on at a time.
+/// The greatest number of questions at a time.
 const QUESTIONS_MAX: usize = 8;
 
-/// The script by which the shell becomes the program that is asked. It prints a byte before, so the pipe holds one however
-/// little the program prints: a read of an empty pipe waits for as long as any other process holds its end.
+/// The script by which the shell becomes the program that is asked. It prints a byte first, so the pipe holds one however
+/// little the program prints. A read of an empty pipe waits for as long as any other process holds its end.
 const ASK: &str = "echo; exec \"$@\"";
 
 /// A program to ask, with its arguments.
@@ -48,8 +48,8 @@ pub struct Question<P: OpenProcess, T> {
     pub is_late: bool,
 }
 
-/// Questions that go on. Each is a process of its own, because a process can be killed, and a call of a library that
-/// waits for a network can't be given up.
+/// Questions that aren't answered yet. Each is a process of its own, because a process can be killed, and a call of
+/// a library that waits for a network can't be given up.
 #[derive(Drop)]
 pub struct Questions<'r, R: Processes, T> {
     processes: &'r R,
@@ -68,7 +68,7 @@ impl<'r, R: Processes, T: Drop> Questions<'r, R, T> {
         }
     }
 
-    /// The questions that go on.
+    /// The questions that aren't answered yet.
     pub fn going(&self) -> &[Question<R::Started, T>] {
         &self.going
     }

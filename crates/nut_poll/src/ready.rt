@@ -13,8 +13,8 @@ use std::marker::Model;
 /// The greatest number of sockets: their tokens are below.
 pub const SOCKETS_MAX: usize = 512;
 
-/// The tokens of the sockets to look at, each once, in the order in which they were queued. Tokens of this round are
-/// taken from the front, and others are queued behind them for the next. So each socket gets its turn, however often
+/// The tokens of the sockets to look at, each once, in the order in which they were queued. Tokens of this round
+/// leave at the front, and others are queued behind them for the next. So each socket gets its turn, however often
 /// another has more to read, and none waits for one that was queued after it.
 #[derive(Drop)]
 pub struct Ready {

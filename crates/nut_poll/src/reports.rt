@@ -29,7 +29,7 @@ impl<'a> Reports<'a> {
         let _ = writeln!(self.err.begin(report.level()), "{report}");
     }
 
-    /// Returns where reports are written, for what is told whether or not they are wanted.
+    /// Returns where reports are written, for lines that are written whether or not reports are wanted.
     pub fn err(&mut self) -> &mut ErrorLines {
         self.err
     }

@@ -6,21 +6,21 @@ ghost use Rattle.nut_poll.specs.Moments.{IsTold, moment_at, whole_seconds};
 use std::io;
 use std::time::{Clock, Duration, Instant};
 
-/// The whole seconds since the start, each told once.
+/// The whole seconds since the start, each handed out once.
 ///
-/// If the process was stopped, many of them are over at once. A caller can be told only the last of them (`pass`), or
-/// each of them (`next`): one each time the clock is found to have moved on, and the missed ones when the caller asks
+/// If the process was suspended, many of them are over at once. A caller can get only the last of them (`pass`), or
+/// each of them (`next`). `next` gives one each time the clock has advanced, and the missed ones when the caller asks
 /// for them.
 #[derive(Drop)]
 pub struct Seconds {
     start: Instant,
     /// How many seconds were over when the clock was last looked at.
     full: u64,
-    /// How many of them haven't been told.
+    /// How many of them haven't been handed out.
     untold: u64,
-    /// The second that was last told.
+    /// The second that was last handed out.
     told: u64,
-    /// Whether one was over since one was last told.
+    /// Whether one was over since one was last handed out.
     is_due: bool,
     /// How long it was until the next second when the clock was last looked at.
     ahead: Duration,
@@ -52,7 +52,7 @@ impl Seconds {
         self.start.elapsed(clock)
     }
 
-    /// Returns how many seconds have passed, if that is more than was told before.
+    /// Returns how many seconds have passed, if that is more than was handed out before.
     ///
     /// # Errors
     ///
@@ -62,7 +62,8 @@ impl Seconds {
         Ok(self.pass_at(passed))
     }
 
-    /// Returns how many seconds are over when so much time has passed, if that is more than was told before.
+    /// Returns how many seconds are over when so much time has passed, if that is more than was handed out
+    /// before.
     pub fn pass_at(&mut self, passed: Duration) -> Option<u64>
         ensures moment { result ≡ moment_at self.old.full passed }
         ensures told { IsTold result self.old.full self.new.full }
@@ -98,8 +99,8 @@ impl Seconds {
         self.untold > 0 && (all || self.is_due)
     }
 
-    /// Returns the next second that hasn't been told: one for each time the clock was found to have moved on, and, with
-    /// `all`, the missed ones, too.
+    /// Returns the next second that hasn't been handed out: one for each time the clock has advanced, and, with `all`,
+    /// the missed ones, too.
     pub fn next(&mut self, all: bool) -> Option<u64>
         ensures turn { IfSome result (λ t. t ≡ self.old.told + 1) }
         ensures told { IfSome result (λ t. self.new.told ≡ t) }
@@ -115,7 +116,7 @@ impl Seconds {
         Some(self.told)
     }
 
-    /// Forgets the missed seconds: the next second that is told follows the last one.
+    /// Forgets the missed seconds: the next second that is handed out follows the last one.
     pub fn forget_missed(&mut self) {
         self.untold = u64::from(self.is_due);
     }

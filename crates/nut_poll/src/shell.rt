@@ -6,13 +6,13 @@ ghost use Rattle.std.specs.Process.{command_program, command_args};
 use std::alloc::{AllocError, Allocator};
 use std::process::{Command, Stdio};
 
-/// The shell, by its path. The folders of PATH aren't searched for it, since one of them may be on a server that doesn't
+/// The shell, by its path. The directories of PATH aren't searched for it, since one of them may be on a server that doesn't
 /// answer.
 const SHELL: &str = "/bin/sh";
 
 /// The script of a command of the operator's, with this literal behind its first words. By these the script and what it
-/// runs ignore the signals TTIN and TTOU, which would stop a command in the background that uses its terminal, and with it
-/// the program that started it, since that is in the same process group.
+/// runs ignore the signals TTIN and TTOU. They would suspend a command in the background that uses its terminal, and the
+/// program that started it, which is in the same process group.
 #[macro_export]
 macro_rules! unstopped {
     ($rest:literal) => {
@@ -23,7 +23,7 @@ macro_rules! unstopped {
 /// Returns the command by which the shell runs a script without input: `/bin/sh -c SCRIPT sh ARGUMENT`. The argument is
 /// `$1` there, and no byte of it is read as a command.
 ///
-/// A program that the script names is looked for by the shell. So if a folder of PATH doesn't answer, the shell waits, and
+/// A program that the script names is looked for by the shell. So if a directory of PATH doesn't answer, the shell waits, and
 /// not the process that starts the command.
 ///
 /// # Errors

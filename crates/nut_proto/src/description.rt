@@ -6,7 +6,7 @@ ghost use Rattle.std.specs.Str.{bytes_eq};
 ghost use Rattle.nut_words.specs.Spelling.{is_printing};
 ghost use Rattle.nut_proto.specs.Descriptions.{beside, described_variables, described_commands};
 
-/// A name, and what is told of it.
+/// A name, and its description.
 type Described = (&'static [u8], &'static [u8]);
 
 const VARIABLES: [Described; 9] = [
@@ -55,8 +55,8 @@ fn text_beside(name: &[u8], table: &[Described]) -> Option<&'static [u8]>
     }
 }
 
-/// What a variable tells, for people to read: at most 31 bytes, of printing bytes only.
-/// None for a name that this project has no text for.
+/// What a variable means, for people to read: at most 31 printing bytes. `None` for a name without a text of
+/// this project.
 pub fn variable_description(name: &[u8]) -> Option<&'static [u8]>
     ensures value { option_map (λ t. t.now) result ≡ beside name.now described_variables }
     ensures few { IfSome result (λ t. length t.now ≤ 31) }
@@ -65,8 +65,8 @@ pub fn variable_description(name: &[u8]) -> Option<&'static [u8]>
     text_beside(name, &VARIABLES)
 }
 
-/// What a command does, for people to read: at most 31 bytes, of printing bytes only.
-/// None for a name that this project has no text for.
+/// What a command does, for people to read: at most 31 printing bytes. `None` for a name without a text of
+/// this project.
 pub fn command_description(name: &[u8]) -> Option<&'static [u8]>
     ensures value { option_map (λ t. t.now) result ≡ beside name.now described_commands }
     ensures few { IfSome result (λ t. length t.now ≤ 31) }

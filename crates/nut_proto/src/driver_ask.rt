@@ -18,13 +18,15 @@ pub enum DriverAsk<'a> {
     Ping,
     /// Asks the driver to report all that it knows.
     DumpAll,
-    /// Asks the driver to set a variable. If the request has a number, the driver is to tell how it ended.
+    /// Asks the driver to set a variable. If the request has a number, the driver is asked to report the
+    /// outcome.
     Set {
         variable: Word<'a>,
         value: Word<'a>,
         number: Option<u32>,
     },
-    /// Asks the driver to run a command. If the request has a number, the driver is to tell how it ended.
+    /// Asks the driver to run a command. If the request has a number, the driver is asked to report the
+    /// outcome.
     InstCmd {
         command: Word<'a>,
         parameter: Option<Word<'a>>,
@@ -33,7 +35,8 @@ pub enum DriverAsk<'a> {
 }
 
 impl<'a> DriverAsk<'a> {
-    /// Reads the words of a line of the server. Returns `None` if they are no request to a driver. Allocates no memory.
+    /// Reads the words of a line of the server. Returns `None` for any other words than a request to a driver.
+    /// Allocates no memory.
     ///
     /// The first word and `TRACKING` are compared without regard to ASCII case. The number of words must match exactly.
     /// A number is one to nine digits, the first not 0.

@@ -82,8 +82,8 @@ fn read_line<'a>(piece: &'a [u8]) -> Option<(PlainQuery<'a>, &'a [u8])>
     Some((PlainQuery::ListVar { ups }, after))
 }
 
-/// Reads the queries that clients send most often. It keeps the last piece that was one `GET VAR` and no more: if the next is the
-/// same, as when many monitors ask for one status, its words needn't be looked for.
+/// Reads the queries that clients send most often. It keeps the last piece that was one `GET VAR` and no more. If the next is
+/// the same, as when many monitors ask for one status, its words needn't be looked for.
 #[derive(Drop)]
 pub struct PlainReader {
     /// The piece, or nothing.
@@ -112,10 +112,10 @@ impl PlainReader {
         }
     }
 
-    /// Returns the query that the first line of a piece is, and the bytes behind that line, if the line is plain: the words of the
-    /// query in upper case, then bare words, with one space between two. It is for a piece whose first byte begins a line. The
-    /// query is the request that [`read`](crate::read) reads from the words of the line. Returns `None` if the piece begins with
-    /// anything else, whether or not that is a request. Allocates no memory.
+    /// Returns the query that the first line of a piece is, and the bytes behind that line, if the line is plain. A plain line
+    /// has the words of the query in upper case, then bare words, with one space between two. It is for a piece whose first
+    /// byte begins a line. The query is the request that [`read`](crate::read) reads from the words of the line. Returns `None`
+    /// if the piece begins with anything else, even another request. Allocates no memory.
     pub fn read<'a>(&mut self, piece: &'a [u8]) -> Option<(PlainQuery<'a>, &'a [u8])>
         ensures told { IfSome result (λ found. IsTold piece.now found.1.now (request_of found.0)) }
         ensures front { IfSome result (λ found. HasFront found.0) }

@@ -17,10 +17,10 @@ use nut_words::Words;
 ///
 /// # Errors
 ///
-/// [`Refusal::UnknownCommand`] if the first word is no command. [`Refusal::InvalidArgument`] if there are no words, if
-/// the words fit no form of the command, if a user name or password isn't 1 to
+/// [`Refusal::UnknownCommand`] for an unknown first word. [`Refusal::InvalidArgument`] for a line without words, and if
+/// the words fit no form of the command. The same if a user name or password isn't 1 to
 /// [`CREDENTIAL_MAX`](nut_words::CREDENTIAL_MAX) bytes, if a tracking number isn't one to nine digits or begins with 0,
-/// or if SET TRACKING has neither ON nor OFF.
+/// or if SET TRACKING has another word than ON or OFF.
 #[tactic(auto, unfolding(crate::specs::Forms::meaning))]
 pub fn read<'a>(words: &'a Words<'_>) -> Result<Request<'a>, Refusal>
     ensures { result ≡ meaning words.now }

@@ -5,10 +5,10 @@ ghost use Rattle.nut_proto.specs.Tracking.{status_word, switch, switch_word, tra
 use crate::keyword::is_named;
 use nut_words::natural;
 
-/// How a tracked request ended, as `GET TRACKING` tells it.
+/// How a tracked request ended, as `GET TRACKING` reports it.
 #[derive(Clone, Copy, Debug, PartialEq, Eq)]
 pub enum TrackingStatus {
-    /// The driver hasn't told how it ended.
+    /// The driver hasn't reported the outcome.
     Pending,
     /// The driver did what was asked.
     Success,

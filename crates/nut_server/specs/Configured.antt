@@ -45,7 +45,7 @@ user_in e = user_of e.0.bytes.items e.1
 abbrev pub users_of : UsersConf → List User
 users_of c = map user_in c.users.by_name.entries
 
--- what variables tell, in the order of cmdvartab, if there is that file
+-- what variables mean, in the order of cmdvartab, if there is that file
 abbrev pub variable_texts_of : Option Descriptions → List (List ℕ × List ℕ)
 variable_texts_of (Some d) = rows_of d.variables
 variable_texts_of None = []

@@ -65,7 +65,7 @@ fn has_right(config: &Config, name: &[u8], password: &[u8], right: Right<'_>) ->
 ///
 /// # Errors
 ///
-/// `UsernameRequired` if it gave no user name, then `PasswordRequired` if it gave no password.
+/// `UsernameRequired` if the user name is missing, then `PasswordRequired` if the password is.
 pub fn credentials(caller: &Connection) -> Result<(&[u8], &[u8]), Refusal>
     ensures { MatchResult result
         (λ given. (next : List ℕ → List ℕ → definitions.Answer) → with_credentials (caller_of caller.now) next ≡ next given.0.now given.1.now)
@@ -100,8 +100,8 @@ pub fn has_right_credentials(config: &Config, caller: &Connection) -> bool
 ///
 /// # Errors
 ///
-/// The errors of [`credentials`]; then `UnknownUps` if there is no such UPS, and `AccessDenied` if there is no such
-/// user, the password is wrong, or the user lacks the right.
+/// The errors of [`credentials`]; then `UnknownUps` for an unknown name, and `AccessDenied` if the user is unknown,
+/// the password is wrong, or the right is missing.
 pub fn authorize(
     scene: &Scene<'_>,
     caller: &Connection,

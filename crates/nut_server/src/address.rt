@@ -24,8 +24,7 @@ fn has_bare_bytes(text: &[u8]) -> bool
     text.iter().all(|byte| is_bare(*byte))
 }
 
-/// Returns the text as an address, or `None` unless it is 1 to [`ADDRESS_MAX`] bytes, each of which may stand in a bare
-/// word.
+/// Returns the text as an address, if it has 1 to [`ADDRESS_MAX`] bytes, each of which may stand in a bare word.
 pub fn address_of(text: &[u8]) -> Option<Address>
     ensures { option_map (λ address. address.items) result ≡ (if is_address text.now then Some text.now else None) }
 {

@@ -1,10 +1,10 @@
-//! The arrivals: what a server is told.
+//! The arrivals: the inputs of a server.
 
 use crate::config::Config;
 
-/// One thing that a server is told. Connections are numbered from 1 in the order in which they are opened. The number
-/// of a UPS, and of its driver, is its place in the first ups.conf, counted from 0. A reload keeps it, and gives a new
-/// UPS the least number that no UPS has.
+/// One input of a server. Connections are numbered from 1 in the order in which they are opened. The number of a UPS,
+/// and of its driver, is its place in the first ups.conf, counted from 0. A reload keeps it, and gives a new UPS the
+/// least number that no UPS has.
 #[derive(Drop)]
 pub enum Arrival<'a> {
     /// This many seconds have passed since the start. A time before the latest one leaves the clock as it is.

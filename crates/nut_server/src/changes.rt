@@ -127,9 +127,9 @@ fn ask_to_do(
 /// # Errors
 ///
 /// The errors of [`authorize`](crate::access::authorize); then `DriverNotConnected` or `DataStale` if the data of the
-/// UPS can't be relied on, `VarNotSupported` if it has no such variable, `ReadOnly`, `TooLong` or `InvalidValue` if the
-/// variable can't be set to the value, and `SetFailed` if all numbers of tracked requests are given, or if the request
-/// doesn't fit behind those that wait for the driver.
+/// UPS can't be relied on, and `VarNotSupported` for an unknown variable. Then `ReadOnly`, `TooLong` or `InvalidValue`
+/// if the variable can't be set to the value. At last `SetFailed` if all numbers of tracked requests are used, or if
+/// the request doesn't fit behind those that wait for the driver.
 pub fn set_variable(
     scene: &Scene<'_>,
     caller: &Connection,
@@ -151,9 +151,9 @@ pub fn set_variable(
 /// # Errors
 ///
 /// The errors of [`authorize`](crate::access::authorize); then `DriverNotConnected` or `DataStale` if the data of the
-/// UPS can't be relied on, `CmdNotSupported` if it has no such command, `TooLong` if the parameter has more than
-/// [`VALUE_MAX`](nut_words::VALUE_MAX) bytes, and `InstCmdFailed` if all numbers of tracked requests are given, or if
-/// the request doesn't fit behind those that wait for the driver.
+/// UPS can't be relied on, and `CmdNotSupported` for an unknown command. Then `TooLong` if the parameter has more
+/// than [`VALUE_MAX`](nut_words::VALUE_MAX) bytes. At last `InstCmdFailed` if all numbers of tracked requests are
+/// used, or if the request doesn't fit behind those that wait for the driver.
 pub fn give_command(
     scene: &Scene<'_>,
     caller: &Connection,

@@ -51,7 +51,7 @@ impl<'a> Model for User<'a> {
 }
 
 impl<'a> User<'a> {
-    /// Whether this is the user's password. If the user has no password, no password is right.
+    /// Whether this is the user's password. For a user without a password it is always false.
     pub fn has_password(&self, password: &[u8]) -> bool
         ensures { result ≡ has_password password.now self.now }
     {
@@ -277,8 +277,8 @@ impl Config {
         }
     }
 
-    /// Returns the description of a variable: this project's own; if there is none, that of cmdvartab; if there is none
-    /// either, `Description unavailable`. Allocates no memory, and takes no longer if there are many descriptions.
+    /// Returns the description of a variable: this project's own, else that of cmdvartab, else
+    /// `Description unavailable`. Allocates no memory, and takes no longer if there are many descriptions.
     pub fn describe_variable(&self, name: &[u8]) -> &[u8]
         ensures { result.now ≡ variable_description self.now.variable_texts name.now }
     {
@@ -288,8 +288,8 @@ impl Config {
         }
     }
 
-    /// Returns the description of a command: this project's own; if there is none, that of cmdvartab; if there is none
-    /// either, `Description unavailable`. Allocates no memory, and takes no longer if there are many descriptions.
+    /// Returns the description of a command: this project's own, else that of cmdvartab, else
+    /// `Description unavailable`. Allocates no memory, and takes no longer if there are many descriptions.
     pub fn describe_command(&self, name: &[u8]) -> &[u8]
         ensures { result.now ≡ command_description self.now.command_texts name.now }
     {

@@ -257,8 +257,8 @@ impl Connections {
         None
     }
 
-    /// Returns the number of the connection that makes way for a new one: the first of a stranger; if there is none, the
-    /// first without login.
+    /// Returns the number of the connection that makes way for a new one: the first of a stranger, else the first
+    /// without login.
     pub fn longest_without_login(&self, config: &Config) -> Option<u64>
         ensures value { result ≡ option_map (λ k. k.number) (longest_without_login config.now.users self.now) }
         ensures not_logged_in { IfSome result (λ c. has_login (session_of c self.now) ≡ false) }

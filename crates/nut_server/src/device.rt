@@ -168,8 +168,9 @@ impl Device {
         time.saturating_sub(self.reported.heard_at) > seconds
     }
 
-    /// Whether the data are stale at this time: the driver hasn't finished its dump; or since it was connected it has
-    /// said neither DATAOK nor DATASTALE, or DATASTALE last; or no line was heard for more than `max_age` seconds.
+    /// Whether the data are stale at this time. They are if the driver hasn't finished its dump, or was silent for
+    /// more than `max_age` seconds. They also are if the last of DATAOK and DATASTALE since it was connected isn't
+    /// DATAOK.
     pub fn is_stale(&self, max_age: u64, time: u64) -> bool
         ensures { result ≡ is_stale max_age time self.now.device }
     {

@@ -1,4 +1,4 @@
-//! A server of UPSes: it is told one arrival at a time, and answers its clients and asks its drivers.
+//! A server of UPSes: it handles one arrival at a time, and answers its clients and asks its drivers.
 #![tactic(auto)]
 
 mod access;

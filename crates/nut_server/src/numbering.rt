@@ -24,7 +24,7 @@ pub fn first_numbers(count: usize) -> Numbers
     numbers
 }
 
-/// Returns the least number that isn't taken.
+/// Returns the least number that is free.
 fn least_free(taken: &[usize]) -> usize
     ensures { result ≡ least_free taken.now }
 {
@@ -102,8 +102,8 @@ impl<'a> Numbering<'a> {
         kept
     }
 
-    /// Returns the numbers of the UPSes of a new configuration: each name that is here keeps its number, and the others
-    /// take the least free numbers, in the order of ups.conf.
+    /// Returns the numbers of the UPSes of a new configuration. Each name that is here keeps its number; the others get
+    /// the least free numbers, in the order of ups.conf.
     pub fn renumbered(&self, after: &Config) -> Numbers
         ensures { result.items ≡ renumbered after.now.upses self.now }
     {

@@ -1,4 +1,4 @@
-//! Answers the queries that clients send most often: without a decision, since they change nothing.
+//! Answers the queries that clients send most often, by a way that is shorter since they only ask.
 
 ghost use Rattle.std.specs.Prelude.{◌≡◌, ◌++◌, List, ℕ, IfSome, OnOk, codes, map};
 ghost use Rattle.nut_proto.specs.PlainQueries.{request_of, ups_of};
@@ -102,7 +102,7 @@ fn put_description(out: &mut Vec<u8>, found: Option<Ups<'_>>, ups: &[u8]) -> Res
     Ok(())
 }
 
-/// Appends the variables of this UPS, or why they aren't told.
+/// Appends the variables of this UPS, or why they can't be listed.
 fn put_list(
     out: &mut Vec<u8>,
     device: Result<&Device, Refusal>,

@@ -1,5 +1,5 @@
-//! Writes the rows of variables. What a row begins with is the same for all rows of a list, and each variable keeps the text
-//! with which its row ends, so that most rows are two copies.
+//! Writes the rows of variables. All rows of a list begin alike, and each variable keeps the text with which its row ends.
+//! So most rows are two copies.
 
 ghost use Rattle.std.specs.Prelude.{◌≡◌, ◌∷◌, [], ◌++◌, OnOk, IfSome};
 ghost use Rattle.nut_words.specs.Bytes.{line_feed};

@@ -14,8 +14,9 @@ use crate::device::Device;
 use nut_proto::{Refusal, TrackingStatus};
 use std::marker::Model;
 
-/// The configuration, the numbers of its UPSes in the order of ups.conf, the time in seconds since the start, how many
-/// numbers were given to requests, the UPSes by their numbers, and the open connections.
+/// What an answer reads: the configuration, the numbers of its UPSes in the order of ups.conf, and the time in seconds
+/// since the start. Also how many numbers were given to requests, the UPSes by their numbers, and the open
+/// connections.
 #[derive(Drop)]
 pub struct Scene<'a> {
     pub config: &'a Config,

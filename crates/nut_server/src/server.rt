@@ -1,5 +1,5 @@
-//! The server: its state, what it is told, and what its loop asks at each arrival of a client. What else it can be asked is
-//! in `asking`.
+//! The server: its state, its arrivals, and what its loop asks at each arrival of a client. What else it can be asked is in
+//! `asking`.
 
 ghost use Rattle.std.specs.Prelude.{◌≡◌, ◌<◌, ◌≤◌, List, [], Some, Err, IfOk, IfSome, map, length};
 ghost use Rattle.nut_server_spec.specs.Configuration.{Configuration};
@@ -120,7 +120,7 @@ impl Model for Parts {
     ghost invariant = { IsOrderly };
 }
 
-/// A server: it was told a history of accepted arrivals, and has the content of this history.
+/// A server: it has accepted a history of arrivals, and has the content of this history.
 #[derive(Drop)]
 pub struct Server {
     parts: Parts,
@@ -159,7 +159,7 @@ fn room_for(alloc: Global, count: usize) -> Result<(Vec<Device>, Connections, Ve
 }
 
 impl Parts {
-    /// Returns what a server keeps that has been told nothing.
+    /// Returns what a new server keeps.
     fn new(alloc: Global, config: Config) -> Result<Parts, ServerFault>
         ensures { IfOk result (λ parts. parts ≡ content config []) }
     {
@@ -213,9 +213,9 @@ impl Parts {
 }
 
 impl Server {
-    /// Returns a server that has been told nothing. Allocates the memory for as many connections as may be open at once
-    /// and for the requests that wait for the drivers, so none is needed when a client or a driver connects. Also for an
-    /// answer of one line: such an answer needs none if it has room behind those that wait for its client.
+    /// Returns a new server. Allocates the memory for as many connections as may be open at once and for the requests
+    /// that wait for the drivers. So a client or a driver that connects needs none. Also allocates memory for an answer
+    /// of one line: such an answer needs none if it has room behind those that wait for its client.
     ///
     /// # Errors
     ///
@@ -247,7 +247,7 @@ impl Server {
     /// `Memory` at a line.
     ///
     /// `Reload` closes the connections whose clients are logged in to a UPS that goes, and disconnects the drivers of
-    /// those that go or get another driver: [`ended_by`](Self::ended_by) tells which. All else of the UPSes and clients
+    /// those that go or get another driver: [`ended_by`](Self::ended_by) says which. All else of the UPSes and clients
     /// stays as it is.
     ///
     /// Only `Bytes`, `DriverBytes` and `Reload` can allocate memory. A client's line does so only if it isn't blank or
@@ -259,10 +259,10 @@ impl Server {
     ///
     /// The first of these tests that fails. Nothing changes then.
     ///
-    /// Of `Open`: `BadAddress`, `Full`. Of `Bytes`, `Took`, `Close` and `WriteFailed`: `NoSuchConnection`; then of
-    /// `Bytes` `PieceTooLong` and `Busy`, and of `Took` `TooMuchTaken`. Of the arrivals of drivers: `NotConnected`,
-    /// which `DriverUp` gives only if there is no such UPS; then of `DriverBytes` `PieceTooLong`, and of `DriverTook`
-    /// `TooMuchTaken`. No test refuses a `Reload`.
+    /// `Open` has the tests `BadAddress`, `Full`. `Bytes`, `Took`, `Close` and `WriteFailed` have `NoSuchConnection`;
+    /// then `Bytes` has `PieceTooLong` and `Busy`, and `Took` `TooMuchTaken`. The arrivals of drivers have
+    /// `NotConnected`, which at `DriverUp` means an unknown UPS; then `DriverBytes` has `PieceTooLong`, and
+    /// `DriverTook` `TooMuchTaken`. A `Reload` has none.
     ///
     /// `Memory` if memory cannot be allocated for a line of a piece. The lines before it stay done, and the connection
     /// is closed, or the driver counts as disconnected. Also if memory cannot be allocated for the UPSes of a reload:
@@ -280,7 +280,7 @@ impl Server {
         ensures unchanged { (r : Refused) → refusal self.old (event_of arrival.entry) ≡ Some r
             → (result ≡ Err r) × (self.new ≡ self.old) }
 
-        // Whatever the server was told, at most 256 connections are open, and at most 4,294,967,295 were opened.
+        // After any arrivals at most 256 connections are open, and at most 4,294,967,295 were opened.
         ensures few { HasFewConnections CONNECTIONS_MAX self.new }
     {
         let answer = self.step(arrival);
@@ -288,7 +288,7 @@ impl Server {
         answer
     }
 
-    /// Does nothing when called. Brings into the proof how many connections there can be, whatever the server was told.
+    /// Does nothing when called. Brings into the proof how many connections there can be, after any arrivals.
     fn has_few_connections(&self)
         ensures { HasFewConnections CONNECTIONS_MAX self.now }
     {

@@ -4,7 +4,7 @@ use arrayvec::ArrayVec;
 use nut_words::{Line, NAME_MAX, WordFault, cut, is_name, split};
 use std::alloc::Global;
 
-/// How many variables are told apart about which a driver's lines can't be read.
+/// How many variables with unreadable lines of a driver are distinguished.
 pub const UNREAD_MAX: usize = 8;
 
 /// The word before the name of a variable and its value.
@@ -30,12 +30,12 @@ impl Unread {
         }
     }
 
-    /// Returns how many variables are told apart, at most [`UNREAD_MAX`].
+    /// Returns how many variables are distinguished, at most [`UNREAD_MAX`].
     pub fn len(&self) -> usize {
         self.names.len()
     }
 
-    /// Returns the name of the variable at this place, from 0 on: empty if no name was seen, or if there is no such place.
+    /// Returns the name of the variable at this place, from 0 on. It is empty for an unseen name or a place past the last.
     pub fn name(&self, place: usize) -> &[u8] {
         match self.names.get(place) {
             Some(name) => name.as_slice(),

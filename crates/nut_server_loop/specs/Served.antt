@@ -1,4 +1,4 @@
--- How the history that a server was told follows from the record of the world.
+-- How the history of a server follows from the record of the world.
 use Rattle.std.specs.Prelude.{◌≡◌, ◌≢◌, ◌⊎◌, ℕ, ◌==◌, Bool, true, false, if◌then◌else◌, List, [], ◌∷◌, ◌++◌, length, map, Option, Some, None, Result, Ok, Err, IfSome}
 use Rattle.nut_server_spec.specs.declared.Refused.{Refused}
 use Rattle.nut_server_spec.specs.declared.Refused.TheVariants.{Memory}
@@ -37,7 +37,7 @@ abbrev pub ended_by_refusal : Refused → List Ended
 ended_by_refusal (Memory place) = ended_at place
 ended_by_refusal r = []
 
--- what a lack of memory ended, if the answer tells of one
+-- what a lack of memory ended, if the answer reports one
 abbrev pub ended_by_lack : {U : Type 0} → Result U Refused → List Ended
 ended_by_lack (Ok _) = []
 ended_by_lack (Err r) = ended_by_refusal r
@@ -56,10 +56,10 @@ abbrev pub ended_by : {U : Type 0} → Content → Event → Result U Refused �
 ended_by s e (Ok _) = ended_by_event s e
 ended_by s e (Err r) = ended_by_refusal r
 
--- The server was made with `first`. Before the entry it was told the events h, and the world still has to close what
+-- The server was made with `first`. Before the entry it has the events h, and the world still has to close what
 -- `owed` lists; after the entry these are h' and owed'.
 abbrev pub Stands : Configuration → List Event → List Ended → Entry → List Event → List Ended → Type 0
--- An arrival comes only when nothing is left to close. The history goes on by the server's answer: with the arrival;
+-- An arrival comes only when nothing is left to close. The history continues by the server's answer: with the arrival;
 -- without it if it is refused; or, if memory ran out in a piece, with the lines that were done and the end of the
 -- connection or the driver. This has then to be closed, and so has what a reload ended.
 Stands first h owed (Gave e) h' owed' =

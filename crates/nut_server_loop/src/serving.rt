@@ -16,14 +16,14 @@ use std::sync::Wait;
 
 /// Serves until the world ends.
 ///
-/// The server is told each arrival of the world and the outcome of each write. Before the loop asks for the next
-/// arrival, it offers each connection and each driver all that waits for it, until nothing waits or the world takes no
-/// more. It closes each connection that has logged out and taken everything, and each connection and link to a driver
-/// that was ended by a failed write, a lack of memory or a reload. It closes no others.
+/// The server gets each arrival of the world and the outcome of each write. Before the loop asks for the next arrival,
+/// it offers each connection and each driver all that waits for it, until that is written or the world accepts no
+/// more. It closes each connection that has logged out and accepted everything. It also closes each connection and
+/// link to a driver that was ended by a failed write, a lack of memory or a reload. All others stay.
 ///
 /// When it returns, the server holds the content of a history of accepted events that the world's record leads to. The
-/// bytes that the world took for each connection, and for each driver since it was last connected or a reload cleared its
-/// UPS, are those that were sent.
+/// bytes that the world accepted for each connection, and for each driver since it was last connected or a reload cleared
+/// its UPS, are those that were sent.
 ///
 /// # Errors
 ///
@@ -83,8 +83,8 @@ fn settle_and_turn<W: World>(
     turn(server, world, piece)
 }
 
-/// Asks for the next arrival, tells it to the server, and closes what that ended. Returns false at the end of the
-/// world.
+/// Asks for the next arrival, passes it to the server, and closes what that ended. Returns false at the end of
+/// the world.
 fn turn<W: World>(server: &mut Server, world: &mut W, piece: &mut Piece) -> Result<bool, Fault>
     ghost first: { Configuration }
     requires few { W.fault_count world.old < 2 ^ 64 - 1 }
@@ -107,8 +107,8 @@ fn turn<W: World>(server: &mut Server, world: &mut W, piece: &mut Piece) -> Resu
     Ok(true)
 }
 
-/// Tells the server a new configuration, and closes what the reload ended. If there is no memory for it, the server keeps
-/// the configuration that it has, and nothing is closed.
+/// Gives the server a new configuration, and closes what the reload ended. If memory is lacking, the server keeps the
+/// configuration that it has, and all stays open.
 fn reload<W: World>(server: &mut Server, world: &mut W, config: Box<Config>) -> Result<(), Fault>
     ghost first: { Configuration }
     requires few { W.fault_count world.old < 2 ^ 64 - 1 }
@@ -144,7 +144,8 @@ fn close_ended<W: World>(world: &mut W, ended: &nut_server::Ended) -> Result<(),
     Ok(())
 }
 
-/// Tells the server what the world gave, if it is an arrival other than a reload, and closes what that ended.
+/// Passes what the world gave to the server, if it is an arrival other than a reload, and closes what that
+/// ended.
 fn hand_on<W: World>(
     server: &mut Server,
     world: &mut W,
@@ -171,7 +172,7 @@ fn hand_on<W: World>(
     }
 }
 
-/// Settles the connection whose bytes were handled. In most cases no other is unsettled, so no search is needed.
+/// Settles the connection whose bytes were handled. In most cases no other is unsettled, which saves a search.
 fn settle_heard<W: World>(server: &mut Server, world: &mut W, next: &Next) -> Result<(), Fault>
     ghost first: { Configuration }
     requires few { W.fault_count world.old < 2 ^ 64 - 1 }

@@ -69,7 +69,7 @@ pub(crate) fn settle<W: World>(server: &mut Server, world: &mut W, c: u64) -> Re
     Ok(())
 }
 
-/// Writes to a connection until nothing waits for it or the world takes no more.
+/// Writes to a connection until all that waits for it is written or the world accepts no more.
 fn flush<W: World>(server: &mut Server, world: &mut W, c: u64) -> Result<(), Fault>
     ghost first: { Configuration }
     requires few { W.fault_count world.old < 2 ^ 64 - 1 }
@@ -86,8 +86,8 @@ fn flush<W: World>(server: &mut Server, world: &mut W, c: u64) -> Result<(), Fau
     Ok(())
 }
 
-/// Writes to a connection once, if anything waits for it, and tells the server the outcome. Returns whether another write may
-/// follow.
+/// Writes to a connection once, if anything waits for it, and passes the outcome to the server. Returns whether another write
+/// may follow.
 fn write_once<W: World>(server: &mut Server, world: &mut W, c: u64) -> Result<bool, Fault>
     ghost first: { Configuration }
     requires few { W.fault_count world.old < 2 ^ 64 - 1 }
@@ -140,7 +140,7 @@ fn settle_drivers<W: World>(server: &mut Server, world: &mut W) -> Result<(), Fa
     Ok(())
 }
 
-/// Writes to a driver until nothing waits for it or the world takes no more.
+/// Writes to a driver until all that waits for it is written or the world accepts no more.
 fn flush_driver<W: World>(server: &mut Server, world: &mut W, u: usize) -> Result<(), Fault>
     ghost first: { Configuration }
     requires few { W.fault_count world.old < 2 ^ 64 - 1 }
@@ -158,7 +158,8 @@ fn flush_driver<W: World>(server: &mut Server, world: &mut W, u: usize) -> Resul
     Ok(())
 }
 
-/// Writes to a driver once, if anything waits for it, and tells the server the outcome. Returns whether another write may follow.
+/// Writes to a driver once, if anything waits for it, and passes the outcome to the server. Returns whether another write may
+/// follow.
 fn write_requests_once<W: World>(
     server: &mut Server,
     world: &mut W,

@@ -13,18 +13,18 @@ use nut_server::Server;
 /// server gave them. Drivers have the numbers of their UPSes: the places in ups.conf, counted from 0, until a reload.
 ///
 /// After a reload the numbers are those that the server has given anew: each UPS that stays keeps its number, and each
-/// new one takes the least number that is free. Before the world is asked for the next arrival, it is told to close
-/// each link and each connection that the reload ended. If the server has no memory for the new configuration, nothing
-/// is closed and nothing changes: the server that `next` is given tells which configuration is in force.
+/// new one gets the least number that is free. Before the world is asked for the next arrival, it is asked to close
+/// each link and each connection that the reload ended. If the server lacks memory for the new configuration, all
+/// stays as it was: the server that `next` is given shows which configuration is in force.
 ///
-/// The loop doesn't tell the world that the server refused an arrival. After an `Open`, the world sees it at the next
-/// call of `next`: if [`Server::opened`] has risen, the connection was accepted and has that number. If not, the
-/// connection was refused (`BadAddress` or `Full`), and the world closes it without being told.
+/// The loop doesn't report to the world that the server refused an arrival. After an `Open`, the world sees it at the
+/// next call of `next`: if [`Server::opened`] has risen, the connection was accepted and has that number. Otherwise
+/// the connection was refused (`BadAddress` or `Full`), and the world closes it unasked.
 ///
 /// Any call except `faults` may return a fault instead, if its input or output fails. The record is then as it was, and
-/// the fault is counted. After `next`, with or without a fault, nobody is late.
+/// the fault is counted. After `next`, also after its fault, nobody is late.
 pub trait World {
-    /// What it gave, took and closed, the newest first. `None` if it keeps no record.
+    /// What it gave, took and closed, the newest first. `None` for a world without a record.
     ghost log: { Self → Option (List Entry) };
 
     /// To which connections a write was `Later` since the last `next`.

@@ -95,7 +95,7 @@ abbrev pub IsAccepted : Configuration → List Event → Type 0
 IsAccepted first [] = Unit {0}
 IsAccepted first (e ∷ h) = IsAccepted first h × (refusal (content first h) e ≡ None)
 
--- A server that was made with the configuration `first` and told the accepted events h has this content.
+-- A server that was made with the configuration `first` and accepted the events h has this content.
 abbrev pub Tells : Configuration → List Event → Content → Type 0
 Tells first h s = IsAccepted first h × (s ≡ content first h)
 

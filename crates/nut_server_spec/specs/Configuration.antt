@@ -22,7 +22,7 @@ pub record User : Type 0 where
   pub role : Option Role
 
 -- The UPSes and the users in the order of their files, after how many seconds without a word from its driver the
--- data of a UPS are stale, how many connections may be open at once, and what variables tell and commands do, by their
+-- data of a UPS are stale, how many connections may be open at once, and what variables mean and commands do, by their
 -- names.
 pub record Configuration : Type 0 where
   pub upses : List Ups

@@ -35,7 +35,7 @@ fresh number address = record {
   waits = [];
 }
 
--- A UPS: what its driver told, and the driver's unfinished line while it is connected.
+-- A UPS: what its driver reported, and the driver's unfinished line while it is connected.
 pub record Supply : Type 0 where
   pub device : Device
   pub rest : LineText
@@ -99,7 +99,7 @@ supply first h u = record {
   rest = if connected u (past first h) then rest (driver_input u h) else Text [];
 }
 
--- the content of a server that was made with the configuration `first` and told the history h
+-- the content of a server that was made with the configuration `first` and has the history h
 abbrev pub content : Configuration → List Event → Content
 content first h = record {
   configuration = configuration first (past first h);

@@ -1,4 +1,4 @@
--- What a server is told: events, and histories of events. A history is a list with the newest event first.
+-- The inputs of a server: events, and histories of events. A history is a list with the newest event first.
 use Rattle.std.specs.Prelude.{ℕ, ◌==◌, if◌then◌else◌, ◌+◌, List, [], ◌∷◌, ◌++◌, drop, length}
 use Rattle.nut_words.specs.Lines.{LineText, lines}
 use Rattle.nut_server_spec.specs.Configuration.{Configuration}

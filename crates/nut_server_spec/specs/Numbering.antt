@@ -34,16 +34,16 @@ first_numbers upses = below (length upses)
 
 -- ---- a new configuration
 
--- whether a number is among those that are taken
+-- whether a number is among those that are in use
 abbrev pub is_taken : ℕ → List ℕ → Bool
 is_taken n taken = list_any (λ m. m == n) taken
 
--- the first number, of so many from n on, that isn't taken; if all are, the number after them
+-- the first number, of so many from n on, that is free; if none is, the number after them
 abbrev pub first_free : ℕ → ℕ → List ℕ → ℕ
 first_free zero n taken = n
 first_free (suc more) n taken = if is_taken n taken then first_free more (n + 1) taken else n
 
--- the least number that isn't taken
+-- the least number that is free
 abbrev pub least_free : List ℕ → ℕ
 least_free taken = first_free (length taken) 0 taken
 
@@ -53,7 +53,7 @@ kept_numbers before [] = []
 kept_numbers before (ups ∷ upses) =
     option_map_or (λ n. n ∷ kept_numbers before upses) (number_of ups.name before) (kept_numbers before upses)
 
--- the numbers of these UPSes: each keeps its number if it had one, else it takes the least that isn't taken
+-- the numbers of these UPSes: each keeps its number if it had one, else it gets the least that is free
 abbrev pub given_numbers : Numbering → List ℕ → List Ups → List ℕ
 given_numbers before taken [] = []
 given_numbers before taken (ups ∷ upses) =

@@ -77,13 +77,13 @@ MayLack first h (Report u k) (DriverBytes v piece) = (u ≡ v) × MayRunOutOf fi
 MayLack first h NewUpses (Reload configuration) = places first (past first h) < length configuration.upses
 MayLack first h place e = ⊥
 
--- A server that was told the history h may answer so: a refusal names the first test that refuses the event, and memory
+-- A server that has the history h may answer so: a refusal names the first test that refuses the event, and memory
 -- is lacking only where no test does.
 abbrev pub IsRefusal : Configuration → List Event → Event → Refused → Type 0
 IsRefusal first h e (Memory place) = (refusal (content first h) e ≡ None) × MayLack first h place e
 IsRefusal first h e r = refusal (content first h) e ≡ Some r
 
--- A server that was told the history h may answer the event by this result.
+-- A server that has the history h may answer the event by this result.
 abbrev pub IsAnswer : {U : Type 0} → Configuration → List Event → Event → Result U Refused → Type 0
 IsAnswer first h e (Ok u) = refusal (content first h) e ≡ None
 IsAnswer first h e (Err r) = IsRefusal first h e r

@@ -227,7 +227,7 @@ forced first u (e ∷ past) =
     by_fate (e.fate u) false (λ before. before) (forced_after (numbering first past) u e.step e.answer (forced first u past))
 
 -- The tracked requests to u after a step. One is added where it is given its number. The first line of the driver that
--- tells of it says how it ended; if the driver is disconnected or connected anew before that, the request failed.
+-- reports of it says how it ended; if the driver is disconnected or connected anew before that, the request failed.
 abbrev pub tracked_after : Numbering → ℕ → Step → Answer → List Tracked → List Tracked
 tracked_after now u (Said c line) reply before =
     at_target u (target now (command_of line)) (with_tracked (number_in reply)) before

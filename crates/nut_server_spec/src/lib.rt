@@ -1,5 +1,5 @@
-//! What a server of UPSes is told and what it answers: the definitions, and the laws that connect the machine of a
-//! server with the histories of what it was told.
+//! What a server of UPSes receives and answers: the definitions, and the laws that connect the machine of a server
+//! with the histories of its events.
 #![tactic(auto)]
 
 ghost use Rattle.nut_server_spec.specs.machine.Machine.{KeepsContent};
@@ -86,26 +86,27 @@ pub fn same_steps_same_answers()
     ensures { SameStepsSameAnswers }
 {}
 
-/// States a law and does nothing when called: however the bytes of a connection are cut, and whatever connections take
-/// between the pieces, the steps are those of all the bytes in one piece. So the answers are, too.
+/// States a law and does nothing when called: cuts and writes don't matter. However the bytes of a connection are
+/// cut, and whatever connections accept in between, the steps are those of all the bytes in one piece. So are the
+/// answers.
 pub fn cuts_and_writes_do_not_matter()
     ensures { CutsAndWritesDoNotMatter }
 {}
 
-/// States a law and does nothing when called: however the bytes of a driver are cut, and whatever drivers take between
-/// the pieces, the result is that of all the bytes in one piece. This holds of what is known of each UPS, of the
-/// requests to each driver, and of the answers to each connection.
+/// States a law and does nothing when called: cuts and writes don't matter. However the bytes of a driver are cut, and
+/// whatever drivers accept in between, the result is that of all the bytes in one piece. This holds of what is known
+/// of each UPS, of the requests to each driver, and of the answers to each connection.
 pub fn driver_cuts_and_writes_do_not_matter()
     ensures { DriverCutsAndWritesDoNotMatter }
 {}
 
-/// States a law and does nothing when called: a piece of a connection that has logged out gets no answer and sends no
-/// request to a driver. It changes only what is kept of the connection's unfinished line.
+/// States a law and does nothing when called: a piece of a connection that has logged out changes only what is kept
+/// of the connection's unfinished line. It gets no answer. It sends no request to a driver.
 pub fn logout_is_final()
     ensures { LogoutIsFinal }
 {}
 
-/// States a law and does nothing when called: after any answer that a server may give to an event, what it holds is the
+/// States a law and does nothing when called: after any permitted answer to an event, what the server holds is the
 /// content of the history after that answer.
 pub fn answers_keep_content()
     ensures { AnswersKeepContent }
@@ -135,8 +136,8 @@ pub fn sent_is_front_of_due()
     ensures { SentIsFrontOfDue }
 {}
 
-/// States a law and does nothing when called: what a driver was sent since it was connected is what it took, piece by
-/// piece, of the bytes that waited for it.
+/// States a law and does nothing when called: a driver was sent what it accepted. Since it was connected that
+/// is, piece by piece, the bytes that it accepted of those that waited for it.
 pub fn driver_sent_is_received()
     ensures { DriverSentIsReceived }
 {}
@@ -158,7 +159,8 @@ pub fn other_drivers_stay()
     ensures { OtherDriversStay }
 {}
 
-/// States a law and does nothing when called: a new connection has said nothing, and nothing waits for it.
+/// States a law and does nothing when called: a new connection is fresh: its client has said nothing. No
+/// bytes wait for it.
 pub fn opened_is_fresh()
     ensures { OpenedIsFresh }
 {}
@@ -174,14 +176,14 @@ pub fn bounds_hold()
     ensures { BoundsHold }
 {}
 
-/// States a law and does nothing when called: no more connections are open than one of the configurations so far
-/// allowed, and no more were opened than [`OPENED_MAX`].
+/// States a law and does nothing when called: at most as many connections are open as one of the configurations
+/// so far allowed, and at most [`OPENED_MAX`] were opened.
 pub fn connections_are_few()
     ensures { ConnectionsAreFew }
 {}
 
-/// States a law and does nothing when called: if the configuration is within the limits that its files have, no answer to
-/// one line is longer than 578,146 bytes, which is a bound for a LIST VAR of as many variables as a table holds.
+/// States a law and does nothing when called: if the configuration is within the limits that its files have, an answer to
+/// one line has at most 578,146 bytes. That is a bound for a LIST VAR of a full table.
 pub fn answers_are_bounded()
     ensures { AnswersAreBounded }
 {
@@ -218,16 +220,16 @@ pub fn tracking_looks_back()
     ensures { TrackingLooksBack }
 {}
 
-/// States a law and does nothing when called: the text of `GET VAR` for `ups.status` is that of the last SETINFO of the
-/// UPS's driver, or `FSD ` and that text. So a server shows no status of its own, such as one that it waits for the driver.
+/// States a law and does nothing when called: a server shows no status of its own. The text of `GET VAR` for
+/// `ups.status` is that of the last SETINFO of the UPS's driver, or `FSD ` and that text.
 pub fn status_is_the_drivers()
     ensures { StatusIsTheDrivers }
 {
     every_table_holds();
 }
 
-/// States a law and does nothing when called: a reload comes to the same as if the drivers that it disconnects and the
-/// connections that it closes had been disconnected and closed before it, one by one.
+/// States a law and does nothing when called: a reload has the same effect as if the drivers and connections that
+/// it ends had ended before it, one by one.
 pub fn reload_is_downs_then_closes_then_itself()
     ensures { ReloadIsDownsThenClosesThenItself }
 {}
@@ -237,14 +239,14 @@ pub fn keeps_its_number()
     ensures { KeepsItsNumber }
 {}
 
-/// States a law and does nothing when called: each UPS has one number, and if no configuration has two UPSes of the same
-/// name, no two UPSes have the same number.
+/// States a law and does nothing when called: each UPS has one number. If the names of each configuration's UPSes are
+/// distinct, their numbers are distinct, too.
 pub fn numbers_are_distinct()
     ensures { NumbersAreDistinct }
 {}
 
 /// States a law and does nothing when called: what a reload leaves of a UPS and of the connections that are logged in to
-/// it, if no configuration has two UPSes of the same name.
+/// it. Suppose that the names of each configuration's UPSes are distinct.
 pub fn upses_stay()
     ensures { UpsesStay }
 {}

@@ -1,5 +1,5 @@
-//! What `nutsim` runs: it reads a schedule from its file, plays it on a real server and real monitors, and prints what
-//! its steps tell.
+//! What `nutsim` runs: it reads a schedule from its file, plays it on a real server and real monitors, and prints the
+//! news of its steps.
 #![tactic(auto)]
 
 mod command;

@@ -1,11 +1,11 @@
-//! What steps tell, as lines.
+//! The news of steps, as lines.
 
 use nut_monitor::Phase;
 use nut_play::{Fleet, Logged, News};
 use std::io;
 use std::io::Write;
 
-/// Writes what the step with this number tells. Numbers count from 1 in the schedule.
+/// Writes the news of the step with this number. Numbers count from 1 in the schedule.
 pub fn write_news<O: Write>(
     out: &mut O,
     fleet: &Fleet,
@@ -30,7 +30,7 @@ pub fn write_news<O: Write>(
     }
 }
 
-/// Returns the UPS of a MONITOR line as it is written there; `None` if no line is named.
+/// Returns the UPS of a MONITOR line as it is written there, if a line is named.
 fn target_of(fleet: &Fleet, monitor: usize, line: Option<usize>) -> Option<&[u8]> {
     let config = fleet.config(monitor)?;
     let monitored = config.monitors.lines.get(line?)?;

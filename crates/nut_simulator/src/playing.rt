@@ -34,8 +34,8 @@ struct Stage<'a, O, E> {
     progress: Progress<'a, E>,
 }
 
-/// Plays the lines of a schedule, and writes what they tell. Before it returns a fault, it has written what the steps
-/// before that told.
+/// Plays the lines of a schedule, and writes their news. Before it returns a fault, it has written the news of the
+/// steps before that.
 pub fn play_schedule<'a, R: BufRead, O: Write, E: Write>(
     alloc: Global,
     fleet: &mut Fleet,
@@ -62,7 +62,7 @@ fn failure_of<'a>(halt: Halt, path: &'a str) -> Failure<NutsimFault<'a>> {
     }
 }
 
-/// Plays the lines of a schedule in a room, and flushes what they tell, also after a fault.
+/// Plays the lines of a schedule in a room, and flushes their news, also after a fault.
 fn play_and_flush<R: BufRead, O: Write, E: Write>(
     alloc: Global,
     fleet: &mut Fleet,
@@ -144,7 +144,7 @@ impl<'a, O: Write, E: Write> Stage<'a, O, E> {
         self.play_step(&step)
     }
 
-    /// Plays a step, and writes what it tells and, if that is due, how far the schedule has been played.
+    /// Plays a step, and writes its news and, if that is due, how far the schedule has been played.
     fn play_step(&mut self, step: &Step) -> Result<(), Halt> {
         self.play(step)?;
         if self.progress.is_due(self.number) {
@@ -165,7 +165,7 @@ impl<'a, O: Write, E: Write> Stage<'a, O, E> {
         }
     }
 
-    /// Plays a step and writes what it tells.
+    /// Plays a step and writes its news.
     fn play(&mut self, step: &Step) -> Result<(), Halt> {
         match self.fleet.play(slice::from_ref(step)) {
             Ok(log) => self.write(log.as_slice()),
@@ -174,7 +174,7 @@ impl<'a, O: Write, E: Write> Stage<'a, O, E> {
         }
     }
 
-    /// Writes what a step told.
+    /// Writes the news of a step.
     fn write(&mut self, log: &[Logged]) -> Result<(), Halt> {
         for logged in log {
             self.progress.clear();

@@ -7,7 +7,7 @@ use nut_server::Config;
 use std::alloc::{AllocError, Global};
 use std::rt::Files;
 
-/// Reads ups.conf, upsd.users and upsd.conf in a folder.
+/// Reads ups.conf, upsd.users and upsd.conf in a directory.
 pub fn read_config(
     files: &impl Files,
     alloc: Global,
@@ -72,7 +72,7 @@ fn add(monitors: &mut Vec<MonConfig>, monitor: MonConfig) -> Result<(), AllocErr
     Ok(())
 }
 
-/// Reads an upsmon.conf, whatever the file is called. A fault names it without its folder.
+/// Reads an upsmon.conf, whatever the file is called. A fault names it without its directory.
 fn read_monitor<'a>(
     files: &impl Files,
     alloc: Global,
@@ -81,7 +81,7 @@ fn read_monitor<'a>(
     Ok(read_conf_at(files, alloc, path, name_of(path))?)
 }
 
-/// Returns a path without its folder.
+/// Returns a path without its directory.
 fn name_of(path: &str) -> &str {
     match path.rsplit_once('/') {
         Some((_, name)) => name,

@@ -18,20 +18,20 @@ use std::rt::Files;
 /// Plays a schedule on a server and its monitors, joined by pipes in memory. Returns the exit status.
 ///
 /// `words` are those of the command line `nutsim DIR SCHEDULE MONCONF..`, the program's name first. The server is made
-/// from ups.conf, upsd.users and upsd.conf in the folder DIR, and a monitor from each MONCONF, an upsmon.conf whose
-/// hosts are ignored. Each line of the file SCHEDULE is a step (`read_step`). What steps tell is printed on `out`, a
-/// line each, with the number of the step, counted from 1: `K: skipped` if the step was not possible and changed
-/// nothing; `K: monitor M notice TYPE`, followed by a blank and the UPS of the MONITOR line if the notice is about one;
-/// and then `K: monitor M phase P` if the monitor has entered another phase. The status is 0 once all was played. A longer
-/// schedule takes no more memory.
+/// from ups.conf, upsd.users and upsd.conf in the directory DIR, and a monitor from each MONCONF, an upsmon.conf whose
+/// hosts are ignored. Each line of the file SCHEDULE is a step (`read_step`). The news of steps is printed on `out`, a
+/// line each, with the number of the step, counted from 1. `K: skipped` says that the step was impossible.
+/// `K: monitor M notice TYPE` is followed by a blank and the UPS of the MONITOR line if the notice is about one. Then
+/// comes `K: monitor M phase P` if the monitor has entered another phase. The status is 0 once all was played. Memory
+/// doesn't grow with the schedule.
 ///
 /// If clap refuses the words, its text is written to `err`, and the status is 2; the help and the version are written
 /// to `out`, with status 0. Files are read in the order of the command line, and the first fault is written to `err`,
-/// with status 1: `nutsim: FILE: cannot read`, with the reason on a line of its own, or the first fault of a
-/// configuration file, as `nutsim: ups.conf:2: BadName`, which is named without its folder. For a line that isn't a
-/// step, or names a monitor, a link or a UPS that doesn't exist, `nutsim: SCHEDULE:K: BadStep` is written, after what
-/// the steps before it told. `nutsim: out of memory` is written if memory cannot be allocated, and `nutsim: I/O failed`
-/// if `out` fails.
+/// with status 1. It is `nutsim: FILE: cannot read`, with the reason on a line of its own. Or it is the first fault of
+/// a configuration file, which is named without its directory, as in `nutsim: ups.conf:2: BadName`. For a line that
+/// isn't a step, or names a monitor, a link or a UPS that doesn't exist, `nutsim: SCHEDULE:K: BadStep` is written,
+/// after the news of the steps before it. `nutsim: out of memory` is written if memory cannot be allocated, and
+/// `nutsim: I/O failed` if `out` fails.
 pub fn run_nutsim<S: AsStr, O: Write, E: Write>(
     files: &impl Files,
     alloc: Global,
@@ -99,7 +99,7 @@ fn run_words<'a, S: AsStr, O: Write, E: Write>(
     play_room(files, alloc, names, out, err, is_terminal)
 }
 
-/// The names on a command line: the folder of the server's files, the schedule, and the file of each monitor.
+/// The names on a command line: the directory of the server's files, the schedule, and the file of each monitor.
 #[derive(Clone, Copy)]
 struct Names<'a, 'b> {
     folder: &'a str,

@@ -268,8 +268,8 @@ impl UpsState {
         }
     }
 
-    /// Does what a line with this verb and these words asks for, if the table accepts it, and if it is one of those
-    /// that never add to the table: nothing for the other verbs.
+    /// Does what a line with this verb and these words asks for, if the table accepts it and the verb never adds to
+    /// the table. Other verbs do nothing here.
     #[tactic(auto, unfolding(crate::specs::Step::after, crate::specs::Step::accepts, crate::specs::Step::changed))]
     fn follow_in_place(&mut self, verb: Verb, words: &Words)
         ensures { self.new ≡ (if may_add verb then self.old else after self.old (asked_by verb words.now)) }
@@ -337,10 +337,10 @@ impl UpsState {
 
     /// Changes the table as a line of the driver says. The line comes without its line feed.
     ///
-    /// A line without a backslash that adds no variable, enum value, range or command allocates no memory and succeeds.
-    /// A line that is heard changes nothing in these cases: a name isn't a name, a value is too long, a number or range
-    /// can't be read, the variable or entry doesn't exist, the entry is there already, or a limit is reached. PONG and
-    /// TRACKING never change the table.
+    /// Only a line that has a backslash, or adds a variable, enum value, range or command, allocates memory; any other
+    /// succeeds. The table ignores a line if a name isn't a name, a value is too long, or a number or range can't be
+    /// read. It also does if the variable or entry doesn't exist, the entry is there already, or a limit is reached.
+    /// PONG and TRACKING never change the table.
     ///
     /// # Errors
     ///
@@ -418,14 +418,14 @@ impl UpsState {
         }
     }
 
-    /// Returns the value of a variable, or `None` if there is no such variable.
+    /// Returns the value of a variable, or `None` for an unknown one.
     pub fn value(&self, name: &[u8]) -> Option<&[u8]>
         ensures { MatchOption result (value_of self.now name.now ≡ None) (λ text. value_of self.now name.now ≡ Some text.now) }
     {
         Some(self.variable(name)?.value())
     }
 
-    /// Returns the flags of a variable: none if there is no such variable.
+    /// Returns the flags of a variable. An unknown variable has none.
     pub fn flags(&self, name: &[u8]) -> Flags
         ensures { result ≡ flags_of self.now name.now }
     {
@@ -445,7 +445,7 @@ impl UpsState {
         }
     }
 
-    /// Returns the enum values of a variable, in order of addition: none if there is no such variable.
+    /// Returns the enum values of a variable, in order of addition. An unknown variable has none.
     pub fn enums(&self, name: &[u8]) -> &[Text]
         ensures { result.now ≡ enums_of self.now name.now }
     {
@@ -455,7 +455,7 @@ impl UpsState {
         }
     }
 
-    /// Returns the ranges of a variable, in order of addition: none if there is no such variable.
+    /// Returns the ranges of a variable, in order of addition. An unknown variable has none.
     pub fn ranges(&self, name: &[u8]) -> &[Range]
         ensures { result.now ≡ ranges_of self.now name.now }
     {
@@ -495,7 +495,8 @@ impl UpsState {
         &self.commands
     }
 
-    /// Whether a DUMPDONE came since the table was made or last cleared: the driver has then told all that it knew.
+    /// Whether a DUMPDONE came since the table was made or last cleared: the driver has then reported all that it
+    /// knew.
     pub fn dump_done(&self) -> bool
         ensures { result ≡ self.now.dump_done }
     {

@@ -139,7 +139,7 @@ impl LineCutter {
 }
 
 /// Returns the first line of a piece, without its line feed, and the bytes behind it. It is for a piece whose first byte
-/// begins a line. Returns `None` if the piece holds no line feed, or if the line is longer than [`LINE_MAX`].
+/// begins a line. Returns `None` if the line's end isn't in the piece, or if the line is longer than [`LINE_MAX`].
 pub fn first_line<'a>(piece: &'a [u8]) -> Option<(&'a [u8], &'a [u8])>
     ensures line { IfSome result (λ found. IsFirstLine found.0.now piece.now found.1.now) }
     ensures taken { (text after : List ℕ) → piece.now ≡ text ++ 10 ∷ after → length text ≤ LINE_MAX → IsSome result }

@@ -20,8 +20,8 @@ fn first_set(marks: u64) -> usize
     }
 }
 
-/// Returns how many bytes, of the [`LANES`] from the place `at` on, come before the first that can't stand in a bare word. It stops at
-/// a `!`, too, which may stand there: so one comparison tells of all but two of the bytes that may not.
+/// Returns how many bytes, of the [`LANES`] from the place `at` on, come before the first that can't stand in a bare word. It
+/// stops at a `!`, too, which may stand there: so one comparison finds all but two of the bytes that may not.
 #[inline(always)]
 pub(crate) fn bare_run(bytes: &[u8], at: usize) -> usize
     requires { at + LANES ≤ length bytes.now }

@@ -4,7 +4,7 @@
 //! `nut_state`, how long a list is in `nut_proto`, what a file holds in `nut_conf`.
 ghost use Rattle.std.specs.Prelude.{◌≡◌};
 
-/// The greatest length of a line in bytes: of a request or an answer, and of what a driver and a server tell each other. Its
+/// The greatest length of a line in bytes: of a request or an answer, and of what a driver and a server send each other. Its
 /// line feed isn't counted, a carriage return is.
 pub const LINE_MAX: usize = 2048;
 /// The greatest number of bytes that come in at once.

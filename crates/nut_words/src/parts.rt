@@ -5,7 +5,7 @@ ghost use Rattle.std.specs.Option.{option_map_or};
 
 use memchr::memchr;
 
-/// Returns the bytes before the first `byte`, and the bytes after it. If there is no such byte, returns all of them and
+/// Returns the bytes before the first `byte`, and the bytes after it. Without such a byte it returns all of them and
 /// `None`.
 pub fn cut(byte: u8, bytes: &[u8]) -> (&[u8], Option<&[u8]>)
     ensures parts { slice_split (λ c. c == byte) bytes.now

@@ -42,8 +42,8 @@ pub fn bare_word(bytes: &[u8], end: u8) -> Option<(&[u8], &[u8])>
     Some((&bytes[..len], &bytes[len + 1..]))
 }
 
-/// Returns the text between the quotes of a quoted word, if these bytes are that word, and each byte of the text is printing and
-/// stands there as [`append_quoted`](crate::append_quoted) writes it without a backslash. Allocates no memory.
+/// Returns the text between the quotes, if these bytes are a quoted word. Each byte of the text has to be
+/// printing, and one that [`append_quoted`](crate::append_quoted) writes without a backslash. Allocates no memory.
 pub fn quoted_text(bytes: &[u8]) -> Option<&[u8]>
     ensures { IfSome result (λ text. (bytes.now ≡ quoted text.now) × IsPrintable text.now) }
 {

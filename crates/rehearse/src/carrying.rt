@@ -27,7 +27,7 @@ fn front(bytes: &[u8], most: usize) -> &[u8] {
     &bytes[..bytes.len().min(most)]
 }
 
-/// Moves a piece of what the driver tells to the server.
+/// Moves a piece of what the driver sends to the server.
 fn carry_told(server: &mut Server, dummy: &mut Dummy, size: usize) -> Carried {
     let told = front(dummy.waiting(), size);
     if told.is_empty() {
@@ -78,8 +78,8 @@ fn carry_all(server: &mut Server, dummy: &mut Dummy, size: usize) -> Carried {
     Carried::Piece
 }
 
-/// Lets driver and server take what waits for them, so many bytes at a time, and writes how that ended; `None` if that is
-/// no number, or one of them isn't made.
+/// Lets driver and server accept what waits for them, so many bytes at a time, and writes how that ended. `None` if the
+/// size isn't a number, or one of them isn't made.
 pub fn play(stage: &mut Stage, size: Text<'_>) -> Option<()> {
     let size = size.number()?;
     let server = stage.server.as_mut()?;

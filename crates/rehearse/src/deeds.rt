@@ -1,4 +1,4 @@
-//! The lines that tell what a world gave, and what its devices did.
+//! The lines that say what a world gave, and what its devices did.
 
 use crate::answer::Answer;
 use crate::text::shown;

@@ -18,7 +18,7 @@ use crate::stage::Stage;
 use crate::text::{Step, shown};
 use nut_dummy::{Dummy, DummyFault, Script, ScriptKind, Variable};
 
-/// Plays a step on a driver, and writes the answer; `None` if it is no step.
+/// Plays a step on a driver, and writes the answer; `None` for another line.
 pub fn play(stage: &mut Stage, step: Step<'_>) -> Option<()> {
     match step.verb {
         "dev" => begin(stage, ScriptKind::Dev, step.bytes),
@@ -54,7 +54,7 @@ fn play_on(dummy: &mut Dummy, step: Step<'_>, out: &mut Answer) -> Option<()> {
     Some(())
 }
 
-/// Makes the call that a verb names; `None` if it names none.
+/// Makes the call that a verb names; `None` for another verb.
 fn call(dummy: &mut Dummy, step: Step<'_>) -> Option<Result<(), DummyFault>> {
     match step.verb {
         "link" => {

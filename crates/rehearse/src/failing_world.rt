@@ -79,7 +79,7 @@ fn coming(
     None
 }
 
-/// Returns an arrival as `next` gives it, with its bytes in the piece; `None` if it may not come yet.
+/// Returns an arrival as `next` gives it, with its bytes in the piece, if it may come now.
 fn next_of(given: &Given, server: &Server, piece: &mut Piece) -> Option<Next>
     ensures { IfSome result (λ n. MayCome n server.now) }
 {

@@ -21,7 +21,7 @@ use nut_words::{Words, split};
 use std::alloc::Global;
 use std::mem;
 
-/// Plays a step on a link, and writes the answer; `None` if it is no step.
+/// Plays a step on a link, and writes the answer; `None` for another line.
 pub fn play(stage: &mut Stage, step: Step<'_>) -> Option<()> {
     let (link, out) = (&mut stage.link, &mut stage.answer);
     match step.verb {
@@ -43,7 +43,7 @@ fn take(link: &mut Link, out: &mut Answer) {
     let _ = link.took(taken);
 }
 
-/// Makes the call that a verb names; `None` if it names none.
+/// Makes the call that a verb names; `None` for another verb.
 fn call(alloc: Global, link: &mut Link, step: Step<'_>) -> Option<Result<(), LinkFault>> {
     match step.verb {
         "new" => {
@@ -57,7 +57,7 @@ fn call(alloc: Global, link: &mut Link, step: Step<'_>) -> Option<Result<(), Lin
     }
 }
 
-/// Asks the request that a line spells; `None` if it spells none.
+/// Asks the request that a line spells; `None` for another line.
 fn ask(alloc: Global, link: &mut Link, line: &[u8]) -> Option<Result<(), LinkFault>> {
     match split(alloc, line) {
         Ok(words) => ask_words(link, &words),

@@ -13,13 +13,13 @@
 //! carry N              server and driver of the first UPS take what waits for them, N bytes at a time, until none waits
 //! ```
 //!
-//! `server.rt` lists the other steps of a server. Steps that begin with `serve`, `dummy`, `monitor`, `watch`, `link`, `room`
-//! or `words` are for the loop of a server (`serving.rt`), a dummy driver, a monitor, the loop of a monitor (`watching.rt`), a
-//! link, a room, or lines and words: see the file of that name.
+//! `server.rt` lists the other steps of a server. Steps that begin with `dummy`, `monitor`, `link`, `room` or `words` are in
+//! the file of that name. Those with `serve` are for the loop of a server (`serving.rt`), those with `watch` for the loop of a
+//! monitor (`watching.rt`).
 //!
 //! In texts `%XX` is the byte with these two hexadecimal digits; control characters, `%` and bytes past ASCII are
 //! printed so. A line that is empty or begins with `#` is printed as it is. A line that begins with `? ` is played only
-//! if memory was refused at the last line without it; else an empty line is written.
+//! if memory was refused at the last line that doesn't. Otherwise an empty line is written.
 #![tactic(auto)]
 
 use std::alloc::Global;

@@ -21,7 +21,7 @@ use crate::text::Step;
 use nut_conf::read_upsmon;
 use nut_monitor::{Event, Monitor, MonitorFault};
 
-/// Plays a step on a monitor, and writes the answer; `None` if it is no step.
+/// Plays a step on a monitor, and writes the answer; `None` for another line.
 pub fn play(stage: &mut Stage, step: Step<'_>) -> Option<()> {
     if step.verb == "new" {
         begin(stage, step.bytes);
@@ -56,7 +56,7 @@ fn play_on(monitor: &mut Monitor, step: Step<'_>, out: &mut Answer) -> Option<()
     Some(())
 }
 
-/// Returns the event that a step tells, if it tells one.
+/// Returns the event that a step names, if it names one.
 fn event_of<'a>(step: Step<'a>) -> Option<Event<'a>> {
     let i = step.number?;
     match step.verb {

@@ -69,7 +69,8 @@ fn origin_of(arrival: &Arrival<'_>) -> Origin {
     }
 }
 
-/// Tells the server an arrival, and writes its answer and then what waits at the place that the arrival came from.
+/// Passes an arrival to the server, and writes its answer and then what waits at the place that the arrival came
+/// from.
 pub fn tell(arrival: Arrival<'_>, server: &mut Server, out: &mut Answer) {
     let origin = origin_of(&arrival);
     out.put_done(server.arrive(arrival));

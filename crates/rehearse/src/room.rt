@@ -7,8 +7,8 @@
 //! room play            plays these steps in one call
 //! ```
 //!
-//! A call writes a line for each thing that its steps tell, with the number of the step in the call, and then `ok` or
-//! its fault.
+//! A call writes a line for each piece of news of its steps, with the number of the step in the call, and then
+//! `ok` or its fault.
 
 use crate::answer::{Answer, put_made};
 use crate::server::read_config;
@@ -39,7 +39,7 @@ impl Rooms {
     }
 }
 
-/// Plays a step of a script, and writes the answer; `None` if it is no step.
+/// Plays a step of a script, and writes the answer; `None` for another line.
 pub fn play(stage: &mut Stage, step: Step<'_>) -> Option<()> {
     let (alloc, rooms, out) = (stage.alloc, &mut stage.rooms, &mut stage.answer);
     match step.verb {
@@ -65,7 +65,7 @@ fn begin(stage: &mut Stage) {
     }
 }
 
-/// Plays the steps of a call, and writes what they tell.
+/// Plays the steps of a call, and writes their news.
 fn call(alloc: Global, fleet: &mut Fleet, schedule: &mut Vec<RoomStep>, out: &mut Answer) {
     show_call(fleet.play(schedule), out);
     *schedule = Vec::new(alloc);
@@ -94,7 +94,7 @@ fn show_call(told: Result<FleetLog, FleetFault>, out: &mut Answer) {
     }
 }
 
-/// Writes what the steps of a call told.
+/// Writes the news of the steps of a call.
 fn show_log(log: &[Logged], out: &mut Answer) {
     for logged in log {
         show_news(logged, out);
@@ -102,7 +102,7 @@ fn show_log(log: &[Logged], out: &mut Answer) {
     out.put("ok");
 }
 
-/// Writes something that a step told.
+/// Writes one piece of news of a step.
 fn show_news(logged: &Logged, out: &mut Answer) {
     let step = logged.step;
     match logged.news {

@@ -20,7 +20,7 @@
 //! ```
 //!
 //! An arrival is answered by `ok` or the name of its refusal, and then by what waits at the place that it came from. A
-//! reload is answered by that for each number that a UPS has had, with the UPS's name or `-`, and then by the drivers that
+//! reload is answered by that for each number that a UPS has had, with the UPS's name or `-`. Then come the drivers that
 //! it disconnects and the connections that it closes.
 
 ghost use Rattle.std.specs.Prelude.{◌≡◌, [], IfSome};
@@ -65,7 +65,7 @@ pub fn read_config(alloc: Global, texts: &Texts) -> Result<Config, ConfFault> {
     Ok(Config::new(ups, users, upsd))
 }
 
-/// Plays a step of a server or of its files, and writes the answer; `None` if it is no step.
+/// Plays a step of a server or of its files, and writes the answer; `None` for another line.
 pub fn play(stage: &mut Stage, step: Step<'_>) -> Option<()> {
     let (texts, out) = (&mut stage.texts, &mut stage.answer);
     match step.verb {
@@ -109,7 +109,7 @@ fn begin(stage: &mut Stage) {
     }
 }
 
-/// Makes a server with the texts of the configuration files; `None`, and why is written, if there is none.
+/// Makes a server with the texts of the configuration files; if it fails, the reason is written.
 pub fn new_server(alloc: Global, texts: &Texts, out: &mut Answer) -> Option<Server>
     ensures { IfSome result (λ s. s ≡ content s.configuration []) }
 {
@@ -142,7 +142,7 @@ fn reload(alloc: Global, texts: &Texts, server: &mut Server, out: &mut Answer) {
     }
 }
 
-/// Reads the texts of the configuration files for a reload; `None`, and why is written, if they set nothing.
+/// Reads the texts of the configuration files for a reload; if it fails, the reason is written.
 pub fn boxed_config(alloc: Global, texts: &Texts, out: &mut Answer) -> Option<Box<Config>> {
     match read_config(alloc, texts) {
         Ok(config) => boxed(alloc, config, out),
@@ -189,7 +189,7 @@ fn show_device(ups: Option<&Ups>, out: &mut Answer) {
     }
 }
 
-/// Returns the arrival that a step tells of a connection, a UPS or a moment, if it tells one.
+/// Returns the arrival that a step names of a connection, a UPS or a moment, if it names one.
 fn arrival_of<'a>(verb: &str, n: usize, more: Text<'a>) -> Option<Arrival<'a>> {
     match verb {
         "moment" => Some(Arrival::Moment(n as u64)),
@@ -205,7 +205,7 @@ fn arrival_of<'a>(verb: &str, n: usize, more: Text<'a>) -> Option<Arrival<'a>> {
     }
 }
 
-/// Returns how many bytes are taken at most: all, if no number is given. `None` if the text isn't a number.
+/// Returns how many bytes are accepted at most: all, by default. `None` if the text isn't a number.
 fn most(step: Step<'_>) -> Option<usize> {
     if step.more.written.is_empty() {
         return Some(usize::MAX);

@@ -14,9 +14,9 @@
 //!                      the call N of the world, counted from 1, is a fault
 //! ```
 //!
-//! A trouble is `sound`, `slow` (one byte at a time), `reluctant` (each byte at the second write), `late` (nothing is taken) or
-//! a number (that many bytes are taken, and then each write fails). A run writes a line for each thing that the world did, and
-//! then `=` or, if a call was a fault, `fault`, and how many bytes wait for connection 1 and for the driver of each UPS.
+//! A trouble is `sound`, `slow` (one byte at a time), `reluctant` (each byte at the second write), `late` (no byte at all) or a
+//! number (that many bytes, and then each write fails). A run writes a line for each thing that the world did, and then `=`, or
+//! `fault` if a call was one. At last it writes how many bytes wait for connection 1 and for the driver of each UPS.
 
 ghost use Rattle.std.specs.Prelude.{◌≡◌, []};
 ghost use Rattle.nut_server_spec.specs.Content.{content};
@@ -72,7 +72,7 @@ struct Troubles {
     fault_at: u64,
 }
 
-/// Plays a step of the loop, and writes the answer; `None` if it is no step.
+/// Plays a step of the loop, and writes the answer; `None` for another line.
 pub fn play(rt: &impl Wait, stage: &mut Stage, step: Step<'_>) -> Option<()> {
     match step.verb {
         "reload" => queue_reload(stage),
@@ -97,7 +97,7 @@ fn troubles_of(step: Step<'_>) -> Option<Troubles> {
     })
 }
 
-/// Returns the arrival that a step tells, if it tells one.
+/// Returns the arrival that a step names, if it names one.
 fn given_by(step: Step<'_>) -> Option<Given> {
     if step.verb == "open" {
         return Some(Given::Open(piece_of(step.bytes)?));

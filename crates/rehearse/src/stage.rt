@@ -21,7 +21,7 @@ pub struct Stage {
     pub alloc: Global,
     /// The answer to the last line.
     pub answer: Answer,
-    /// Whether memory could not be allocated at the last line without a question mark.
+    /// Whether memory was refused at the last line without a question mark.
     is_lack: bool,
     pub texts: Texts,
     pub server: Option<Server>,
@@ -55,7 +55,7 @@ impl Stage {
         }
     }
 
-    /// Plays a line of a script, which may be a comment or may have a question mark; `None` if it is no step. The bytes
+    /// Plays a line of a script, which may be a comment or may have a question mark; `None` for another line. The bytes
     /// that it means are put into `piece` for that.
     pub fn play_line(&mut self, rt: &impl Wait, line: &str, piece: &mut Vec<u8>) -> Option<()> {
         self.answer.clear();

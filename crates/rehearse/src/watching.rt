@@ -10,8 +10,8 @@
 //!                      from 1, is a fault
 //! ```
 //!
-//! `serving.rt` lists the troubles. A run writes a line for each thing that happened, and then the phase, or `fault` and what
-//! waits then: how many bytes for each link, and the oldest notice.
+//! `serving.rt` lists the troubles. A run writes a line for each thing that happened, and then the phase or `fault`. After a
+//! fault it also writes how many bytes wait for each link, and the oldest notice.
 
 ghost use Rattle.std.specs.Prelude.{◌≡◌, [], IfSome};
 ghost use Rattle.nut_monitor_spec.specs.Content.{content};
@@ -37,7 +37,7 @@ struct Troubles {
     fault_at: u64,
 }
 
-/// Plays a step of the loop, and writes the answer; `None` if it is no step.
+/// Plays a step of the loop, and writes the answer; `None` for another line.
 pub fn play(rt: &impl Wait, stage: &mut Stage, step: Step<'_>) -> Option<()> {
     match step.verb {
         "run" => run(rt, stage, step.bytes, None),
@@ -62,7 +62,7 @@ fn queue(stage: &mut Stage, event: Given) {
     stage.answer.put_growth(stage.events.push(event).is_ok());
 }
 
-/// Returns the event that a step tells, if it tells one.
+/// Returns the event that a step names, if it names one.
 fn given_by(step: Step<'_>) -> Option<Given> {
     let i = step.number?;
     match step.verb {
@@ -74,7 +74,7 @@ fn given_by(step: Step<'_>) -> Option<Given> {
     }
 }
 
-/// Makes a monitor with a text of upsmon.conf; `None`, and the answer is written, if there is none.
+/// Makes a monitor with a text of upsmon.conf; if it fails, the answer is written.
 fn monitor_of(stage: &mut Stage, file: &[u8]) -> Option<Monitor>
     ensures { IfSome result (λ m. m.content ≡ content m.content.configuration []) }
 {

@@ -23,7 +23,7 @@ use nut_words::{
 };
 use std::alloc::Global;
 
-/// Plays a step on a stream or a line, and writes the answer; `None` if it is no step.
+/// Plays a step on a stream or a line, and writes the answer; `None` for another line.
 pub fn play(stage: &mut Stage, step: Step<'_>) -> Option<()> {
     let out = &mut stage.answer;
     match step.verb {

@@ -1,4 +1,4 @@
--- What some schedules tell. Each example is computed from the definitions.
+-- The news of some schedules. Each example is computed from the definitions.
 use Rattle.std.specs.Prelude.{◌≡◌, ℕ, zero, suc, List, [], ◌∷◌, ◌++◌, codes, map, reverse, true, false, Some, None}
 use Rattle.nut_words.specs.Quoting.{quoted}
 use Rattle.nut_conf.specs.declared.users.Role.TheVariants as roles
@@ -71,7 +71,7 @@ logs_in c = says_lines c (codes "USERNAME mon" ∷ codes "PASSWORD m1" ∷ codes
 abbrev pub rereads : Step
 rereads = Other (Reload (record alone.server { upses = record { name = []; driver = []; description = codes "Rack 2" } ∷ []; users = [] }))
 
--- the world after these steps, and what they tell; here the oldest step comes first
+-- the world after these steps, and their news; here the oldest step comes first
 abbrev pub world_of : Setup → List Step → World
 world_of setup steps = world setup (reverse steps)
 

@@ -54,7 +54,7 @@ pub record PastExamples : Type 0 where
   pub may_be_alive : IsReason primary (line_in primary.lines 0) 15 0 0 (codes "OB" ∷ []) → ⊥
   -- a shutdown that began by a status that was never shown, though the line has all the power that is needed
   pub no_cause : HasCauses alone (reverse (live (codes "OL"))) 0 (brings 1 Status 0 (codes "OB LB") ∷ []) → ⊥
-  -- a machine that goes on by a status that was never shown
+  -- a machine that proceeds by a status that was never shown
   pub no_supply : HasSupply alone (reverse (live (codes "OB LB"))) 0 (brings 1 Status 0 (codes "OL") ∷ []) → ⊥
   -- a count of two logins
   pub two_logins : WasAlone pair (reverse counts_two) 0 0 (seen pair (world_of pair counts_two) 0) → ⊥

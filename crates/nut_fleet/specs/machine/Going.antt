@@ -1,4 +1,4 @@
--- How a fleet that a program keeps continues with a step, and what that step tells.
+-- How a fleet that a program keeps continues with a step, and the news of that step.
 use Rattle.std.specs.Prelude.{ℕ, ◌≡◌, ◌++◌, suc, Bool, true, if◌then◌else◌, List, [], ◌∷◌, length, take, drop, map}
 use Rattle.nut_server_spec.specs.Event as arrivals
 use Rattle.nut_server_spec.specs.Acceptance as server_tests
@@ -83,7 +83,7 @@ moved_by f (Join m i) step = with_ends m i (ends_made f) (informed_on m (events.
 abbrev pub moved_on : Fleet → Step → Fleet
 moved_on f step = moved_by f (deed_by f step) step
 
--- ---- what it tells
+-- ---- its news
 
 abbrev pub heard_news : ℕ → knowledge.Content → events.Event → List News
 heard_news m s event =
@@ -102,7 +102,7 @@ news_seen f step = news_by f (deed_by f step)
 
 -- ---- the laws
 
--- A fleet that is that of a world continues to that of the world after the step, tells what the step tells there, and does
+-- A fleet that is that of a world continues to that of the world after the step, has the news that the step has there, and does
 -- what the step does there.
 pub record FleetsGoOn (setup : Setup) (schedule : List Step) : Type 0 where
   pub goes_on : (f : Fleet) (step : Step) → is_fit setup step ≡ true → Keeps setup (world setup schedule) f →

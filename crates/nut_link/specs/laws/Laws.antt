@@ -54,7 +54,7 @@ Adds query row words =
 abbrev pub type_words : Bool → VariableKind → List (List ℕ)
 type_words writable kind = if writable then codes "RW" ∷ part_word (kind_part kind) ∷ [] else part_word (kind_part kind) ∷ []
 
--- a request, the server's reply to it, and the words that a client is told then
+-- a request, the server's reply to it, and the words that a client then reads
 abbrev pub Case : Type 0
 Case = Request × Reply × List (List ℕ)
 
@@ -71,7 +71,7 @@ gets ups name text count number flag kind status =
     ∷ (requests.GetTrackingOf number, replies.Tracking number status, status_word status ∷ [])
     ∷ []
 
--- What the server replies to each request is taken as its answer, and each row of a list as one more row. A refusal is an
+-- A link accepts what the server replies to each request as its answer, and each row of a list as one more row. A refusal is an
 -- answer whatever was asked, and STARTTLS has no other. A count of logins has at most 9 digits.
 pub record RepliesMatch : Type 0 where
   pub refused : (request : Request) (refusal : Refusal) →

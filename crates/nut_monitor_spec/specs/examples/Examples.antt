@@ -1,4 +1,4 @@
--- Runs of a monitor, and what it tells, asks and decides in them. Each example is computed from the definitions.
+-- Runs of a monitor, and what it reports, asks and decides in them. Each example is computed from the definitions.
 use Rattle.std.specs.Prelude.{◌≡◌, ℕ, ◌+◌, zero, suc, if◌then◌else◌, Bool, true, false, List, [], ◌∷◌, ◌++◌, codes, length, ◌&&◌, Some, None, is_none}
 use Rattle.nut_words.specs.declared.limits.TheConstants.{PIECE_MAX}
 use Rattle.nut_conf.specs.declared.notice.Notice.TheVariants as kinds
@@ -34,7 +34,7 @@ moved configuration events (Happens event) = event ∷ events
 moved configuration events (Says i text) =
     LinkBytes i (text ++ codes "\n") ∷ LinkTook i (length (waits configuration i (trace configuration events))) ∷ events
 
--- The events of a run. Moves are listed with the oldest first, and all waiting notices are taken after each move.
+-- The events of a run. Moves are listed with the oldest first, and all waiting notices are handed out after each move.
 abbrev pub played : Configuration → List Move → List Event → List Event
 played configuration [] events = events
 played configuration (move ∷ moves) events = played configuration moves (noticed configuration (moved configuration events move))

@@ -24,7 +24,7 @@ abbrev pub CoreLacks : ℕ → knowledge.Content → Deed → Type 0
 CoreLacks m t (Inform j event) = (j ≡ m) × (link : Option ℕ) × (k : ℕ) × MayLack t link k event
 CoreLacks m t d = ⊥
 
--- It may, or the log may, as the monitor tells something.
+-- It may, or the log may, as the monitor reports something.
 abbrev pub MonitorLacks : ℕ → knowledge.Content → Deed → Type 0
 MonitorLacks m t d = CoreLacks m t d ⊎ (0 < length (told_news d t))
 
@@ -40,7 +40,7 @@ back_grows there d = false
 abbrev pub SendLacks : Bool → ℕ → knowledge.Content → Deed → Type 0
 SendLacks there m t d = IsTrue (out_grows there d) ⊎ MonitorLacks m t d
 
--- memory may be lacking at a step, apart from what tells that it is skipped
+-- memory may be lacking at a step, apart from the news that it is skipped
 abbrev pub StepLacks : Kept → Step → Type 0
 StepLacks k (ServerClock t) = ServerLacks k.server (tell_by k.server (arrivals.Moment t))
 StepLacks k (MonitorClock m t) = MonitorLacks m (known_of k m) (inform_by m (known_of k m) (events.Moment t))

@@ -1,4 +1,4 @@
--- How a step changes what the code keeps of a fleet, and what it tells.
+-- How a step changes what the code keeps of a fleet, and its news.
 use Rattle.std.specs.Prelude.{ℕ, zero, suc, ◌++◌, min, Bool, true, false, not, ◌&&◌, nat_lt, if◌then◌else◌, List, [], ◌∷◌, length, take, drop, slice_get, is_some, is_none}
 use Rattle.nut_words.specs.Bytes.{line_feed}
 use Rattle.nut_words.specs.declared.limits.TheConstants.{PIECE_MAX}
@@ -198,7 +198,7 @@ next k (CutServer m i) = told_to k (arrivals.Close (link_of k m i).connection)
 next k (CutMonitor m i) = with_seat k m (hear_seat m (events.LinkLost i))
 next k (Other event) = k
 
--- what a monitor tells at a step, if it is told anything
+-- what a monitor reports at a step, if it has an event
 abbrev pub said : Kept → Step → List News
 said k (MonitorClock m t) = told_news (inform_by m (known_of k m) (events.Moment t)) (known_of k m)
 said k (Link m i) = told_news (link_by m k.server (known_of k m) i (link_of k m i)) (known_of k m)

@@ -10,7 +10,7 @@ use Rattle.nut_play.specs.Kept.{Kept, fleet_of}
 use Rattle.nut_play.specs.machine.Next.{is_played, next, said, fits}
 use Rattle.nut_play.specs.machine.Lacking.{StepLacks}
 
--- what a step tells: this news if it was played, else that it was skipped
+-- the news of a step: this if it was played, else that it was skipped
 abbrev pub told_if : Bool → List News → List News
 told_if true news = news
 told_if false news = Skipped ∷ []
@@ -27,7 +27,7 @@ abbrev pub firsts : ℕ → List Step → List Step
 firsts zero steps = []
 firsts (suc n) steps = before_all (slice_get steps n) (firsts n steps)
 
--- what is kept after these steps, here with the newest first; what they tell; and whether each of them fits
+-- what is kept after these steps, here with the newest first; their news; and whether each of them fits
 abbrev pub run : Kept → List Step → Kept
 run k [] = k
 run k (step ∷ earlier) = next (run k earlier) step
@@ -44,7 +44,7 @@ abbrev pub is_bad : Kept → Option Step → Bool
 is_bad k None = false
 is_bad k (Some step) = not (fits k step)
 
--- Memory may be lacking at a step, or where the log takes what it tells.
+-- Memory may be lacking at a step, or where the log keeps its news.
 abbrev pub LacksAt : Kept → Step → Type 0
 LacksAt k step = StepLacks k step ⊎ (0 < length (told_at k step))
 

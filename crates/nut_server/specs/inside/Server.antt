@@ -6,7 +6,7 @@ use Rattle.nut_server_spec.specs.Content.{Content}
 use Rattle.nut_server_spec.specs.Event.{Event}
 use Rattle.nut_server_spec.specs.laws.Limits.{AreWithin}
 
--- A server was told some history of accepted events, whose configurations are within the limits of their files.
+-- A server has some history of accepted events, whose configurations are within the limits of their files.
 pub record IsTold (s : Content) : Type 0 where
   pub first : Configuration
   pub history : List Event

@@ -81,7 +81,7 @@ impl Server {
         self.parts.devices.get(u).is_some_and(Device::is_forced)
     }
 
-    /// Returns which variables the driver of a UPS has said something about that couldn't be read, if there is such a place:
+    /// Returns about which variables the driver of a UPS has sent unreadable lines, if there is such a place. It counts
     /// since the server was made, or since a reload gave the place another UPS or driver.
     pub fn unread(&self, u: usize) -> Option<&Unread> {
         self.parts.devices.get(u).map(Device::unread)
@@ -116,9 +116,9 @@ impl Server {
         }
     }
 
-    /// Returns the number of the connection that is to be closed if a client calls: of those whose clients aren't logged in
-    /// the one that was opened first; those whose clients gave the name and the password of a user come last. Returns `None`
-    /// if a connection can be opened as it is, if all clients are logged in, or if [`OPENED_MAX`] connections were opened.
+    /// Returns the number of the connection to close if a client calls: the oldest whose client isn't logged in. Those whose
+    /// clients gave the name and the password of a user come last. Returns `None` if a connection can be opened as it is, if
+    /// all clients are logged in, or if [`OPENED_MAX`] connections were opened.
     pub fn makes_way(&self) -> Option<u64>
         ensures value { result ≡ makes_way self.now }
         ensures not_logged_in { IfSome result (λ c. has_login (session_of c self.now.sessions) ≡ false) }

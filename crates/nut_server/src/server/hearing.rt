@@ -90,8 +90,8 @@ impl Parts {
     }
 
     /// Answers `GET VAR` of the connection at this place, if the value is kept as it is shown: it goes from the table straight
-    /// into the queue. The UPS was found at this place of ups.conf, if there is one. Returns whether it answered; if not, nothing
-    /// changes.
+    /// into the queue. The UPS was found at this place of ups.conf, if there is one. Returns whether it answered; otherwise
+    /// nothing changes.
     fn hear_kept(
         &mut self,
         at: usize,
@@ -214,8 +214,8 @@ impl Parts {
 }
 
 impl Parts {
-    /// Handles the first line of these bytes of the connection at this place, if nothing of a line is kept and the line is
-    /// whole, and returns the bytes behind it. Returns `None` otherwise. If memory cannot be allocated, nothing changes.
+    /// Handles the first line of these bytes of the connection at this place, if the line is whole and begins there.
+    /// Returns the bytes behind it. Returns `None` otherwise. If memory cannot be allocated, nothing changes.
     ///
     /// There are two ways to an answer. A plain line is read and answered at once; any other line becomes words, a request
     /// and a decision.
@@ -308,8 +308,8 @@ struct Hearer<'a> {
     at: usize,
 }
 
-/// Answers the lines of the connection, whose cutter is taken out. If memory cannot be allocated for one, nothing
-/// changes.
+/// Answers the lines of the connection, whose cutter was moved out. If memory cannot be allocated for one,
+/// nothing changes.
 impl HearLine for Hearer<'_> {
     type With = ();
 

@@ -52,7 +52,7 @@ live = DriverBytes 0 told ∷ joined_up
 abbrev pub answers_to : List ℕ → List Event → List ℕ
 answers_to text h = due 1 (past room (Bytes 1 text ∷ h))
 
--- then the driver tells of two variables and two commands more
+-- then the driver reports two variables and two commands more
 abbrev pub with_more : List Event
 with_more = DriverBytes 0 (codes "SETINFO ups.model S\nSETINFO load.cycle 1\nADDCMD load.cycle\nADDCMD ups.model\n") ∷ live
 
@@ -210,7 +210,7 @@ told_to_another text h = due 2 (past room (Bytes 2 text ∷ Open (codes "::1") �
 abbrev pub get_first : List ℕ
 get_first = codes "GET TRACKING 1\n"
 
--- how requests are tracked, and what drivers tell of them
+-- how requests are tracked, and what drivers report of them
 pub record TrackingExamples : Type 0 where
   pub off_at_first : answers_to (codes "GET TRACKING\n") live ≡ codes "TRACKING OFF\n"
   pub switch_before_user : answers_to (codes "SET TRACKING 1\nSET TRACKING on\n") live ≡ codes "ERR INVALID-ARGUMENT\nERR USERNAME-REQUIRED\n"

@@ -34,7 +34,7 @@ given_since first u n [] = 0
 given_since first u n (e ∷ past) =
     if gives n e then 0 else at_target u (target_at (numbering first past) e.step) (given_then e.answer) (given_since first u n past)
 
--- how the request with the number n to u ended, after a step: as the driver tells first; it failed if the driver is
+-- how the request with the number n to u ended, after a step: as the driver reports first; it failed if the driver is
 -- disconnected or connected anew before that
 abbrev pub ended_after : ℕ → ℕ → Step → TrackingStatus → TrackingStatus
 ended_after u n (Reported v line) before = if v == u then ended_by (told_in line) n before else before
@@ -53,7 +53,7 @@ abbrev pub track : Configuration → ℕ → List Entry → TrackingStatus
 track first n past =
     option_map_or (λ u. if nat_lt (given_since first u n past) TRACKED_MAX then ended u n past else Unknown) (asked_ups first n past) Unknown
 
--- What GET TRACKING tells of a number is what looking back for the number says.
+-- What GET TRACKING reports of a number is what looking back for the number says.
 abbrev pub TrackingLooksBack : Type 0
 TrackingLooksBack =
     (first : Configuration) (h : List Event) (n : ℕ) →

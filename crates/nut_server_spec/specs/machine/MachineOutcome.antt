@@ -80,7 +80,7 @@ content_after (Err r) s e = content_after_refusal r e s
 
 -- ---- the law
 
--- What the machine answers to an event is what a server may answer that was told the history, and what the machine has after it
+-- What the machine answers to an event is what a server may answer that has the history, and what the machine has after it
 -- is the content of the history after it.
 abbrev pub AnswersKeepContent : Type 0
 AnswersKeepContent =
