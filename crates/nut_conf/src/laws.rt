@@ -24,22 +24,21 @@ pub fn first_fault()
         → read_lines fault [] 1 lines ≡ Err (n, k) → IsFirstFault fault lines n k }
 {}
 
-/// States a law and does nothing when called: a line without words changes nothing except the numbers of the lines
-/// after it.
+/// States a law and does nothing when called: a line without words changes only the numbers of the lines after it.
 pub fn blank_lines_change_nothing()
     ensures { (fault : LineFault) → BlankChangesNothing fault }
 {}
 
-/// States a law and does nothing when called: in a file that reads without a fault, no two UPSes and no two users have
-/// the same name.
+/// States a law and does nothing when called: in a file that reads without a fault, all UPSes have different names, and
+/// so have all users.
 pub fn names_are_distinct()
     ensures ups { (file : List ℕ) (lines : List Words) → read_file ups_fault file ≡ Ok lines → HasDistinctNames (sections lines) }
     ensures users { (file : List ℕ) (lines : List Words) → read_file users_fault file ≡ Ok lines → HasDistinctNames (sections lines) }
 {}
 
-/// States a law and does nothing when called: in a file that reads, no directive is set more often than it may be, and no
-/// two settings are alike that may not be. There are no more endpoints, `instcmds` of a user, targets and descriptions than
-/// `limits` says, no target twice, no type of notice with two texts or two lines of flags, and no name with two descriptions.
+/// States a law and does nothing when called: in a file that reads, each directive is set at most as often as it may be.
+/// It has at most as many endpoints, `instcmds` of a user, targets and descriptions as `limits` says. Each target stands
+/// once, each type of notice has at most one text and one line of flags, and each name one description.
 pub fn rules_are_kept()
     ensures ups { (file : List ℕ) (lines : List Words) → read_file ups_fault file ≡ Ok lines
         → (d : UpsDirective) → EachKeepsRule (ups_row d).directive (sections lines) }

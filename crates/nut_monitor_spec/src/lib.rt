@@ -223,8 +223,8 @@ pub fn cuts_do_not_matter()
     ensures { CutsDoNotMatter }
 {}
 
-/// States a law and does nothing when called: if the queries of a MONITOR line can be written, its link keeps no more than
-/// one query of at most [`QUERY_MAX`](nut_link::QUERY_MAX) bytes, and [`LINE_MAX`](nut_words::LINE_MAX) bytes of an
+/// States a law and does nothing when called: if the queries of a MONITOR line can be written, its link keeps at most one
+/// query, of at most [`QUERY_MAX`](nut_link::QUERY_MAX) bytes, and [`LINE_MAX`](nut_words::LINE_MAX) bytes of an
 /// unfinished line.
 pub fn links_are_bounded()
     ensures { LinksAreBounded }
@@ -236,8 +236,8 @@ pub fn notices_are_few()
     ensures { NoticesAreFew }
 {}
 
-/// States a law and does nothing when called: the notices handed out, followed by those that wait, are all notices in
-/// their order: none is lost, none comes twice, and each one handed out was the oldest.
+/// States a law and does nothing when called: the notices handed out, followed by those that wait, are all notices, each
+/// once and in their order. Each one handed out was the oldest.
 pub fn notices_come_in_order()
     ensures { NoticesComeInOrder }
 {}

@@ -7,10 +7,10 @@ use nut_fleet::{
     shutdowns_have_causes, statuses_were_shown,
 };
 
-/// States a law and does nothing when called: whatever schedule a fleet has played, its server and its monitors
-/// accepted every event that they were told; each pipe carries a beginning of what was put into it; each status that a
-/// monitor has was shown by the server; a monitor that began its shutdown had a cause; and one that left Forcing waited
-/// for more than HOSTSYNC seconds, or had a last count of at most 1 login on the UPS of each of its primary lines.
+/// States a law and does nothing when called: whatever schedule a fleet has played, its server and its monitors accepted
+/// every event that it gave them, and each pipe carries a beginning of what was put into it. Each status that a monitor
+/// has was shown by the server. A monitor that began its shutdown had a cause. One that left Forcing waited for more than
+/// HOSTSYNC seconds, or had a last count of at most 1 login on the UPS of each of its primary lines.
 pub fn rooms_hold()
     ensures { RoomsHold }
 {

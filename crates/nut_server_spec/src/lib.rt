@@ -99,8 +99,8 @@ pub fn driver_cuts_and_writes_do_not_matter()
     ensures { DriverCutsAndWritesDoNotMatter }
 {}
 
-/// States a law and does nothing when called: a piece of a connection that has logged out gets no answer and sends no
-/// request to a driver. It changes only what is kept of the connection's unfinished line.
+/// States a law and does nothing when called: a piece of a connection that has logged out changes only what is kept of
+/// the connection's unfinished line. Clients and drivers are sent nothing for it.
 pub fn logout_is_final()
     ensures { LogoutIsFinal }
 {}
@@ -158,7 +158,8 @@ pub fn other_drivers_stay()
     ensures { OtherDriversStay }
 {}
 
-/// States a law and does nothing when called: a new connection has said nothing, and nothing waits for it.
+/// States a law and does nothing when called: a new connection has said nothing so far; the queue of its answers is
+/// empty.
 pub fn opened_is_fresh()
     ensures { OpenedIsFresh }
 {}
@@ -174,14 +175,14 @@ pub fn bounds_hold()
     ensures { BoundsHold }
 {}
 
-/// States a law and does nothing when called: no more connections are open than one of the configurations so far
-/// allowed, and no more were opened than [`OPENED_MAX`].
+/// States a law and does nothing when called: at most as many connections are open as one of the configurations so far
+/// allowed, and at most [`OPENED_MAX`] were opened.
 pub fn connections_are_few()
     ensures { ConnectionsAreFew }
 {}
 
-/// States a law and does nothing when called: if the configuration is within the limits that its files have, no answer to
-/// one line is longer than 578,146 bytes, which is a bound for a LIST VAR of as many variables as a table holds.
+/// States a law and does nothing when called: if the configuration is within the limits that its files have, an answer to
+/// one line has at most 578,146 bytes. That is a bound for a LIST VAR of as many variables as a table holds.
 pub fn answers_are_bounded()
     ensures { AnswersAreBounded }
 {
@@ -219,15 +220,17 @@ pub fn tracking_looks_back()
 {}
 
 /// States a law and does nothing when called: the text of `GET VAR` for `ups.status` is that of the last SETINFO of the
-/// UPS's driver, or `FSD ` and that text. So a server shows no status of its own, such as one that it waits for the driver.
+/// UPS's driver, or `FSD ` and that text. So in this answer only `FSD` is the server's own word. LIST VAR and LIST RW are
+/// outside this law.
 pub fn status_is_the_drivers()
     ensures { StatusIsTheDrivers }
 {
     every_table_holds();
 }
 
-/// States a law and does nothing when called: a reload comes to the same as if the drivers that it disconnects and the
-/// connections that it closes had been disconnected and closed before it, one by one.
+/// States a law and does nothing when called: a reload comes to the same as its parts in turn. First the drivers that it
+/// disconnects go down, one by one; then the connections that it closes are closed, one by one; then comes the reload
+/// itself.
 pub fn reload_is_downs_then_closes_then_itself()
     ensures { ReloadIsDownsThenClosesThenItself }
 {}
@@ -237,8 +240,8 @@ pub fn keeps_its_number()
     ensures { KeepsItsNumber }
 {}
 
-/// States a law and does nothing when called: each UPS has one number, and if no configuration has two UPSes of the same
-/// name, no two UPSes have the same number.
+/// States a law and does nothing when called: each UPS has one number. If the UPSes of each configuration have different
+/// names, all UPSes have different numbers.
 pub fn numbers_are_distinct()
     ensures { NumbersAreDistinct }
 {}
