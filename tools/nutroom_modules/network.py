@@ -64,7 +64,7 @@ class Link:
         return next(((start, clock) for start, clock, end in self.stretches if start <= time <= end), None)
 
     def due(self, phase, clock, rules):
-        """Returns the query that has to be put now, or None. docs/definitions.md has the table."""
+        """Returns the query that has to be put now, or None. docs/decision.md has the table."""
         if not self.is_linked or self.is_outstanding:
             return None
         opening = self.opening()

@@ -6,26 +6,24 @@ ghost use Rattle.nut_dummy.specs.History.{LooksBack};
 
 use crate::limits::{SCRIPT_LINE_MAX, SCRIPT_VARIABLES_MAX, STEPS_MAX, TIMER_MAX};
 
-/// States a law and does nothing when called: after any history of accepted calls, each variable has its newest value.
-/// Values come from its steps that became due, the clients' SETs and the commands, in the order of the calls. The bytes
-/// taken on the link, followed by those that wait, are the lines owed to it; after a cut, the bytes taken are the first
-/// of these lines' bytes.
+/// States a law and does nothing when called: after any history of accepted calls, each variable has the newest of its
+/// values: those of steps that became due, of clients' SETs and of commands. The bytes taken on the link, followed by
+/// those that wait, are the lines owed to it; after a cut, the bytes taken are a beginning of these.
 pub fn looks_back()
     ensures { LooksBack }
 {}
 
-/// States a law and does nothing when called: each line that the driver sends is read as what it says. The line of a
-/// value is heard as that value; the lines that limit a variable as exactly its flags, aux, enum values and ranges; the
-/// end of a dump as all commands, current data and a dump that is done; how a tracked request ended as that, with its
-/// number; and the answer to PING as such.
+/// States a law and does nothing when called: each line that the driver sends is read as what it says. Values, flags,
+/// aux, enum values and ranges are heard exactly. So are commands, current data, the end of a dump, the answer to PING,
+/// and how a tracked request ended, with its number.
 pub fn told_lines_are_heard()
     ensures { ToldLinesAreHeard }
 {}
 
 /// States a law and does nothing when called: after any calls to a driver whose script was read, `DUMPALL` is answered by
-/// its table. First come the lines of each variable that has a value, ascending, with its limits; then `ADDCMD` for each
-/// command, ascending; then `DATAOK` and `DUMPDONE`. In whatever pieces a server gets them, they lead it from an empty
-/// table to the driver's own.
+/// its table. First come the lines of each variable that has a value, then `ADDCMD` for each command, both ascending,
+/// then `DATAOK` and `DUMPDONE`. In whatever pieces a server gets them, they lead it from an empty table to the driver's
+/// own.
 pub fn dump_is_the_table()
     ensures { DumpIsTheTable }
 {}

@@ -224,8 +224,8 @@ pub fn cuts_do_not_matter()
 {}
 
 /// States a law and does nothing when called: if the queries of a MONITOR line can be written, its link keeps at most one
-/// query, of at most [`QUERY_MAX`](nut_link::QUERY_MAX) bytes, and [`LINE_MAX`](nut_words::LINE_MAX) bytes of an
-/// unfinished line.
+/// query, of [`QUERY_MAX`](nut_link::QUERY_MAX) bytes at most, and [`LINE_MAX`](nut_words::LINE_MAX) of an unfinished
+/// line.
 pub fn links_are_bounded()
     ensures { LinksAreBounded }
 {}

@@ -8,9 +8,9 @@ use nut_fleet::{
 };
 
 /// States a law and does nothing when called: whatever schedule a fleet has played, its server and its monitors accepted
-/// every event that it gave them, and each pipe carries a beginning of what was put into it. Each status that a monitor
-/// has was shown by the server. A monitor that began its shutdown had a cause. One that left Forcing waited for more than
-/// HOSTSYNC seconds, or had a last count of at most 1 login on the UPS of each of its primary lines.
+/// every event of it. Each pipe carries a beginning of what was put into it. Each status that a monitor has was shown by
+/// the server. A monitor that began its shutdown had a cause. One that left Forcing waited for more than HOSTSYNC
+/// seconds, or had a last count of at most 1 login on the UPS of each of its primary lines.
 pub fn rooms_hold()
     ensures { RoomsHold }
 {

@@ -86,15 +86,15 @@ pub fn same_steps_same_answers()
     ensures { SameStepsSameAnswers }
 {}
 
-/// States a law and does nothing when called: however the bytes of a connection are cut, and whatever connections take
-/// between the pieces, the steps are those of all the bytes in one piece. So the answers are, too.
+/// States a law and does nothing when called: however a connection's bytes are cut, and whatever connections take between
+/// the pieces, the steps and so the answers are those of all the bytes in one piece.
 pub fn cuts_and_writes_do_not_matter()
     ensures { CutsAndWritesDoNotMatter }
 {}
 
-/// States a law and does nothing when called: however the bytes of a driver are cut, and whatever drivers take between
-/// the pieces, the result is that of all the bytes in one piece. This holds of what is known of each UPS, of the
-/// requests to each driver, and of the answers to each connection.
+/// States a law and does nothing when called: however a driver's bytes are cut, and whatever drivers take between the
+/// pieces, the result is that of one piece. This holds of what is known of each UPS, of the requests to drivers and of
+/// the answers to connections.
 pub fn driver_cuts_and_writes_do_not_matter()
     ensures { DriverCutsAndWritesDoNotMatter }
 {}
@@ -181,8 +181,8 @@ pub fn connections_are_few()
     ensures { ConnectionsAreFew }
 {}
 
-/// States a law and does nothing when called: if the configuration is within the limits that its files have, an answer to
-/// one line has at most 578,146 bytes. That is a bound for a LIST VAR of as many variables as a table holds.
+/// States a law and does nothing when called: if the configuration is within its files' limits, an answer to one line has
+/// at most 578,146 bytes: a bound for a LIST VAR of a full table.
 pub fn answers_are_bounded()
     ensures { AnswersAreBounded }
 {
@@ -194,8 +194,8 @@ pub fn waits_for_one_piece()
     ensures { WaitsForOnePiece }
 {}
 
-/// States a law and does nothing when called: if the configuration is within the limits of its files, at most
-/// 148,005,376 bytes wait for a client. These are the answers to 256 lines of one piece, each of at most 578,146 bytes.
+/// States a law and does nothing when called: if the configuration is within its files' limits, at most 148,005,376 bytes
+/// wait for a client: the answers to 256 lines of one piece.
 pub fn waits_are_bounded()
     ensures { WaitsAreBounded }
 {
@@ -228,9 +228,8 @@ pub fn status_is_the_drivers()
     every_table_holds();
 }
 
-/// States a law and does nothing when called: a reload comes to the same as its parts in turn. First the drivers that it
-/// disconnects go down, one by one; then the connections that it closes are closed, one by one; then comes the reload
-/// itself.
+/// States a law and does nothing when called: a reload comes to the same as its parts in turn. The drivers that it
+/// disconnects go down one by one, then the connections that it closes are closed one by one, and then it comes itself.
 pub fn reload_is_downs_then_closes_then_itself()
     ensures { ReloadIsDownsThenClosesThenItself }
 {}
