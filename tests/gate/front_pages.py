@@ -1,8 +1,10 @@
 #!/usr/bin/env python3
 """Holds the pages that people read first against what they name: README.md, CONTRIBUTING.md, SECURITY.md and CHANGELOG.md. Files,
-modules, targets of make and headings have to exist, the README has to name this toolchain's logic, and the commands of
-CONTRIBUTING.md that take seconds are pasted into a shell. It needs no built program. The last line is 'N passed, M failed'."""
+modules, targets of make and headings have to exist, the README has to name this toolchain's logic and laws that are there, its
+claims have to stand beside their clauses in docs/proved.md, and the commands of CONTRIBUTING.md that take seconds are pasted into
+a shell. It needs no built program. The last line is 'N passed, M failed'."""
 
+import glob
 import os
 import re
 import subprocess
@@ -49,6 +51,21 @@ def targets():
 
 def headings_in(page):
     return set(re.findall(r"^#+ (.*)$", text_of(page), re.MULTILINE))
+
+
+def claims():
+    """Returns the numbered claims of the README's "What is proved", by their numbers."""
+    section = text_of("README.md").partition("\n## What is proved\n")[2].partition("\n## ")[0]
+    return dict(re.findall(r"^(\d)\. (.*)$", section, re.MULTILINE))
+
+
+def clauses_of(name):
+    """Returns the names of the clauses of all functions with this name."""
+    found = set()
+    for path in glob.glob(os.path.join(ROOT, "crates", "*", "src", "**", "*.rt"), recursive=True):
+        for head in re.findall(rf"^[ ]*pub fn {name}\b.*?^[ ]*\{{", text_of(path), re.MULTILINE | re.DOTALL):
+            found |= set(re.findall(r"ensures\*? (\w+) \{", head))
+    return found
 
 
 def is_there(path):
@@ -103,6 +120,40 @@ class Tests:
             raise Missing("rt isn't on the PATH") from None
         (logic,) = re.findall(r"\blogic ([0-9a-f]{16})\b", text_of("README.md"))
         expect(re.findall(r"\blogic ([0-9a-f]{16})\b", version), [logic], "the logic of this toolchain, which README.md names")
+
+    def test_laws(self):
+        """Each law that the README's claims name is one of docs/proved.md, and each clause one of the functions that it names."""
+        laws = set(re.findall(r"^- `(\w+)`: ", text_of("docs/proved.md"), re.MULTILINE))
+        for number, claim in claims().items():
+            named = [it for group in re.findall(r"\bLaws? ((?:`\w+`(?:, | and )?)+)", claim) for it in re.findall(r"`(\w+)`", group)]
+            ensure(named or number in "237", f"claim {number} names no law")
+            expect([it for it in named if it not in laws], [], f"claim {number}: laws that aren't in docs/proved.md")
+            clauses = [it for group in re.findall(r"\bClauses ((?:`\w+`(?:, | and )?)+)", claim) for it in re.findall(r"`(\w+)`", group)]
+            # the functions that it calls by their names, a method by that of its type as well
+            calls = [it.rpartition("::")[2] for it in re.findall(r"`(\w+::\w+|\w+_\w+)`", claim) if it not in named]
+            for call in calls if clauses else ():
+                expect([it for it in clauses if it not in clauses_of(call)], [], f"claim {number}: clauses that {call} doesn't have")
+
+    def test_claims(self):
+        """Each claim of the README stands in docs/proved.md, by words of its own, beside the laws and clauses that it names."""
+        rows = re.findall(r'^\| (\d) "([^"]+)" \| (.*?) \|', text_of("docs/proved.md"), re.MULTILINE)
+        found = claims()
+        expect(sorted({number for number, *_ in rows}), sorted(found), "the claims of docs/proved.md")
+        for number, claim in found.items():
+            beside = " ".join(named for at, _, named in rows if at == number)
+            expect([words for at, words, _ in rows if at == number and words not in claim], [], f"claim {number}: what docs/proved.md quotes")
+            ending = re.search(r"\b(?:Laws?|Clauses) .*", claim)
+            named = re.findall(r"`([\w:]+)`", ending[0]) if ending else []
+            expect([it for it in named if f"`{it}`" not in beside], [], f"claim {number}: what docs/proved.md doesn't name")
+
+    def test_lines_to_believe(self):
+        """The README's numbers of lines to believe are those of docs/believe.md, but for a fiftieth."""
+        said = re.search(r"About ([\d,]+) lines of definitions have to be believed, about ([\d,]+) for a server alone", text_of("README.md"))
+        page = text_of("docs/believe.md")
+        meant = (re.search(r"^In all: [\d,]+ definitions of ([\d,]+) lines", page, re.MULTILINE), re.search(r"^## A server\n\n.*? ([\d,]+) lines", page, re.MULTILINE))
+        for words, found in zip(said.groups(), meant):
+            number, lines = (int(it.replace(",", "")) for it in (words, found[1]))
+            ensure(abs(number - lines) * 50 <= lines, f"README.md says {words} lines, docs/believe.md {lines}")
 
     def test_notices(self):
         """Each library that is linked in has its licence among the notices, but for the toolchain's own."""

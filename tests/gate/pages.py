@@ -18,12 +18,16 @@ import sys
 from tests.gate.believe import LEFT_OUT
 from tests.gate.definitions import Library, crates, files_of, read
 from tests.support.harness import ensure, expect, ROOT, run_tests
+from tests.support.manual import numbers
 
 DOCS = os.path.join(ROOT, "docs")
 PROVED = os.path.join(DOCS, "proved.md")
 # The greatest sizes, in bytes: of all of docs/, and of some pages.
 ALL_DOCS = 200_000
-SIZES = {"DECISIONS.md": 30_000, "believe.md": 26_000, "maintaining.md": 4_000}
+SIZES = {
+    "DECISIONS.md": 30_000, "believe.md": 26_000, "maintaining.md": 4_000, "proved.md": 24_000, "room.md": 12_500, "room-law.md": 6_500,
+    "decision.md": 4_500, "room.svg": 9_000,
+}
 
 # Names of others that pages have, and that stand nowhere in the sources.
 OF_OTHERS = {"SyslogLevel"}
@@ -256,6 +260,21 @@ class Tests:
             paths = glob.glob(os.path.join(ROOT, "crates", "nut_*", folders, "*.edit"))
             found = {re.sub(".*/(.*)/.*/(.*).edit", lambda it: f"{it[1]}: {re.sub('[-_]', ' ', it[2])}", path) for path in paths}
             ensure(is_right(found), f"docs/tests.md and {folders}/ differ: {sorted(found - listed if folders == 'must-fail' else listed - found)}")
+
+    @staticmethod
+    def test_defaults_of_the_monitors_rule():
+        """The numbers in brackets of docs/decision.md are the defaults that upsmon.conf(5) names."""
+        found = set(re.findall(r"\b([A-Z]{5,}) \((\d+)\)", read(os.path.join(DOCS, "decision.md"))))
+        ensure(len(found) >= 5, f"docs/decision.md names few defaults: {found}")
+        defaults = {(word, str(it.default)) for word, it in numbers("upsmon.conf").items()}
+        expect(sorted(found - defaults), [], "docs/decision.md: what isn't a default")
+
+    @staticmethod
+    def test_sums():
+        """What a page adds up is right."""
+        for page, text in pages():
+            for terms, total in re.findall(r"(?<![+-] )\b(\d+(?: [+-] \d+)+) = \**(\d+)", text):
+                expect(sum(map(int, terms.replace("- ", "-").replace("+ ", "").split())), int(total), f"{page}: {terms}")
 
     @staticmethod
     def test_pages_are_small():

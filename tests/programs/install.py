@@ -453,8 +453,8 @@ class Tests:
         with open(os.path.join(ROOT, "README.md")) as file:
             shown = re.search(r"A room to try.*?```sh\n(.*?)```", file.read(), re.DOTALL)[1]
         room = os.path.join(self.folder, "room")
-        os.mkdir(room)
-        os.symlink(self.bin, os.path.join(room, "bin"))
+        os.makedirs(os.path.join(room, "bin"))
+        os.symlink(self.bin, os.path.join(room, "bin", "tried"))
         shutil.copytree(os.path.join(ROOT, "examples"), os.path.join(room, "examples"))
         words = [*apart("--net"), "bash", "-c", f"ip link set lo up || exit 77\n{shown}wait"]
         process = subprocess.Popen(

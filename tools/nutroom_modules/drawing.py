@@ -37,35 +37,36 @@ class Drawing:
         for m in range(len(self.room.machines)):
             bottom = self.machine_lane(m, bottom)
         self.breaks(top, bottom)
-        self.picture.parts += self.texts.parts
+        places = [(label, top - 6 - self.ROW * up) for up, row in enumerate(batteries) for label in row]
+        for label, base in places:
+            self.texts.label(label.left + 4, base, label.text)
+        self.picture.parts += self.texts.labelled()
         end = self.legend(bottom + 44)
         # what is behind the lanes is known once they are drawn
         lanes, self.picture.parts = self.picture.parts, []
-        self.picture.box(0, 0, WIDTH, end)
+        self.picture.box(0, 0, WIDTH, end, **{"class": "bare"})
         self.picture.text(self.left, 26, fitted(self.title, (WIDTH - self.left) / 1.4), font_size=16, font_weight="bold")
-        self.grid(top, bottom, batteries)
+        self.grid(top, bottom, places)
         self.picture.parts += lanes
         return self.picture.whole(end, self.title)
 
     # The axis.
 
     def grid(self, top, bottom, batteries):
+        """Draws what is behind the lanes: the seconds, and when batteries are empty, by their labels and places."""
         ticks = {time: self.axis.x(time) for time in self.axis.ticks()}
         self.picture.lines([(x, top, x, bottom + 5) for x in ticks.values()], **{"class": "grid"})
         for time, x in ticks.items():
             self.picture.text(x, bottom + 19, short_seconds(time), text_anchor="middle")
         self.name("seconds", bottom + 19)
-        for up, row in enumerate(batteries):
-            for label in row:
-                base = top - 6 - self.ROW * up
-                self.picture.line(label.x, base - 9, label.x, bottom, 2, stroke_dasharray="2 3")
-                self.picture.label(label.left + 4, base, label.text)
+        for label, base in batteries:
+            self.picture.line(label.x, base - 9, label.x, bottom, 2, stroke_dasharray="2 3")
 
     def breaks(self, top, bottom):
         """Marks where time was left out."""
         for _, end in self.axis.pieces[:-1]:
             x = self.axis.x(end)
-            self.picture.box(x + 1, top - 4, BREAK - 2, bottom - top + 12)
+            self.picture.box(x + 1, top - 4, BREAK - 2, bottom - top + 12, **{"class": "bare"})
             for at in (x + 8, x + 15):
                 self.picture.line(at - 3, bottom + 10, at + 5, bottom - 6, 1.2)
                 self.picture.line(at - 3, top + 12, at + 5, top - 4, 1.2)
@@ -85,7 +86,7 @@ class Drawing:
             shown.sort(key=lambda it: it[0])
         for at, (time, status) in enumerate(shown):
             x, end = self.axis.x(time), self.axis.x(shown[at + 1][0] if at + 1 < len(shown) else self.end)
-            self.picture.box(x, y, end - x, self.BAR, self.fill_of(status), stroke="#000")
+            self.picture.box(x, y, end - x, self.BAR, self.fill_of(status))
             if end - x > width_of(status) + 14:
                 self.texts.label(x + 8, y + 16, status)
         return y + self.BAR + 12
@@ -103,8 +104,8 @@ class Drawing:
         for up, row in enumerate(rows):
             base = bar - 6 - self.ROW * up
             for label in row:
-                dashes = {"stroke_dasharray": "4 3"} if label.is_bound else {}
-                self.picture.line(label.x, base - 9, label.x, bar + self.BAR * label.is_bound, 1.6 if label.is_bound else Picture.THIN, **dashes)
+                dashes = {"class": "bound"} if label.is_bound else {}
+                self.picture.line(label.x, base - 9, label.x, bar + self.BAR * label.is_bound, **dashes)
                 self.texts.label(label.left + 4, base, label.text)
         self.name(machine.name, bar + 9, font_weight="bold")
         self.name(machine.role, bar + 23, font_size=12)
@@ -146,10 +147,10 @@ class Drawing:
         for (time, phase), (until, _) in zip(times, times[1:]):
             x, end = self.axis.x(time), self.axis.x(until)
             if phase == HALTED:
-                self.picture.box(x - 2, y - 3, 5, self.BAR + 6, "#000")
+                self.picture.box(x - 2, y - 3, 4, self.BAR + 6, "#000")
                 self.texts.label(x + 8, y + 16, f"halted {seconds(time)}")
             else:
-                self.picture.box(x, y, end - x, self.BAR, "#fff" if phase == WATCHING else f"url(#{phase})", stroke="#000")
+                self.picture.box(x, y, end - x, self.BAR, "#fff" if phase == WATCHING else f"url(#{phase})")
 
     def network(self, story, y):
         """Draws a line for as long as a link is up, with a cross where it is cut or lost, and a ring where it is back."""
@@ -175,7 +176,7 @@ class Drawing:
         self.picture.line(x - 4, y + 4, x + 4, y - 4, 2)
 
     def ring(self, x, y):
-        self.picture.put("circle", cx=float(x), cy=float(y), r=4.0, fill="#fff", stroke="#000", stroke_width=1.6)
+        self.picture.put("circle", cx=round(x), cy=round(y), r=4, fill="#fff", stroke="#000", stroke_width=1.6)
 
     def legend(self, y):
         rows = [
@@ -187,7 +188,7 @@ class Drawing:
             self.name(name, y + 13)
             for fill, text in row:
                 width = 5 if fill == "#000" else 26
-                self.picture.box(x, y, width, 17, fill, stroke="#000")
+                self.picture.box(x, y, width, 17, fill)
                 self.picture.text(x + width + 7, y + 13, text)
                 x += width + 7 + width_of(text) + 22
             y += 26
@@ -197,7 +198,7 @@ class Drawing:
             (26, "there", lambda x: self.picture.line(x, y + 9, x + 26, y + 9, 2)),
             (8, "cut or lost", lambda x: self.cross(x + 4, y + 9)),
             (8, "back", lambda x: self.ring(x + 4, y + 9)),
-            (2, "bound of the theorem", lambda x: self.picture.line(x, y, x, y + 17, 1.6, stroke_dasharray="4 3")),
+            (2, "bound of the theorem", lambda x: self.picture.line(x, y, x, y + 17, **{"class": "bound"})),
         ]
         for width, text, draw in samples:
             draw(x)

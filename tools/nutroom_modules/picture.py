@@ -59,6 +59,12 @@ class Axis:
             yield from range(math.ceil(max(begin, 0) / step) * step, math.floor(end) + 1, step)
 
 
+def path_of(x1, y1, x2, y2):
+    """Returns the path of a line."""
+    end = f"V{y2}" if x1 == x2 else f"H{x2}" if y1 == y2 else f"L{x2},{y2}"
+    return f"M{x1},{y1}{end}"
+
+
 def in_tenths(number):
     """Returns a number as a picture has it."""
     return f"{number:.1f}".removesuffix(".0")
@@ -69,7 +75,7 @@ class Picture:
 
     # what most shapes have, so that they needn't say it
     FILL, THIN = "#fff", 0.8
-    STYLE = "text,pattern{fill:#000}rect{stroke-width:1}path{stroke:#000}.grid{stroke:#bbb}"
+    STYLE = "text,pattern{fill:#000}rect{stroke-width:1}rect,path{stroke:#000}.grid{stroke:#bbb}.bare{stroke:none}.bound{stroke-width:1.6;stroke-dasharray:4 3}"
 
     PATTERNS = {
         "battery": '<path d="M-2,2 l4,-4 M0,10 l10,-10 M8,12 l4,-4"/>',
@@ -80,7 +86,7 @@ class Picture:
     }
 
     def __init__(self):
-        self.parts = []
+        self.parts, self.plates = [], []
 
     def put(self, kind, text=None, **attributes):
         words = "".join(f' {name.replace("_", "-")}={xml.sax.saxutils.quoteattr(in_tenths(it) if isinstance(it, float) else str(it))}' for name, it in attributes.items())
@@ -92,24 +98,33 @@ class Picture:
     def lines(self, ends, width=THIN, **more):
         """Draws lines that look the same."""
         thick = {} if width == self.THIN else {"stroke_width": float(width)}
-        self.put("path", d="".join("M{},{}L{},{}".format(*map(in_tenths, map(float, it))) for it in ends), **thick, **more)
+        self.put("path", d="".join(path_of(*map(round, it)) for it in ends), **thick, **more)
 
     def box(self, x, y, width, height, fill=FILL, **more):
         filled = {} if fill == self.FILL else {"fill": fill}
-        self.put("rect", x=float(x), y=float(y), width=float(max(width, 0.0)), height=float(height), **filled, **more)
+        left, right = round(x), round(x + max(width, 0))
+        self.put("rect", x=left, y=round(y), width=right - left, height=round(height), **filled, **more)
 
     def text(self, x, y, text, **more):
-        self.put("text", text, x=float(x), y=float(y), **more)
+        self.put("text", text, x=round(x), y=round(y), **more)
 
     def label(self, x, y, text):
         """Draws a text on a white plate."""
-        self.box(x - 3, y - FONT + 1, width_of(text) + 6, FONT + 4)
+        width = round(width_of(text) + 6)
+        self.plates.append(f"M{round(x - 3)},{round(y) - FONT + 1}h{width}v{FONT + 4}h-{width}z")
         self.text(x, y, text)
+
+    def labelled(self):
+        """Returns its parts behind the plates of its labels."""
+        plates = Picture()
+        if self.plates:
+            plates.put("path", d="".join(self.plates), **{"class": "bare"})
+        return plates.parts + self.parts
 
     def whole(self, height, title):
         patterns = "".join(f'<pattern id="{name}" width="10" height="10" patternUnits="userSpaceOnUse">{shape}</pattern>' for name, shape in self.PATTERNS.items())
         return (f'<svg xmlns="http://www.w3.org/2000/svg" viewBox="0 0 {WIDTH} {height:.0f}" width="{WIDTH}" height="{height:.0f}" '
-                f'font-family="DejaVu Sans, Verdana, Helvetica, Arial, sans-serif" font-size="{FONT}" fill="{self.FILL}" stroke-width="{self.THIN}">\n'
+                f'font-family="Verdana, DejaVu Sans, sans-serif" font-size="{FONT}" fill="{self.FILL}" stroke-width="{self.THIN}">\n'
                 f"<title>{xml.sax.saxutils.escape(title)}</title>\n<style>{self.STYLE}</style>\n<defs>{patterns}</defs>\n" + "\n".join(self.parts) + "\n</svg>\n")
 
 

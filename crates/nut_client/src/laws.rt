@@ -8,8 +8,8 @@ pub fn more_bytes_are_ignored()
 {}
 
 /// States a law and does nothing when called: however much a tool has read of what a server sends, and in whatever
-/// pieces, it ends as if it had read all of it, unless memory could not be allocated, or its connection was lost before
-/// all was read or in the middle of a query.
+/// pieces, it ends as if it had read all of it. There are two exceptions: memory could not be allocated; or the
+/// connection was lost before all was read, or in the middle of a query.
 pub fn all_bytes_decide()
     ensures { AllBytesDecide }
 {}

@@ -29,7 +29,7 @@ pub fn blank_lines_change_nothing()
     ensures { (fault : LineFault) → BlankChangesNothing fault }
 {}
 
-/// States a law and does nothing when called: in a file that reads without a fault, all UPSes have distinct names, and
+/// States a law and does nothing when called: in a file that reads without a fault, all UPSes have different names, and
 /// so have all users.
 pub fn names_are_distinct()
     ensures ups { (file : List ℕ) (lines : List Words) → read_file ups_fault file ≡ Ok lines → HasDistinctNames (sections lines) }
@@ -37,8 +37,8 @@ pub fn names_are_distinct()
 {}
 
 /// States a law and does nothing when called: in a file that reads, each directive is set at most as often as it may be.
-/// There are at most as many endpoints, `instcmds` of a user, targets and descriptions as `limits` says. Targets are
-/// distinct; a type of notice has at most one text and one line of flags, and a name at most one description.
+/// It has at most as many endpoints, `instcmds` of a user, targets and descriptions as `limits` says. Each target stands
+/// once, each type of notice has at most one text and one line of flags, and each name one description.
 pub fn rules_are_kept()
     ensures ups { (file : List ℕ) (lines : List Words) → read_file ups_fault file ≡ Ok lines
         → (d : UpsDirective) → EachKeepsRule (ups_row d).directive (sections lines) }

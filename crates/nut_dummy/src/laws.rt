@@ -6,26 +6,24 @@ ghost use Rattle.nut_dummy.specs.History.{LooksBack};
 
 use crate::limits::{SCRIPT_LINE_MAX, SCRIPT_VARIABLES_MAX, STEPS_MAX, TIMER_MAX};
 
-/// States a law and does nothing when called: after any history of accepted calls, each variable has its newest value.
-/// Values come from steps that became due, clients' SETs and commands, in the order of the calls. The bytes accepted
-/// on the link, followed by those that wait, are the lines owed to it. After a cut, the accepted bytes are the first
-/// of these lines' bytes.
+/// States a law and does nothing when called: after any history of accepted calls, each variable has the newest of its
+/// values: those of steps that became due, of clients' SETs and of commands. The bytes taken on the link, followed by
+/// those that wait, are the lines owed to it; after a cut, the bytes taken are a beginning of these.
 pub fn looks_back()
     ensures { LooksBack }
 {}
 
-/// States a law and does nothing when called: each line that the driver sends is read as what it says. The line of a
-/// value is read as that value. The lines that limit a variable are read as exactly its flags, aux, enum values and
-/// ranges. The end of a dump is read as all commands, current data and a dump that is done. The outcome of a tracked
-/// request is read with its number, and the answer to PING as such.
+/// States a law and does nothing when called: each line that the driver sends is read as what it says. Values, flags,
+/// aux, enum values and ranges are heard exactly. So are commands, current data, the end of a dump, the answer to PING,
+/// and how a tracked request ended, with its number.
 pub fn told_lines_are_heard()
     ensures { ToldLinesAreHeard }
 {}
 
-/// States a law and does nothing when called: after any calls to a driver whose script was read, `DUMPALL` is answered
-/// by the driver's table. There are lines for each variable that has a value, ascending, with its limits, then
-/// `ADDCMD` for each command, ascending, `DATAOK` and `DUMPDONE`. In whatever pieces a server gets them, they lead it
-/// from an empty table to the driver's own.
+/// States a law and does nothing when called: after any calls to a driver whose script was read, `DUMPALL` is answered by
+/// its table. First come the lines of each variable that has a value, then `ADDCMD` for each command, both ascending,
+/// then `DATAOK` and `DUMPDONE`. In whatever pieces a server gets them, they lead it from an empty table to the driver's
+/// own.
 pub fn dump_is_the_table()
     ensures { DumpIsTheTable }
 {}

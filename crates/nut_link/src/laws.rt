@@ -16,8 +16,8 @@ pub fn ok_takes_no_memory()
     ensures { OkTakesNoMemory }
 {}
 
-/// States a law and does nothing when called: a link accepts the server's reply to each request as its answer. It
-/// accepts each row of a list as one more row.
+/// States a law and does nothing when called: the server's reply to each request counts as its answer, and each row of a
+/// list as one more row.
 pub fn replies_match()
     ensures { RepliesMatch }
 {}

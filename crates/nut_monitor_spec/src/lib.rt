@@ -224,9 +224,9 @@ pub fn cuts_do_not_matter()
     ensures { CutsDoNotMatter }
 {}
 
-/// States a law and does nothing when called: links are bounded. If the queries of a MONITOR line can be written, its
-/// link keeps at most one query of [`QUERY_MAX`](nut_link::QUERY_MAX) bytes, and [`LINE_MAX`](nut_words::LINE_MAX) bytes
-/// of an unfinished line.
+/// States a law and does nothing when called: if the queries of a MONITOR line can be written, its link keeps at most one
+/// query, of [`QUERY_MAX`](nut_link::QUERY_MAX) bytes at most, and [`LINE_MAX`](nut_words::LINE_MAX) of an unfinished
+/// line.
 pub fn links_are_bounded()
     ensures { LinksAreBounded }
 {}
@@ -237,8 +237,8 @@ pub fn notices_are_few()
     ensures { NoticesAreFew }
 {}
 
-/// States a law and does nothing when called: the notices handed out, followed by those that wait, are all notices in
-/// their order. Each comes exactly once, and each one handed out was the oldest.
+/// States a law and does nothing when called: the notices handed out, followed by those that wait, are all notices, each
+/// once and in their order. Each one handed out was the oldest.
 pub fn notices_come_in_order()
     ensures { NoticesComeInOrder }
 {}

@@ -7,11 +7,10 @@ use nut_fleet::{
     shutdowns_have_causes, statuses_were_shown,
 };
 
-/// States a law and does nothing when called: whatever schedule a fleet has played, the laws of rooms hold of it. Its
-/// server and its monitors accepted every event that reached them. Each pipe carries a beginning of what was put into
-/// it. The server showed each status that a monitor has. A monitor that began its shutdown had a cause. One that left
-/// Forcing waited for more than HOSTSYNC seconds, or had a last count of at most 1 login on the UPS of each of its
-/// primary lines.
+/// States a law and does nothing when called: whatever schedule a fleet has played, its server and its monitors accepted
+/// every event of it. Each pipe carries a beginning of what was put into it. Each status that a monitor has was shown by
+/// the server. A monitor that began its shutdown had a cause. One that left Forcing waited for more than HOSTSYNC
+/// seconds, or had a last count of at most 1 login on the UPS of each of its primary lines.
 pub fn rooms_hold()
     ensures { RoomsHold }
 {

@@ -2,8 +2,8 @@
 
 ghost use Rattle.nut_poll.specs.Turns.{EachHasItsTurn, LooksGoOn, NobodyIsPassedOver, OthersComeOnce};
 
-/// States laws and does nothing when called: however sources are looked at that wait in a queue, none is passed over.
-/// Between two looks at one, each other that waited was looked at, and a source waits for each other at most once.
+/// States laws and does nothing when called: none of the sources that wait in a queue is passed over. Between two looks
+/// at one, each other that waited was looked at, and one waits for each other at most once.
 pub fn nobody_is_passed_over()
     ensures goes_on { LooksGoOn }
     ensures between { NobodyIsPassedOver }

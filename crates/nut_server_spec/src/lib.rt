@@ -86,22 +86,21 @@ pub fn same_steps_same_answers()
     ensures { SameStepsSameAnswers }
 {}
 
-/// States a law and does nothing when called: cuts and writes don't matter. However the bytes of a connection are
-/// cut, and whatever connections accept in between, the steps are those of all the bytes in one piece. So are the
-/// answers.
+/// States a law and does nothing when called: however a connection's bytes are cut, and whatever connections take between
+/// the pieces, the steps and so the answers are those of all the bytes in one piece.
 pub fn cuts_and_writes_do_not_matter()
     ensures { CutsAndWritesDoNotMatter }
 {}
 
-/// States a law and does nothing when called: cuts and writes don't matter. However the bytes of a driver are cut, and
-/// whatever drivers accept in between, the result is that of all the bytes in one piece. This holds of what is known
-/// of each UPS, of the requests to each driver, and of the answers to each connection.
+/// States a law and does nothing when called: however a driver's bytes are cut, and whatever drivers take between the
+/// pieces, the result is that of one piece. This holds of what is known of each UPS, of the requests to drivers and of
+/// the answers to connections.
 pub fn driver_cuts_and_writes_do_not_matter()
     ensures { DriverCutsAndWritesDoNotMatter }
 {}
 
-/// States a law and does nothing when called: a piece of a connection that has logged out changes only what is kept
-/// of the connection's unfinished line. It gets no answer. It sends no request to a driver.
+/// States a law and does nothing when called: a piece of a connection that has logged out changes only what is kept of
+/// the connection's unfinished line. Clients and drivers are sent nothing for it.
 pub fn logout_is_final()
     ensures { LogoutIsFinal }
 {}
@@ -159,8 +158,8 @@ pub fn other_drivers_stay()
     ensures { OtherDriversStay }
 {}
 
-/// States a law and does nothing when called: a new connection is fresh: its client has said nothing. No
-/// bytes wait for it.
+/// States a law and does nothing when called: a new connection has said nothing so far; the queue of its answers is
+/// empty.
 pub fn opened_is_fresh()
     ensures { OpenedIsFresh }
 {}
@@ -176,14 +175,14 @@ pub fn bounds_hold()
     ensures { BoundsHold }
 {}
 
-/// States a law and does nothing when called: at most as many connections are open as one of the configurations
-/// so far allowed, and at most [`OPENED_MAX`] were opened.
+/// States a law and does nothing when called: at most as many connections are open as one of the configurations so far
+/// allowed, and at most [`OPENED_MAX`] were opened.
 pub fn connections_are_few()
     ensures { ConnectionsAreFew }
 {}
 
-/// States a law and does nothing when called: if the configuration is within the limits that its files have, an answer to
-/// one line has at most 578,146 bytes. That is a bound for a LIST VAR of a full table.
+/// States a law and does nothing when called: if the configuration is within its files' limits, an answer to one line has
+/// at most 578,146 bytes: a bound for a LIST VAR of a full table.
 pub fn answers_are_bounded()
     ensures { AnswersAreBounded }
 {
@@ -195,8 +194,8 @@ pub fn waits_for_one_piece()
     ensures { WaitsForOnePiece }
 {}
 
-/// States a law and does nothing when called: if the configuration is within the limits of its files, at most
-/// 148,005,376 bytes wait for a client. These are the answers to 256 lines of one piece, each of at most 578,146 bytes.
+/// States a law and does nothing when called: if the configuration is within its files' limits, at most 148,005,376 bytes
+/// wait for a client: the answers to 256 lines of one piece.
 pub fn waits_are_bounded()
     ensures { WaitsAreBounded }
 {
@@ -220,16 +219,17 @@ pub fn tracking_looks_back()
     ensures { TrackingLooksBack }
 {}
 
-/// States a law and does nothing when called: a server shows no status of its own. The text of `GET VAR` for
-/// `ups.status` is that of the last SETINFO of the UPS's driver, or `FSD ` and that text.
+/// States a law and does nothing when called: the text of `GET VAR` for `ups.status` is that of the last SETINFO of the
+/// UPS's driver, or `FSD ` and that text. So in this answer only `FSD` is the server's own word. LIST VAR and LIST RW are
+/// outside this law.
 pub fn status_is_the_drivers()
     ensures { StatusIsTheDrivers }
 {
     every_table_holds();
 }
 
-/// States a law and does nothing when called: a reload has the same effect as if the drivers and connections that
-/// it ends had ended before it, one by one.
+/// States a law and does nothing when called: a reload comes to the same as its parts in turn. The drivers that it
+/// disconnects go down one by one, then the connections that it closes are closed one by one, and then it comes itself.
 pub fn reload_is_downs_then_closes_then_itself()
     ensures { ReloadIsDownsThenClosesThenItself }
 {}
@@ -239,8 +239,8 @@ pub fn keeps_its_number()
     ensures { KeepsItsNumber }
 {}
 
-/// States a law and does nothing when called: each UPS has one number. If the names of each configuration's UPSes are
-/// distinct, their numbers are distinct, too.
+/// States a law and does nothing when called: each UPS has one number. If the UPSes of each configuration have different
+/// names, all UPSes have different numbers.
 pub fn numbers_are_distinct()
     ensures { NumbersAreDistinct }
 {}
