@@ -241,7 +241,7 @@ class Tests:
     def stops_early(self, machine):
         """The script of the page stops the machine some time after mains went, also after it failed once. Once mains is back, it doesn't."""
         text = machine.read("/etc/nut/upsmon.conf")
-        machine.write("/etc/nut/early", shown("upssched", 0).replace("5min", "3s"), 0o755)
+        machine.write("/etc/nut/early", shown("Examples", 0).replace("5min", "3s"), 0o755)
         quick = re.sub("^POLLFREQ .*$", "POLLFREQ 1", text, flags=re.MULTILINE)
         machine.write("/etc/nut/upsmon.conf", quick + "NOTIFYCMD /etc/nut/early\nNOTIFYFLAG ONBATT SYSLOG+EXEC\nNOTIFYFLAG ONLINE SYSLOG+EXEC\n")
         machine.do("systemctl restart mulgefa-upsmon")
@@ -303,7 +303,7 @@ class Tests:
         ensure("m1" not in said, f"a password is told: {said}")
         expect(machine.do("systemctl is-active nut-server nut-monitor"), "active\nactive\n", "NUT is running")
 
-        _, said, _ = [machine.do(it) for it in shown_commands("Examples", 0)]
+        _, said, _ = [machine.do(it) for it in shown_commands("Switch", 0)]
 
         ensure("nut-client" in said and "nut-server" in said and "REMOVED" in said, f"apt removes NUT's packages: {said}")
         last = "the UPS su700 has no driver: until 'systemctl enable --now mulgefa-dummy-ups@su700' starts its dummy, nothing stops this machine in a power failure"
@@ -414,7 +414,7 @@ class Tests:
         ensure("\nmulgefa-upsd.service still runs its earlier program: " in said, f"what apt tells: {said}")
 
     def bring_back(self, machine):
-        for command in shown_commands("Examples", 1):
+        for command in shown_commands("Go back", 0):
             machine.do(command)
         self.nut_serves(machine)
 
