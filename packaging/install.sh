@@ -141,7 +141,9 @@ put 644 man/mulgefa-check.8 share/man/man8/mulgefa-check.8
 for page in man/*.5; do
     put 644 "$page" "share/man/man5/${page##*/}"
 done
-put 644 man/from-nut.7 share/man/man7/from-nut.7
+for page in man/*.7; do
+    put 644 "$page" "share/man/man7/${page##*/}"
+done
 put 644 "$BIN/third-party-notices" share/mulgefa/third-party-notices
 put 644 docs/from-nut.md share/mulgefa/from-nut.md
 put 644 docs/room.md share/mulgefa/room.md

@@ -23,7 +23,7 @@ from tests.support.room import free_port, until
 SERVERS = ("upsd", "upsmon")
 DRIVERS = ("dummy-ups",)
 TOOLS = ("upsc", "upsrw", "upscmd")
-PAGES = ("ups.conf.5", "upsd.conf.5", "upsd.users.5", "upsmon.conf.5", "from-nut.7", "mulgefa-check.8", "nutroom.8")
+PAGES = ("ups.conf.5", "upsd.conf.5", "upsd.users.5", "upsmon.conf.5", "from-nut.7", "mulgefa-troubleshooting.7", "mulgefa-check.8", "nutroom.8")
 EXAMPLES = ("ups.conf", "upsd.conf", "upsd.users", "upsmon.conf", "su700.dev")
 ROOMS = ("primary-alone", "primary-waits", "power-failure", "cut-network", "server-restarts")
 ROOM_FILES = ("m1.conf", "m2.conf", "m3.conf", "m4.conf", "m5.conf", "room", "ups.conf", "upsd.conf", "upsd.users")
