@@ -56,6 +56,7 @@ TESTS = (
     ("programs.nutroom", ("nutsim",)),
     ("programs.install", ("upsd", "dummy_ups", "upsc", "upsrw", "upscmd", "upsmon", "nutsim")),
     ("programs.from_nut", ("upsd", "dummy_ups", "upsc", "upsrw", "upscmd", "upsmon")),
+    ("programs.troubleshooting", ("upsd", "dummy_ups", "upsc", "upsrw", "upscmd", "upsmon")),
     ("programs.packages", ("upsd", "dummy_ups", "upsc", "upsrw", "upscmd", "upsmon", "nutsim")),
 )
 

@@ -219,6 +219,57 @@ class Tests:
         finally:
             machine.stop()
 
+    def test_tutorial(self):
+        """Each command of docs/tutorial.md in its order, on a machine that has no UPS software, shows what the page says. The UPS is a
+        file that NUT's dummy-ups plays under the name usbhid-ups."""
+        folder = os.path.join(self.packages.folder, "tutorial")
+        root = fresh_root(folder, self.saved)
+        root.write("/etc/apt/apt.conf.d/90test", 'APT::Get::Assume-Yes "true";\nAPT::Install-Recommends "false";\n', 0o644)
+        status, said = root.run("apt-get update && apt-get download nut-server && apt-get --download-only install nut-server")
+        if status != 0:
+            raise Missing(f"NUT's packages can't be had: {said.splitlines()[-1:]}")
+        package = root.do("echo nut-server_*.deb").strip()
+        root.do(f"dpkg-deb -R {package} nut && cp nut/lib/nut/dummy-ups nut/lib/nut/usbhid-ups && dpkg-deb -Zgzip -b nut {package} && rm -r nut")
+        root.write("/etc/hosts", "127.0.0.1 localhost\n", 0o644)
+        for path in self.packages.made("deb").values():
+            shutil.copy(path, root.path("/root"))
+        machine = Booted(folder)
+        try:
+            self.follow_the_tutorial(machine)
+            machine.start()
+            machine.wait_for("upsc eaton ups.status 2> /dev/null", "OL")
+            expect(machine.do("systemctl is-active nut-driver@eaton mulgefa-upsd mulgefa-upsmon"), "active\n" * 3, "what runs after the last step")
+            expect(machine.run("ls /run/killpower")[0], 2, "whether there is a flag")
+        finally:
+            machine.stop()
+
+    def follow_the_tutorial(self, machine):
+        with open(os.path.join(ROOT, "docs", "tutorial.md")) as file:
+            page = file.read().partition("\n## A UPS with SNMP")[0]
+        for number, step in enumerate(page.split("\n## ")):
+            if number == 3:
+                machine.write("/etc/nut/auto", "battery.charge: 100\nbattery.runtime.low: 120\nups.status: OL\n")
+                machine.do("chgrp nut /etc/nut/auto")
+            elif number == 5:
+                for status, line in (("OB", "UPS eaton@localhost: mains lost"), ("OL", "UPS eaton@localhost on line power")):
+                    machine.do(f"sed -i 's/^ups.status.*/ups.status: {status}/' /etc/nut/auto")
+                    machine.wait_for(f"journalctl -t upsmon -o cat | grep -c '^{line}$'", "2")
+            elif number == 8:
+                machine.do("upsmon --fsd")
+                machine.process.wait(60)
+                machine.stop()
+                return
+            for kind, block in re.findall(r"^```(sh)?\n(.*?)^```", step, re.MULTILINE | re.DOTALL):
+                if kind:
+                    # there is no network, and the package is there
+                    said = machine.do("set -e\n" + block.replace("apt-get download", "echo"))
+                else:
+                    expect([line for line in block.splitlines() if line not in said.splitlines()], [], f"what step {number} doesn't show: {said}")
+            if number == 6:
+                ensure(re.search("It prints `(.*)`", step)[1] in said.splitlines(), f"what step 6 says: {said}")
+            elif number == 7:
+                ensure("\nOL\n" in "\n" + said, f"the status of step 7: {said}")
+
     def restarts(self, machine):
         """A restart with a fault fails, and however often a service is restarted, it runs."""
         for program, name in (("upsd", "upsd.users"), ("upsmon", "upsmon.conf")):
@@ -241,7 +292,7 @@ class Tests:
     def stops_early(self, machine):
         """The script of the page stops the machine some time after mains went, also after it failed once. Once mains is back, it doesn't."""
         text = machine.read("/etc/nut/upsmon.conf")
-        machine.write("/etc/nut/early", shown("upssched", 0).replace("5min", "3s"), 0o755)
+        machine.write("/etc/nut/early", shown("Examples", 0).replace("5min", "3s"), 0o755)
         quick = re.sub("^POLLFREQ .*$", "POLLFREQ 1", text, flags=re.MULTILINE)
         machine.write("/etc/nut/upsmon.conf", quick + "NOTIFYCMD /etc/nut/early\nNOTIFYFLAG ONBATT SYSLOG+EXEC\nNOTIFYFLAG ONLINE SYSLOG+EXEC\n")
         machine.do("systemctl restart mulgefa-upsmon")
@@ -303,7 +354,7 @@ class Tests:
         ensure("m1" not in said, f"a password is told: {said}")
         expect(machine.do("systemctl is-active nut-server nut-monitor"), "active\nactive\n", "NUT is running")
 
-        _, said, _ = [machine.do(it) for it in shown_commands("Examples", 0)]
+        _, said, _ = [machine.do(it) for it in shown_commands("Switch", 0)]
 
         ensure("nut-client" in said and "nut-server" in said and "REMOVED" in said, f"apt removes NUT's packages: {said}")
         last = "the UPS su700 has no driver: until 'systemctl enable --now mulgefa-dummy-ups@su700' starts its dummy, nothing stops this machine in a power failure"
@@ -414,7 +465,7 @@ class Tests:
         ensure("\nmulgefa-upsd.service still runs its earlier program: " in said, f"what apt tells: {said}")
 
     def bring_back(self, machine):
-        for command in shown_commands("Examples", 1):
+        for command in shown_commands("Go back", 0):
             machine.do(command)
         self.nut_serves(machine)
 

@@ -4,7 +4,7 @@
     python3 -m tests.programs.from_nut [--write] [PROGRAM..]
 
 The text is written only in docs/from-nut.md: with --write the page is made from it. Programs that are given are tested for
-whether they take what it says. The last line is 'N passed, M failed'."""
+whether they support what it says. The last line is 'N passed, M failed'."""
 
 import gzip
 import os
@@ -19,7 +19,7 @@ from tests.support.harness import ensure, expect, Missing, ROOT, run_tests
 SOURCE = os.path.join(ROOT, "docs", "from-nut.md")
 PAGE = os.path.join(ROOT, "man", "from-nut.7")
 NUTS = "/usr/share/man"
-HEADER = '.\\" made by tests/programs/from_nut.py --write out of docs/from-nut.md\n.TH FROM-NUT 7 2026-11-23 Mulgefa "Network UPS Tools"\n'
+HEADER = '.\\" made by tests/programs/from_nut.py --write out of docs/from-nut.md\n.TH FROM-NUT 7 2026-11-30 Mulgefa "Network UPS Tools"\n'
 
 # The sections of the document, and NUT's pages whose directives and options they have to name.
 SECTIONS = {
@@ -70,6 +70,11 @@ def rows(lines):
     return [cells(it) for it in lines[2:]]
 
 
+def names_of(cell):
+    """Returns what the first cell of a row names: a word or several, each as code, or a text."""
+    return cell.split(", ") if re.fullmatch("`[^`]+`(, `[^`]+`)*", cell) else [cell]
+
+
 # From here on, the page.
 
 
@@ -92,12 +97,13 @@ def page_of(kind, lines):
     if kind == "heading":
         level, title = lines[0].split(" ", 1)
         if level == "##":
-            yield f'.SH "{escaped(title.upper() if title[0].isupper() else title)}"'
+            yield f".SH {escaped(title.upper() if title[0].isupper() else title)}"
     elif kind == "code":
         yield from (".PP", ".EX", *map(escaped, lines), ".EE")
     elif kind == "table":
         for name, text in rows(lines):
-            yield from (".TP", plain(name), *sentences(text))
+            is_bold = re.fullmatch('`[^`"]+`', name)
+            yield from (".TP", ".B " + escaped(name.strip("`")) if is_bold else plain(name), *sentences(text))
     elif kind == "list":
         for line in lines:
             yield from (".IP \\(bu 3", *sentences(line[2:]))
@@ -158,7 +164,7 @@ class Tests:
             return ""
         return done.stderr.decode()
 
-    def test_options_are_taken_as_told(self):
+    def test_options_are_supported_as_said(self):
         for program, found in self.sections().items():
             if program not in SECTIONS or "." in program:
                 continue
@@ -168,7 +174,7 @@ class Tests:
                     is_refused = "unexpected argument" in said or "isn't an option here" in said
                     expect(is_refused, text.startswith("refused"), f"{program} refuses {name}: {said}")
 
-    def test_directives_are_taken_as_told(self):
+    def test_directives_are_supported_as_said(self):
         for section, found in self.sections().items():
             if section not in LINES:
                 continue
@@ -182,20 +188,20 @@ class Tests:
                             opened.write(LINES[file].format(word) if file == section else "")
                     program = "upsmon" if section == "upsmon.conf" else "upsd"
                     said = self.said(self.program(program), "--check", "--conf", folder)
-                    expect("UnknownDirective" in said, text.startswith("not taken"), f"{section}: {name}: {said}")
+                    expect("UnknownDirective" in said, text.startswith("not supported"), f"{section}: {name}: {said}")
                     # a type of notice begins no line of NUT's, so it isn't shown: it could be a password
                     meant = f"a directive of {section} is meant" if word == "NOPARENT" else f"{word} isn't taken here: see from-nut(7)"
                     hint = f"\n{program}: {meant}\n"
-                    expect(said.endswith(hint), text.startswith("not taken"), f"{section}: {name}: {said}")
+                    expect(said.endswith(hint), text.startswith("not supported"), f"{section}: {name}: {said}")
 
     def sections(self):
-        """Returns the words that each section has as code in its tables, and its rows."""
+        """Returns the rows of each section's tables, one for each name of a first cell."""
         section, found = None, {}
         for kind, lines in blocks(text_of(SOURCE)):
             if kind == "heading":
                 section = lines[0].lstrip("# ")
             elif kind == "table":
-                found.setdefault(section, []).extend(rows(lines))
+                found.setdefault(section, []).extend([name, *texts] for cell, *texts in rows(lines) for name in names_of(cell))
         return found
 
     def test_every_directive_and_option_of_nut(self):
@@ -223,8 +229,8 @@ class Tests:
             for row in found:
                 expect(len(row), 2, f"the cells of {row}")
 
-    def test_taken_directives_are_those_of_the_readers(self):
-        """What is called taken here is in the file's manual page, or for cmdvartab in docs/programs.md, and what isn't is not.
+    def test_supported_directives_are_those_of_the_readers(self):
+        """What is called supported here is in the file's manual page, or for cmdvartab in docs/programs.md, and what isn't is not.
         The page says of a directive if NUT has none of that name."""
         for section, found in self.sections().items():
             if section not in LINES:
@@ -234,8 +240,8 @@ class Tests:
                 ours = re.findall(r"^\| `([A-Za-z]+)", table, re.MULTILINE)
             else:
                 ours = [word for word, text in manual.directives(section).items() if "NUT has no such directive." not in text]
-            taken = {row[0].strip("`") for row in found if row[1].startswith("taken")}
-            expect(sorted(taken), sorted(ours), f"what {section} takes")
+            supported = {row[0].strip("`") for row in found if row[1].startswith("supported")}
+            expect(sorted(supported), sorted(ours), f"what {section} supports")
 
     def test_page_is_made_of_the_document(self):
         expect(text_of(PAGE) == made_page(text_of(SOURCE)), True, "man/from-nut.7 is what 'tests/programs/from_nut.py --write' makes")

@@ -23,7 +23,10 @@ from tests.support.room import free_port, until
 SERVERS = ("upsd", "upsmon")
 DRIVERS = ("dummy-ups",)
 TOOLS = ("upsc", "upsrw", "upscmd")
-PAGES = ("ups.conf.5", "upsd.conf.5", "upsd.users.5", "upsmon.conf.5", "from-nut.7", "mulgefa.7", "mulgefa-check.8", "nutroom.8")
+PAGES = (
+    "ups.conf.5", "upsd.conf.5", "upsd.users.5", "upsmon.conf.5", "from-nut.7", "mulgefa.7", "mulgefa-troubleshooting.7", "mulgefa-check.8",
+    "nutroom.8",
+)
 EXAMPLES = ("ups.conf", "upsd.conf", "upsd.users", "upsmon.conf", "su700.dev")
 ROOMS = ("primary-alone", "primary-waits", "power-failure", "cut-network", "server-restarts")
 ROOM_FILES = ("m1.conf", "m2.conf", "m3.conf", "m4.conf", "m5.conf", "room", "ups.conf", "upsd.conf", "upsd.users")
@@ -638,7 +641,7 @@ class Tests:
             expect((status, file.read()), (0, "MINSUPPLIES 0\n\n\nNOTIFYFLAG ONBATT EXEC\n\n\n"), f"what it wrote: {said}")
         ensure("NOTIFYFLAG NOTOFF SYSLOG\n    take it out: no notice of NUT 2.8.0 has this type\n" in said, f"what it tells: {said}")
         ensure("OFFDURATION ..\n    take it out: NUT 2.8.0 has no such directive either\n" in said, f"what it tells: {said}")
-        ensure("NOTIFYFLAG NOPARENT SYSLOG+WALL\n    take it out: not taken: " in said, f"what it tells: {said}")
+        ensure("NOTIFYFLAG NOPARENT SYSLOG+WALL\n    take it out: this notice is about a process that upsmon lacks here\n" in said, f"what it tells: {said}")
 
     def test_check_tells_every_line(self):
         folder = self.nuts_files(
@@ -668,10 +671,10 @@ class Tests:
             "upsd.conf:1: Unreadable: # ..",
             "    each byte of the comment that isn't printing ASCII becomes a question mark",
             "upsd.conf:3: UnknownDirective: STATEPATH /run/nut",
-            "    take it out: not taken: the option -s names the folder of the sockets, and the unit has it",
+            "    take it out: the option -s names the directory of the sockets",
             GOES.format("usbhid-ups"),
             "upsmon.conf:1: UnknownDirective: RUN_AS_USER nut",
-            "    take it out: not taken: there is one process, which the unit runs as root",
+            "    take it out: there is one process, which the unit runs as root",
             "upsmon.conf:2: BadName: MONITOR apc 1 .. master",
             "    change it to: MONITOR apc@localhost 1 .. primary",
             "upsmon.conf:3: UnknownWord: MONITOR apc@rack 0 .. slave",

@@ -359,7 +359,7 @@ class Tests:
         told = {
             "mulgefa-client": [
                 "/etc/nut/upsmon.conf:2: UnknownDirective: RUN_AS_USER nut",
-                "    take it out: not taken: there is one process, which the unit runs as root",
+                "    take it out: there is one process, which the unit runs as root",
                 "mulgefa-upsmon.service can't start until this is changed; if it is enabled, systemd tries it every 5 seconds",
             ],
             "mulgefa-server": [
