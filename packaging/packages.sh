@@ -107,6 +107,11 @@ filled() {
         -e "s|@DATE@|$(date -u -R -d "@$SOURCE_DATE_EPOCH")|g" "packaging/deb/$1" > "$2"
 }
 
+# built FILE: mulgefa-check says which package or archive it is of.
+built() {
+    sed -i "s/^build=\$/build=$version/" "$1"
+}
+
 # make_deb PART PROGRAM..
 make_deb() {
     package=mulgefa-$1
@@ -114,6 +119,9 @@ make_deb() {
     . "packaging/deb/$package.names"
     shift
     PREFIX=/usr DESTDIR=$tree BIN=$work/programs PART=${package#mulgefa-} CONFDIR=/etc/nut sh packaging/install.sh install "$@"
+    if [ -e "$tree/usr/sbin/mulgefa-check" ]; then
+        built "$tree/usr/sbin/mulgefa-check"
+    fi
     # Debian 12 has units here, and NUT's names for what stands in place of NUT's units.
     install -d "$tree/lib/systemd"
     mv "$tree/usr/lib/systemd/system" "$tree/lib/systemd/system"
@@ -161,6 +169,7 @@ make_tar() {
         mulgefa-upsd.service mulgefa-upsmon.service mulgefa-dummy-ups@.service; do
         install -m 644 "packaging/$file" "$tree/packaging/$file"
     done
+    built "$tree/packaging/mulgefa-check"
     (cd "$tree/packaging" && chmod 755 install.sh mulgefa-check mulgefa-nut-drivers until-ready)
     cp -R man examples CHANGELOG.md SECURITY.md "$tree/"
     install -m 644 packaging/archive.md "$tree/README.md"

@@ -119,11 +119,11 @@ class Tests:
             target = self.begin(room, b"ups.status: OL\n")
             numlogins = b"GET NUMLOGINS su700\n"
             with self.watch(target, ("mon", "wrong", "primary"), QUICK) as stranger:
-                refused = (1, "", f"upsmon: {target}: FSD failed: LOGIN refused: ACCESS-DENIED\nupsmon: this machine goes on: {target} still supplies 1\n")
+                refused = (1, "", f"upsmon: UPS {target}: FSD failed: FSD refused: ACCESS-DENIED\nupsmon: this machine keeps running: {target} still supplies 1\n")
                 expect(self.force(stranger.folder), refused, "a wrong password")
             with self.watch(target, ("mon", "m1", "primary"), QUICK + HALTS) as watch:
                 room.until(numlogins, b"NUMLOGINS su700 1\n")
-                expect(self.force(watch.folder), (0, f"{target}: FSD set\n", ""), "the shutdown is forced")
+                expect(self.force(watch.folder), (0, f"UPS {target}: FSD set\n", ""), "the shutdown is forced")
                 expect(watch.status(20), 0, "status of the monitor that runs")
                 expect(watch.lines(), [FORCED % target, SHUTDOWN], "what it prints")
                 expect((watch.read("flag"), watch.read("halted")), (FLAG, b""), "the halt")
@@ -161,14 +161,14 @@ class Tests:
         """NUT's server is started again on battery, and its driver hangs: what upsmon tells, and that DEADTIME stops nothing."""
         with self.room() as room:
             target = self.begin(room, b"ups.status: OB\n")
-            waits = "the server waits for its driver (WAIT): no shutdown begins by DEADTIME until it has heard it"
+            waits = "server reports WAIT: DEADTIME can't start a shutdown until it hears its driver"
             with self.watch(target, ("mon", "m1", "primary"), f"{QUICK}DEADTIME 4\n{HALTS}") as watch:
                 watch.until_printed(ON_BATTERY % target)
                 with stopped(room.driver_process):
                     room.server_process.kill()
                     room.server_process.wait()
                     self.begin_server(room)
-                    told = f"upsmon: warning: UPS {target}: {waits}"
+                    told = f"upsmon: UPS {target}: {waits}"
                     until(lambda: told in watch.lines("err"), "the warning", 20)
                     # NUT's server refuses the status from the fifteenth second on; there were losses before, of the one that was killed
                     # and perhaps of one that is slow

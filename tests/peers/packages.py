@@ -382,7 +382,7 @@ class Tests:
     def nothing_was_lost_at_the_boot(self, machine):
         """Each program has found the one that it asks at once."""
         said = machine.do("journalctl --boot --output cat --unit mulgefa-upsd --unit mulgefa-upsmon")
-        for words in ("no driver yet", "no server yet", "lost", "refused"):
+        for words in ("no driver yet", "cannot connect to the server", "lost", "refused"):
             ensure(words not in said, f"{words!r} at a boot: {said}")
 
     def journal_names_the_programs(self, machine):

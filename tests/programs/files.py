@@ -495,7 +495,7 @@ class Tests:
 
     def is_read(self, own, name, status, err, what):
         """Ensures that no fault was found. The servers that upsmon.conf names aren't there, and upsmon says so."""
-        is_warned = b"upsmon: warning: UPS " in err
+        is_warned = b"upsmon: UPS " in err
         ensure(status == int(is_warned) and f"{own}: {name}:".encode() not in err, f"{what}: found {status}, {err!r}")
 
     def compare(self, name, program, **others):

@@ -152,7 +152,7 @@ class Tests:
             target = server.target
             with self.watch(f"MONITOR {target} 1 mon m1 secondary\n{QUICK}{HALTS}", **journal.streams()) as watch:
                 journal.next(f"<6>UPS {target}: watched as secondary, power value 1")
-                journal.next("<6>stops within ")
+                journal.next("<6>this machine shuts down within ")
                 journal.next(f"<6>UPS {target}: server connected")
                 with watch.open("upsmon.conf") as file:
                     file.write(b"POLLFREQ x\n")
@@ -176,12 +176,12 @@ class Tests:
             target = server.target
             conf = f"MONITOR {target} 1 mon m1 secondary\nPOLLFREQ 1\n"
             with self.watch(conf, **journal.streams()):
-                journal.next("<4>warning: no SHUTDOWNCMD is set")
+                journal.next("<4>SHUTDOWNCMD is not set")
                 journal.next(f"<6>UPS {target}: server connected")
                 server.close()
                 journal.next(f"<4>UPS {target}: server lost")
                 journal.next(f"<5>{LOST % target}")
-                journal.next(f"<4>UPS {target}: no server yet: ")
+                journal.next(f"<4>UPS {target}: cannot connect to the server: ")
 
     def test_faults_of_a_halt(self):
         with Journal() as journal, Upstream(status=b"OB LB") as server:
@@ -223,7 +223,7 @@ class Tests:
                     until(lambda: server.asked.count(STATUS) >= seen + 2, "the status is asked for")
                 expect(pipe.read(), b"", "nothing is printed where there is no room")
                 server.statuses[b"su700"] = b"OB"
-                told = f"<4>lines let go: 2\n<5>{ON_BATTERY % server.target}\n".encode()
+                told = f"<4>2 log lines dropped (output blocked)\n<5>{ON_BATTERY % server.target}\n".encode()
                 until(lambda: told == pipe.read() or watch.process.poll(), "what was let go is told")
 
     def test_elsewhere(self):
@@ -248,7 +248,7 @@ class Tests:
             told.next(f"upsd: listening on 127.0.0.1:{room.port}")
             with self.watch(f"MONITOR su700@127.0.0.1:{room.port} 1 mon m1 secondary\nPOLLFREQ 1\n", env=env) as watch:
                 notice = f"UPS su700@127.0.0.1:{room.port} is on battery"
-                warning = "upsmon: warning: no SHUTDOWNCMD is set: nothing will stop this machine"
+                warning = "upsmon: SHUTDOWNCMD is not set: nothing will shut down this machine"
                 until(lambda: warning in watch.lines("err"), "upsmon warns")
                 watched = f"upsmon: UPS su700@127.0.0.1:{room.port}: watched as secondary, power value 1"
                 until(lambda: watched in watch.lines("err"), "what upsmon watches")

@@ -184,6 +184,10 @@ class Tests:
         _, version = run(["dpkg-deb", "--field", self.all_debs()["mulgefa-client"], "Version"])
         ensure(f"mulgefa-client (= {version.strip()})" in depends, f"the server wants this client: {depends}")
         ensure(re.fullmatch(re.escape(VERSION) + r"\+\d{8}\.\d{6}\n", version), f"the version of the programs, and the time of the commit: {version}")
+        with subprocess.Popen(["dpkg-deb", "--fsys-tarfile", self.all_debs()["mulgefa-client"]], stdout=subprocess.PIPE) as process:
+            with tarfile.open(fileobj=process.stdout, mode="r|") as tar:
+                check = next(tar.extractfile(it).read().decode() for it in tar if it.name == "./usr/sbin/mulgefa-check")
+        ensure(f"\nbuild={version}" in check, "mulgefa-check of the package says its version")
 
     def test_libraries_that_cannot_be_told(self):
         """If it can't be told what the programs need, no package is made, and what went wrong is shown."""
@@ -240,6 +244,16 @@ class Tests:
         script = os.path.join(folder, top, "packaging/install.sh")
         env = {**os.environ, "DESTDIR": found, "PREFIX": "/opt/mulgefa"}
         expect(run([script, "install"], env=env, cwd="/"), (0, ""), "its script")
+        build = re.fullmatch(r"mulgefa-(.*\d)-[^-]+", top)[1]
+        for place, said in ((wanted, "of a clone, where 'git log -1' shows the commit"), (found, build)):
+            check = os.path.join(place, "opt/mulgefa/sbin/mulgefa-check")
+            expect(run([check, "--version"]), (0, f"mulgefa-check (Mulgefa) {said}\n"), "the build")
+            # but for that line it is the same
+            with open(check, "r+") as file:
+                text = re.sub("^build=.*$", "build=", file.read(), count=1, flags=re.MULTILINE)
+                file.seek(0)
+                file.write(text)
+                file.truncate()
         shown = [{path: (it[0], it[3]) for path, it in state_of(folder).items() if not path.endswith("/")} for folder in (wanted, found)]
         for states in shown:
             for path in list(states):

@@ -18,7 +18,7 @@ import threading
 import time
 from concurrent import futures
 
-from tests.support.harness import NUTS_OPTIONS, VERSION_SHOWN, Failed, build_shim, ensure, expect, refusals, run_tests
+from tests.support.harness import NUTS_OPTIONS, VERSION_SHOWN, Failed, build_shim, built_without_proof, ensure, expect, refusals, run_tests
 from tests.support.model import LINE_MAX
 from tests.support.room import free_port
 
@@ -94,6 +94,11 @@ USAGES = {
     "upsrw": b"Usage: upsrw NAME\n       upsrw [-w] -s VAR=VALUE -u USER -p PASS NAME\n",
     "upscmd": b"Usage: upscmd -l NAME\n       upscmd [-w] -u USER -p PASS NAME CMD [PARAM]\n",
 }
+# what stands below the line of a name that isn't valid, and of words that don't combine
+NAME_FORM = "expected UPS[@HOST[:PORT]], HOST a name or an IPv4 address (an IPv6 address needs a name in /etc/hosts)"
+JSON_OF_A_LIST = "-j does not combine with -l, -L or -c"
+# how much stack a tool asks for, in KiB
+STACK = 256
 ADMIN = ["-u", "admin", "-p", "pw"]
 LOGIN = [b"USERNAME admin", b"PASSWORD pw"]
 TRACKED = [*LOGIN, b"SET TRACKING ON"]
@@ -162,6 +167,11 @@ BAD = [
     ("upsc", ["a@"], None, b"bad UPS name", 1),
     ("upsc", ["a b@AT"], None, b"bad UPS name", 1),
     ("upsc", ["-l", "127.0.0.1:0"], None, b"bad UPS name", 1),
+    ("upsc", ["su700@[::1]"], None, b"bad UPS name", 1),
+    ("upsc", ["-l", "::1"], None, b"bad UPS name", 1),
+    ("upsrw", ["su700@::1"], None, b"bad UPS name", 1),
+    ("upsrw", ["-s", "ups.id=y", *ADMIN, "su700@[::1]:3493"], None, b"bad UPS name", 1),
+    ("upscmd", [*ADMIN, "su700@fe80::1", "load.off"], None, b"bad UPS name", 1),
     ("upsc", [], None, b"bad arguments", 2),
     ("upsc", ["-l", "-L"], None, b"bad arguments", 2),
     ("upsc", ["-j"], None, b"bad arguments", 2),
@@ -379,8 +389,11 @@ class Tests:
         self.server.whole()
         for tool, arguments, queries, text, status in BAD:
             what = f"{tool} {' '.join(arguments)}"
-            usage = USAGES[tool] if status == 2 else b""
-            expect(self.run(tool, arguments), (status, b"", b"Error: " + text + b"\n" + usage), what)
+            more = f"{tool}: {NAME_FORM}\n" if text == b"bad UPS name" else ""
+            if status == 2:
+                is_list = "-j" in arguments[0:1] and "-c" in arguments or "-jl" in arguments
+                more = (f"{tool}: {JSON_OF_A_LIST}\n" if is_list else "") + USAGES[tool].decode()
+            expect(self.run(tool, arguments), (status, b"", b"Error: " + text + b"\n" + more.encode()), what)
             if queries is not None:
                 expect(self.heard(), queries, f"the queries of {what}")
 
@@ -477,9 +490,9 @@ class Tests:
 
     def test_passwords_that_are_missing(self):
         self.server.whole()
-        missing = (1, b"", b"Error: no password on standard input\n")
         for tool, words in (("upsrw", ["-s", "ups.id=y"]), ("upscmd", [])):
             arguments = [*words, "-u", "admin", "-p", "-", "su700@AT", *(["load.off"] if tool == "upscmd" else [])]
+            missing = (1, b"", f"{tool}: no password on standard input\n".encode())
             for text in (b"", b"\n", b"\npw\n", b"\xff\n"):
                 expect(self.run(tool, arguments, input=text), missing, f"{tool} with {text!r}")
             expect(self.run(tool, arguments, preexec_fn=lambda: os.close(0)), missing, f"{tool} without standard input")
@@ -505,6 +518,20 @@ class Tests:
             expect(self.run(tool, ["--version"]), (0, f"{tool} {VERSION_SHOWN}\n".encode(), b""), f"{tool} --version")
             status, output, text = self.run(tool, ["--help"])
             expect((status, tool.encode() in output, text), (0, True, b""), f"{tool} --help")
+
+    def test_stack_that_is_too_small(self):
+        """A tool says how much it needs. With that much it serves, also the longest list that this server has."""
+        self.server.whole()
+
+        def limit(kibibytes):
+            return lambda: resource.setrlimit(resource.RLIMIT_STACK, (kibibytes * 1024, kibibytes * 1024))
+
+        for tool, arguments, _, output in GOOD:
+            low = f"{tool}: the stack is limited to {STACK - 1} KiB; {STACK} are needed\n".encode()
+            expect(self.run(tool, arguments, preexec_fn=limit(STACK - 1)), (1, b"", low), f"{tool} with too little")
+            # a build without proof takes more
+            if not built_without_proof():
+                expect(self.run(tool, arguments, preexec_fn=limit(STACK)), (0, output, b""), f"{tool} {' '.join(arguments)} with enough")
 
     def test_refused_memory(self):
         shim = build_shim(self.folder)

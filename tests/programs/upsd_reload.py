@@ -469,7 +469,7 @@ class Tests(Shimmed):
             lines = room.serve()
             os.chmod(room.path("upsd.users"), 0o644)
             room.reload(None, NOTHING)
-            expect(lines.count("upsd: warning: upsd.users holds passwords"), 1, "warnings")
+            expect(lines.count("upsd: upsd.users holds passwords"), 1, "warnings")
 
     def test_quiet(self):
         with self.room() as room:

@@ -368,7 +368,7 @@ class Tests:
             status, out, err = self.run(self.programs[0], "--conf", room.folder, "-s", room.folder)
             warning, fault, *_ = err.decode().splitlines()
             expect((status, out), (1, b""), "a port in use")
-            expect(warning.startswith("upsd: warning: upsd.users holds passwords"), True, f"it comes first: {warning}")
+            expect(warning.startswith("upsd: upsd.users holds passwords"), True, f"it comes first: {warning}")
             expect(fault.startswith(f"upsd: cannot listen on 127.0.0.1:{room.port}"), True, f"it comes then: {fault}")
 
     def test_port_in_use_beside_a_listener(self):

@@ -367,7 +367,7 @@ class Tests(Shimmed):
         expect(self.run(["--check"], env={"NUT_CONFPATH": "/nowhere"}), cannot, "a folder that isn't there")
         expect(self.run(["--check"], env={"NUT_CONFPATH": ""}), self.run(["--check", "--conf", "/etc/nut"]), "an empty NUT_CONFPATH")
         os.chmod(os.path.join(folder, "upsd.users"), 0o604)
-        warning = b"upsd: warning: upsd.users holds passwords, and everybody can read it (mode 604)\n"
+        warning = b"upsd: upsd.users holds passwords, and everybody can read it (mode 604)\n"
         expect(self.run(["--check", *args]), (0, b"", warning), "a file that everybody can read")
         for words in (["--check", "--stdio"], ["--check", "-s", folder], ["--check", *args, "--ups", "a=b"], ["--check", "more"]):
             status, out, err = self.run(words)

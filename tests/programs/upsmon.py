@@ -266,13 +266,13 @@ class Tests(Shimmed):
                 self.expect_halt(watch, [ON_BATTERY % server.target, LOST % server.target, SHUTDOWN])
 
     def test_hostile_servers(self):
-        for kind, lines in ((Closing, [LOST]), (Rubbish, [LOST]), (Endless, []), (Silent, [])):
+        for kind, lines in ((Closing, [LOST]), (Rubbish, [LOST]), (Endless, [LOST]), (Silent, [])):
             with kind() as hostile, Upstream() as server:
                 conf = f"MINSUPPLIES 1\nMONITOR {hostile.target} 0 mon m1 secondary\nMONITOR {server.target} 1 mon m1 secondary\n"
                 with self.watch(conf + QUICK) as watch:
                     until(lambda: server.asked.count(STATUS) >= 3, f"{kind.__name__}: the other goes on")
                     expect(watch.lines(), [], f"{kind.__name__}: what is told of a UPS without a status in the first seconds")
-                    expect(kind is Endless or watch.is_idle(), True, f"{kind.__name__}: processor time")
+                    expect(watch.is_idle(), True, f"{kind.__name__}: processor time")
                     server.statuses[b"su700"] = b"OB LB"
                     expect(watch.status(), 0, f"{kind.__name__}: status")
                     told = [ON_BATTERY % server.target, BATTERY_LOW % server.target, *(line % hostile.target for line in lines), SHUTDOWN]
@@ -361,7 +361,7 @@ class Tests(Shimmed):
         low, forced = "UPS %s is on battery, and its battery is low", "UPS %s has a forced shutdown"
         for status, logins, wanted in (
             (b"OB LB", 1, [low]),
-            (b"OB LB", 3, [low, "other clients that are still logged in to UPS %s: 2"]),
+            (b"OB LB", 3, [low, "no longer waiting for 2 clients logged in to UPS %s"]),
             (b"FSD OB", 1, [forced]),
         ):
             with Upstream(status=status) as server:
@@ -378,7 +378,7 @@ class Tests(Shimmed):
                 conf = f"MONITOR {server.target} 1 mon m1 primary\n{times}SHUTDOWNCMD true\n"
                 with self.watch(conf, "-q", stderr=subprocess.STDOUT) as watch:
                     expect(watch.status(), 0, "status")
-                    found = [line for line in watch.lines() if not line.startswith(f"{OF_SHUTDOWN}other")]
+                    found = [line for line in watch.lines() if not line.startswith(f"{OF_SHUTDOWN}no longer")]
                     low = f"{OF_SHUTDOWN}UPS {server.target} is on battery, and its battery is low"
                     expect(found, [ON_BATTERY % server.target, BATTERY_LOW % server.target, low, SHUTDOWN], "the lines in turn")
 
@@ -397,7 +397,7 @@ class Tests(Shimmed):
             conf = f"MONITOR {server.target} 1 mon m1 primary\n{QUICK}NOTIFYFLAG ONBATT SYSLOG+EXEC\nNOTIFYCMD true\n"
             with self.watch(conf, "-q", env=self.refusing_starts(self.folder)) as watch:
                 self.expect_halt(watch, [it % server.target for it in (ON_BATTERY, BATTERY_LOW)] + [SHUTDOWN])
-                said = [line for line in watch.told() if "warning" not in line]
+                said = [line for line in watch.told() if "SHUTDOWNCMD is not set" not in line]
                 expect(len(said), 1, "what is said of it")
                 expect(said[0].startswith("upsmon: NOTIFYCMD cannot be started: "), True, said[0])
 
@@ -407,7 +407,7 @@ class Tests(Shimmed):
             # 32 lines, each of which has a notice every other second
             lines = "".join(f"MONITOR u{i}@127.0.0.1:{dead.port} 0 mon m1 secondary\n" for i in range(32))
             with self.watch(conf + lines, "-q") as watch:
-                said = "upsmon: NOTIFYCMD is not run: 64 of it are running"
+                said = "upsmon: NOTIFYCMD skipped: 64 still running"
                 until(lambda: said in watch.lines("err"), "that there are too many", 30)
                 expect(set(watch.lines("err")), {said}, "what is said")
                 until(lambda: len(watch.lines("run")) == 64, "all of them started", 30)
@@ -447,8 +447,7 @@ class Tests(Shimmed):
             with self.watch(conf + 'SHUTDOWNCMD "touch FOLDER/halted"\n', "-q") as watch:
                 self.expect_halt(watch, [FORCED % server.target, SHUTDOWN])
                 said = f"POWERDOWNFLAG {watch.folder}/none/flag cannot be written: "
-                fronts = (f"upsmon: warning: {said}", f"upsmon: {said}")
-                expect(list(map(str.startswith, watch.told(), fronts)), [True, True], "what is said of it")
+                expect([line.startswith(f"upsmon: {said}") for line in watch.told()], [True, True], "what is said of it")
                 expect(watch.read("halted"), b"", "SHUTDOWNCMD is run all the same")
 
     def test_output_that_is_closed(self):
@@ -486,7 +485,7 @@ class Tests(Shimmed):
                 quiet.until_printed(LOST % other.target)
                 wanted = [
                     f"upsmon: UPS {target}: watched as secondary, power value 2",
-                    "upsmon: stops within 6 s of OB LB if each answer comes within 2 s",
+                    "upsmon: this machine shuts down within 6 s of OB LB if answers take at most 2 s",
                     f"upsmon: UPS {target}: server connected",
                     f"upsmon: UPS {target}: server lost",
                 ]
@@ -559,7 +558,7 @@ class Tests(Shimmed):
             done = subprocess.run([self.upsmon, "--check", *words], stdin=subprocess.DEVNULL, capture_output=True, timeout=60, env=env)
         # no server is there, which is told of each line, and nothing else is of interest here
         told = done.stderr.decode().splitlines(keepends=True)
-        rest = [it for it in told if not re.fullmatch(r"upsmon: warning: UPS \S+: connection failed: .*\n", it)]
+        rest = [it for it in told if not re.fullmatch(r"upsmon: UPS \S+: connection failed: .*\n", it)]
         is_only_that = done.returncode == 1 and len(rest) < len(told)
         return 0 if is_only_that else done.returncode, done.stdout.decode(), "".join(rest)
 
@@ -582,21 +581,21 @@ class Tests(Shimmed):
             ("MONITOR a@h 0 mon m1 primary\nMONITOR b@h 1 mon m1 secondary\nSHUTDOWNCMD true\n", 44),
             (primary + "POLLFREQ 999998\nDEADTIME 1000000\nHOSTSYNC 1000000\nFINALDELAY 1000000\n", 3000001),
         ):
-            wanted = (0, f"upsmon: stops within {seconds} s of OB LB if each answer comes within 2 s\n", "")
+            wanted = (0, f"upsmon: this machine shuts down within {seconds} s of OB LB if answers take at most 2 s\n", "")
             expect(self.checked(conf), wanted, conf)
-        wanted = (0, "upsmon: never stops this machine: MINSUPPLIES is 0\n", "")
+        wanted = (0, "upsmon: this machine never shuts down: MINSUPPLIES is 0\n", "")
         expect(self.checked(primary + "MINSUPPLIES 0\n"), wanted, "a machine that needs no UPS")
-        warning = "upsmon: warning: no SHUTDOWNCMD is set: nothing will stop this machine\n"
+        warning = "upsmon: SHUTDOWNCMD is not set: nothing will shut down this machine\n"
         expect(self.checked("MONITOR a@h 1 mon m1 primary\n")[::2], (0, warning), "what should be set otherwise")
 
     def test_check_of_a_room(self):
         """What 'upsmon --check DIR ..' says of the machines of a room, whose files it is given by their folders' names."""
         primary, secondary = ("MONITOR su700@%s 1 mon m1 %s\nSHUTDOWNCMD true\n" % it for it in (("localhost", "primary"), ("m1", "secondary")))
         two = "MONITOR su700@m1 1 mon m1 primary\nMONITOR su800@m1 1 mon m1 primary\nMINSUPPLIES 2\nSHUTDOWNCMD true\n"
-        stops = "upsmon: %s: stops within %d s of OB LB if each answer comes within %d s\n"
-        enough, short = ("upsmon: m1: HOSTSYNC %d is enough: %s needs the most, %d\n", "upsmon: warning: m1: HOSTSYNC %d is too short: %s needs the most, %d\n")
+        stops = "upsmon: %s: shuts down within %d s of OB LB if answers take at most %d s\n"
+        enough, short = ("upsmon: m1: HOSTSYNC %d is enough: %s needs the most, %d\n", "upsmon: m1: HOSTSYNC %d is too short: %s needs the most, %d\n")
         battery = "upsmon: m1: battery.runtime.low: at least %d s, and what a machine takes from SHUTDOWNCMD until it is off\n"
-        alone = "upsmon: warning: %s: no machine here is the primary of its UPSes: none waits for it\n"
+        alone = "upsmon: %s: no machine here is the primary of its UPSes: none waits for it\n"
         for files, words, out, err in (
             # FSD is accepted within 3 s; a second for the clocks; POLLFREQ 5, an answer 2, FINALDELAY 5 - 1
             ({"m1": primary, "m2": secondary}, (), (stops % ("m1", 28, 2), stops % ("m2", 28, 2), enough % (15, "m2", 15), battery % 28), ()),
@@ -618,7 +617,7 @@ class Tests(Shimmed):
             (
                 {"m1": two, "m2": secondary, "m3": secondary + "MINSUPPLIES 0\n"},
                 (),
-                (stops % ("m1", 28, 2), stops % ("m2", 28, 2), "upsmon: m3: never stops this machine: MINSUPPLIES is 0\n", battery % 28),
+                (stops % ("m1", 28, 2), stops % ("m2", 28, 2), "upsmon: m3: never shuts down: MINSUPPLIES is 0\n", battery % 28),
                 (short % (15, "m2", 16),),
             ),
             ({"m1": primary}, (), (stops % ("m1", 28, 2), "upsmon: m1: no other machine here needs its UPSes\n", battery % 28), ()),
@@ -628,17 +627,17 @@ class Tests(Shimmed):
                 (),
                 (stops % ("m1", 44, 2),),
                 (
-                    "upsmon: warning: m1: its UPSes are at several servers: HOSTSYNC and the battery are reckoned for one\n",
-                    "upsmon: warning: m1: it goes on without the UPSes of which it is the primary: it forces no shutdown while their battery is low\n",
+                    "upsmon: m1: its UPSes are at several servers: HOSTSYNC and the battery are reckoned for one\n",
+                    "upsmon: m1: keeps running without the UPSes of which it is the primary: it forces no shutdown while their battery is low\n",
                 ),
             ),
             (
                 {"m1": primary, "m2": secondary},
                 ("--delay", "m2=6"),
                 (stops % ("m1", 28, 2),),
-                ("upsmon: warning: m2: 6 s for an answer are too long: upsmon gives a server up after 5 s while a UPS is on battery, so nothing is known of this room\n",),
+                ("upsmon: m2: 6 s for an answer are too long: upsmon gives a server up after 5 s while a UPS is on battery, so nothing is known of this room\n",),
             ),
-            ({"m1": "MONITOR su700@m1 1 mon m1 primary\n"}, (), (stops % ("m1", 28, 2), "upsmon: m1: no other machine here needs its UPSes\n", battery % 28), ("upsmon: warning: m1: no SHUTDOWNCMD is set: nothing will stop this machine\n",)),
+            ({"m1": "MONITOR su700@m1 1 mon m1 primary\n"}, (), (stops % ("m1", 28, 2), "upsmon: m1: no other machine here needs its UPSes\n", battery % 28), ("upsmon: m1: SHUTDOWNCMD is not set: nothing will shut down this machine\n",)),
         ):
             expect(self.checked_room(files, *words, *files), (0, "".join(out), "".join(err)), f"{files} {words}")
 
@@ -665,7 +664,7 @@ class Tests(Shimmed):
 
     def test_check_of_a_room_that_is_wrong(self):
         primary = "MONITOR su700@localhost 1 mon m1 primary\nSHUTDOWNCMD true\n"
-        delay = "upsmon: --delay %s: DIR=SECONDS is meant, with a DIR that is checked\n"
+        delay = "upsmon: --delay %s: expected DIR=SECONDS, with a DIR that is checked\n"
         for word in ("m2=1", "m1=", "m1=x", "m1=-1", "m1", "=1", ""):
             expect(self.checked_room({"m1": primary}, "--delay", word, "m1"), (1, "", delay % word), word)
         fault = "upsmon: in m2:\nupsmon: upsmon.conf:1: BadForm\n"
@@ -715,15 +714,15 @@ class Tests(Shimmed):
                     file.write(f'MONITOR {line}\nSHUTDOWNCMD "{shutdown}"\n')
                 words = [self.upsmon, "--check", "--conf", folder]
                 done = subprocess.run(words, stdin=subprocess.DEVNULL, capture_output=True, text=True, timeout=60, env=env)
-                told = [f"upsmon: warning: {it}" for it in warnings]
+                told = [f"upsmon: {it}" for it in warnings]
                 expect((done.returncode, done.stderr.splitlines()), (int(bool(told)), told), f"{line}, {shutdown}")
             expect(room.ask(b"GET NUMLOGINS su700\n"), b"NUMLOGINS su700 0\n", "who is logged in")
 
     def test_check_asks_how_early_lb_is_said(self):
         conf = "MONITOR a@h 1 mon m1 primary\nMONITOR b@h:9 1 mon m1 primary\nMONITOR c@h 0 mon m1 primary\nSHUTDOWNCMD true\n"
-        unknown = "upsmon: UPS %s: battery.runtime.low isn't known\n"
-        late = "upsmon: warning: UPS %s: battery.runtime.low is %d, and this machine stops within 28 s of OB LB\n"
-        slow = "upsmon: warning: UPS %s: no answer within 5 s: on battery upsmon gives up such a server, and may stop this machine after DEADTIME\n"
+        unknown = "upsmon: UPS %s: battery.runtime.low is unknown\n"
+        late = "upsmon: UPS %s: battery.runtime.low is %d s, but this machine may shut down as late as 28 s after OB LB\n"
+        slow = "upsmon: UPS %s: no answer within 5 s: on battery upsmon gives up such a server, and may shut down this machine after DEADTIME\n"
         for upsc, told in (
             ("echo 28", ""),
             ("echo 28.9", ""),
@@ -760,7 +759,7 @@ class Tests(Shimmed):
     def test_start_asks_how_early_lb_is_said(self):
         """A server that can be asked only after some time: its answer is told once, and it isn't asked again."""
         library = build_library("hasten", self.folder)
-        late = "upsmon: warning: UPS %s: battery.runtime.low is 12, and this machine stops within 28 s of OB LB"
+        late = "upsmon: UPS %s: battery.runtime.low is 12 s, but this machine may shut down as late as 28 s after OB LB"
         with tempfile.TemporaryDirectory(dir=self.folder) as folder, Upstream() as server:
             asked = os.path.join(folder, "asked")
             path = put_upsc(folder, f'echo >> {asked}; [ "$(wc -l < {asked})" = 1 ] && exit 1; echo 12')
@@ -795,7 +794,7 @@ class Tests(Shimmed):
 
     def test_folder_of_the_environment(self):
         conf = "MONITOR a@h 1 mon m1 primary\nSHUTDOWNCMD true\n"
-        said = "upsmon: stops within 28 s of OB LB if each answer comes within 2 s\n"
+        said = "upsmon: this machine shuts down within 28 s of OB LB if answers take at most 2 s\n"
         expect(self.checked(conf, "-q", env={"NUT_CONFPATH": "FOLDER"}), (0, said, ""), "NUT_CONFPATH")
         status, out, err = self.checked(conf, "--conf", "FOLDER/none", env={"NUT_CONFPATH": "FOLDER"})
         expect((status, out, err.splitlines()[0]), (1, "", "upsmon: upsmon.conf: cannot read"), "--conf comes first")

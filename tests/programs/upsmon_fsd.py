@@ -8,19 +8,20 @@ The last line is 'N passed, M failed'."""
 import contextlib
 import errno
 import os
+import re
 import socket
 import subprocess
 import sys
 import tempfile
 import time
 
-from tests.support.harness import NUTS_OPTIONS, Shimmed, cannot_read, ensure, expect, refusals
+from tests.support.harness import NUTS_OPTIONS, ROOT, Shimmed, cannot_read, ensure, expect, refusals
 from tests.support.monitored import FLAG, FORCED, QUICK, SHUTDOWN, USERS, ByteByByte, Closing, Endless, Rubbish, Silent, Upstream, Watch, play
 from tests.support.room import STATUS, Room, free_port
 
 PASSWORD = "not-to-be-shown"
-GOES_ON = "upsmon: this machine goes on: "
-QUERIES = [b"USERNAME mon", f"PASSWORD {PASSWORD}".encode(), b"LOGIN su700", b"PRIMARY su700", b"FSD su700"]
+GOES_ON = "upsmon: this machine keeps running: "
+QUERIES = [b"USERNAME mon", f"PASSWORD {PASSWORD}".encode(), b"FSD su700"]
 # what a server is asked that accepts each query
 ALL = [*QUERIES, b"GET VAR su700 ups.status", b"LOGOUT"]
 REFUSED = f"connection failed: {os.strerror(errno.ECONNREFUSED)} (os error {errno.ECONNREFUSED})"
@@ -77,15 +78,15 @@ def line_of(target, user="mon", password=PASSWORD, role="primary"):
 
 
 def is_set(target):
-    return f"{target}: FSD set\n"
+    return f"UPS {target}: FSD set\n"
 
 
 def failed(target, why):
-    return f"upsmon: {target}: FSD failed: {why}\n"
+    return f"upsmon: UPS {target}: FSD failed: {why}\n"
 
 
 def untold(target, why):
-    return f"upsmon: {target}: FSD set, but its machines aren't told: {why}\n"
+    return f"upsmon: UPS {target}: FSD set, but its machines don't hear of it: {why}\n"
 
 
 def goes_on(*targets):
@@ -106,7 +107,7 @@ class Tests(Shimmed):
         """A room with a server and a driver for su700."""
         with Room((self.upsd, self.dummy), self.folder, **options) as room:
             with open(room.path("upsd.users"), "wb") as file:
-                file.write(USERS)
+                file.write(USERS + b"[operator]\npassword = o1\nactions = FSD\n")
             room.driver = room.dummy()
             room.upsd()
             room.until(STATUS, b'VAR su700 ups.status "OL"\n')
@@ -149,11 +150,12 @@ class Tests(Shimmed):
             # it is set already, and nobody watches
             expect(self.force(line), (0, is_set(target), ""), "once more")
 
-    def test_login_is_gone(self):
-        """No primary that waits for the others waits for whoever forced the shutdown."""
+    def test_user_who_may_only_force(self):
+        """A user with 'actions = FSD' alone may do it."""
         with self.room() as room:
-            expect(self.force(line_of(f"su700@127.0.0.1:{room.port}", password="m1"))[0], 0, "status")
-            room.until(b"GET NUMLOGINS su700\n", b"NUMLOGINS su700 0\n", within=1)
+            target = f"su700@127.0.0.1:{room.port}"
+            expect(self.force(line_of(target, "operator", "o1")), (0, is_set(target), ""), "what is told")
+            expect(room.ask(b"GET NUMLOGINS su700\n"), b"NUMLOGINS su700 0\n", "no primary counts it")
 
     def test_several_lines(self):
         """Each primary line counts, and no other."""
@@ -199,14 +201,14 @@ class Tests(Shimmed):
         """FSD is set, and nobody hears of it: the status is refused, or doesn't show it."""
         for status in (b"ERR DRIVER-NOT-CONNECTED", b"ERR DATA-STALE", b"ERR VAR-NOT-SUPPORTED"):
             with Upstream(status=status + b"\n") as server:
-                why = status.split()[1].decode() + "; they stop once the driver is back"
+                why = status.split()[1].decode() + "; they shut down once the driver is back"
                 expect(self.force(line_of(server.target)), (1, "", untold(server.target, why) + goes_on(server.target)), f"{status}")
                 expect(b"".join(server.asked).splitlines(), ALL, f"what is asked at {status}")
         with Upstream() as server:
             expect(self.force(line_of(server.target)), (1, "", untold(server.target, "its status is OL") + goes_on(server.target)), "OL")
         with Answering({b"GET": b"\xff\n"}) as server:
             found = self.force(line_of(server.target))
-            why = f"upsmon: {server.target}: FSD set, but whether its machines are told isn't known: bad answer\n"
+            why = f"upsmon: UPS {server.target}: FSD set, but it is unknown whether its machines hear of it: bad answer\n"
             expect(found, (1, "", why + goes_on(server.target)), "a status that can't be read")
 
     def test_driver_is_gone(self):
@@ -216,7 +218,7 @@ class Tests(Shimmed):
             room.driver.kill()
             room.driver.wait()
             room.until(STATUS, b"ERR DRIVER-NOT-CONNECTED\n")
-            why = "DRIVER-NOT-CONNECTED; they stop once the driver is back"
+            why = "DRIVER-NOT-CONNECTED; they shut down once the driver is back"
             expect(self.force(line_of(target, password="m1")), (1, "", untold(target, why) + goes_on(target)), "what is told")
             room.dummy()
             room.until(STATUS, b'VAR su700 ups.status "FSD OL"\n')
@@ -268,10 +270,10 @@ class Tests(Shimmed):
         with self.room() as room:
             place = f"127.0.0.1:{room.port}"
             for ups, user, password, why in (
-                ("su700", "mon", "wrong", "LOGIN refused: ACCESS-DENIED"),
-                ("su700", "nobody", "m1", "LOGIN refused: ACCESS-DENIED"),
-                ("su700", "guest", "g1", "PRIMARY refused: ACCESS-DENIED"),
-                ("none", "mon", "m1", "LOGIN refused: UNKNOWN-UPS"),
+                ("su700", "mon", "wrong", "FSD refused: ACCESS-DENIED"),
+                ("su700", "nobody", "m1", "FSD refused: ACCESS-DENIED"),
+                ("su700", "guest", "g1", "FSD refused: ACCESS-DENIED"),
+                ("none", "mon", "m1", "FSD refused: UNKNOWN-UPS"),
             ):
                 target = f"{ups}@{place}"
                 found = self.force(line_of(target, user, password))
@@ -308,12 +310,37 @@ class Tests(Shimmed):
             expect(server.asked, [], "what the server is asked")
             expect(self.force(line_of(server.target), "-q"), (0, is_set(server.target), ""), "-q")
 
-    def test_commands_of_nuts(self):
-        """Who types NUT's command is told what stands for it, and nothing else."""
-        meant = "-c isn't an option here: upsmon --fsd stands for -c fsd, systemctl reload mulgefa-upsmon for -c reload"
-        for words in (["-c", "fsd"], ["-c", "reload"], ["-cfsd"]):
+    def test_options_of_nut(self):
+        """What to do in place of an option of NUT's upsmon comes below clap's text, which has no tip to pass it as an argument."""
+        pid, user = "there are no PID files; use", "the unit decides as which user upsmon runs"
+        for words, way in (
+            (["-c", "fsd"], "-c fsd is not supported: use upsmon --fsd"),
+            (["-cfsd"], "-c fsd is not supported: use upsmon --fsd"),
+            (["-q", "-c", "reload"], "-c reload is not supported: use systemctl reload mulgefa-upsmon"),
+            (["-c", "stop"], "-c stop is not supported: use systemctl stop mulgefa-upsmon"),
+            (["-c"], "-c is not supported: use upsmon --fsd or systemctl"),
+            (["-P", "7"], f"-P is not supported: {pid} systemctl"),
+            (["-FF"], f"-FF is not supported: {pid} -F"),
+            (["-F", "-F"], f"-F -F is not supported: {pid} -F"),
+            (["-DB"], None),
+            (["-B"], "-B is not supported: upsmon always stays in the foreground"),
+            (["-p"], f"-p is not supported: {user}"),
+            (["-u", "nut"], f"-u is not supported: {user}"),
+            (["--frobnicate"], None),
+        ):
             done = subprocess.run([self.upsmon, *words], stdin=subprocess.DEVNULL, capture_output=True, text=True, timeout=60)
-            expect((done.returncode, done.stdout, done.stderr), (2, "", f"upsmon: {meant}\n{NUTS_OPTIONS.format('upsmon')}"), f"{words}")
+            expect((done.returncode, done.stdout, done.stderr[:7], "tip: to pass" in done.stderr), (2, "", "error: ", False), f"{words}")
+            last = (f"upsmon: {way}\n" if way else "") + NUTS_OPTIONS.format("upsmon")
+            expect(done.stderr.partition("\nupsmon: ")[1:], ("\nupsmon: ", last[len("upsmon: ") :]), f"what comes last: {words}")
+
+    def test_help_has_the_forms_of_the_page(self):
+        done = subprocess.run([self.upsmon, "--help"], stdin=subprocess.DEVNULL, capture_output=True, text=True, timeout=60)
+        forms = re.findall(r"^(?:Usage:|      ) (upsmon .*)$", done.stdout, re.MULTILINE)
+        with open(os.path.join(ROOT, "man", "upsmon.8")) as file:
+            page = file.read().replace("\\-", "-")
+        shown = re.findall(r"^\.SY (upsmon\n.*?)\n\.YS$", page, re.MULTILINE | re.DOTALL)
+        words = re.compile(r"-?-[a-zA-Z]+|DIR|SECONDS|upsmon")
+        expect([words.findall(it) for it in forms], [words.findall(it) for it in shown], "the forms")
 
     def test_output_that_is_closed(self):
         """All servers are asked, whoever reads what is told, and none is sent it."""
@@ -338,8 +365,8 @@ class Tests(Shimmed):
     def test_memory_refused(self):
         """Each allocation is refused in turn: FSD is set and told, or what failed is told and the status is 1."""
         with Forced() as server:
-            known = "whether its machines are told isn't known: out of memory\n"
-            told = [failed(server.target, "out of memory"), f"upsmon: {server.target}: FSD set, but {known}"]
+            known = "it is unknown whether its machines hear of it: out of memory\n"
+            told = [failed(server.target, "out of memory"), f"upsmon: UPS {server.target}: FSD set, but {known}"]
             reasons = ["upsmon: out of memory\n", *(it + goes_on(server.target) for it in told)]
             for at, env, is_reached in refusals(self.shim):
                 status, out, err = self.force(line_of(server.target), env={**os.environ, **env})

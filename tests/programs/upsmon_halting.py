@@ -31,12 +31,12 @@ HALTED = 'SHUTDOWNCMD "touch FOLDER/halted"\n'
 MUCH = 200000
 LOUD = f'SHUTDOWNCMD "head -c {MUCH} /dev/zero; head -c {MUCH} /dev/zero >&2; touch FOLDER/halted"\n'
 ECHOED = 'SHUTDOWNCMD "echo a; echo b >&2; touch FOLDER/halted"\n'
-FOREIGN = "is not a flag of upsmon, and is left as it is"
-NO_SHELL = "upsmon: warning: the shell that is to run SHUTDOWNCMD cannot be started yet: "
+FOREIGN = "was not written by upsmon; left unchanged"
+NO_SHELL = "upsmon: cannot start SHUTDOWNCMD's shell yet: "
 NOT_YET = "upsmon: SHUTDOWNCMD cannot be started yet: "
 NOT_STARTED = "upsmon: SHUTDOWNCMD cannot be started: "
-REPLACED = "upsmon: warning: there was no shell to run SHUTDOWNCMD, since it was ended or not started: another one waits now"
-CONTINUED = "upsmon: warning: the shell that is to run SHUTDOWNCMD was stopped by a signal: it is sent SIGCONT"
+REPLACED = "upsmon: SHUTDOWNCMD's shell was missing (killed or not started); replaced"
+CONTINUED = "upsmon: SHUTDOWNCMD's shell is suspended; sending SIGCONT"
 UNTOLD = "upsmon: SHUTDOWNCMD has run; how it ended isn't known, since SIGCHLD is ignored"
 # how much stack each daemon asks for, in KiB
 STACK = 512
@@ -183,7 +183,7 @@ class Tests(Shimmed):
                     until(lambda: server.asked.count(STATUS) >= seen + 2, "the status is asked for")
                 expect(pipe.read(), b"", "nothing is printed where there is no room")
                 server.statuses[b"su700"] = b"OL"
-                told = f"upsmon: lines let go: 3\nUPS {target} on line power\n".encode()
+                told = f"upsmon: 3 log lines dropped (output blocked)\nUPS {target} on line power\n".encode()
                 until(lambda: told == pipe.read() or watch.process.poll(), "what was let go is told")
                 server.statuses[b"su700"] = b"OB"
                 until(lambda: (ON_BATTERY % target + "\n").encode() == pipe.read(), "the next line comes alone")
@@ -250,7 +250,7 @@ class Tests(Shimmed):
                 with self.halting(f"POWERDOWNFLAG {flag}\n{HALTED}", "-q") as (server, watch):
                     expect(watch.status(), 0, "status")
                     expect(watch.read("halted"), b"", "SHUTDOWNCMD is run all the same")
-                    told = [f"upsmon: warning: POWERDOWNFLAG {flag} {FOREIGN}", f"upsmon: POWERDOWNFLAG {flag} {FOREIGN}"]
+                    told = [f"upsmon: POWERDOWNFLAG {flag} {FOREIGN}", f"upsmon: POWERDOWNFLAG {flag} {FOREIGN}"]
                     expect(watch.told(), told, "what is told")
                 expect(self.look(folder), before, f"what lies there: {lay}")
 
@@ -355,7 +355,7 @@ class Tests(Shimmed):
             with self.halting(f"POWERDOWNFLAG {flag}\n{HALTED}", "-q", preexec_fn=heed_modes) as (_, watch):
                 expect(watch.status(), 0, "status")
                 expect(watch.read("halted"), b"", "SHUTDOWNCMD is run all the same")
-                wanted = [f"upsmon: {warning}POWERDOWNFLAG {flag} cannot be written: " for warning in ("warning: ", "")]
+                wanted = [f"upsmon: POWERDOWNFLAG {flag} cannot be written: "] * 2
                 expect(fronts(watch.told(), wanted), wanted, "what is told")
             os.chmod(folder, 0o700)
 
@@ -364,7 +364,7 @@ class Tests(Shimmed):
         with tempfile.TemporaryDirectory(dir=self.folder) as folder:
             flag, closed = os.path.join(folder, "flag"), os.path.join(folder, "closed")
             os.mkdir(closed, 0o500)
-            warning = "upsmon: warning: POWERDOWNFLAG %s "
+            warning = "upsmon: POWERDOWNFLAG %s "
             for path, lay, role, wanted in (
                 (flag, None, "primary", []),
                 (os.path.join(folder, "none/flag"), None, "primary", [warning + "cannot be written: No such file or directory"]),
@@ -413,7 +413,7 @@ class Tests(Shimmed):
             with self.halting(f"POWERDOWNFLAG {flag}\n{HALTED}", "-q", preexec_fn=heed_modes) as (_, watch):
                 expect(watch.status(), 0, "status")
                 expect(watch.read("halted"), b"", "SHUTDOWNCMD is run all the same")
-                wanted = [f"upsmon: warning: POWERDOWNFLAG {flag} cannot be removed: ", f"upsmon: POWERDOWNFLAG {flag} cannot be written: "]
+                wanted = [f"upsmon: POWERDOWNFLAG {flag} cannot be removed: ", f"upsmon: POWERDOWNFLAG {flag} cannot be written: "]
                 expect(fronts(watch.told(), wanted), wanted, "what is told")
             expect(self.look(folder), before, "what lies there")
             os.chmod(folder, 0o700)
@@ -480,7 +480,7 @@ class Tests(Shimmed):
             (HALTED, 0o600, []),
             (HALTED, 0o640, []),
             (HALTED, 0o644, ["upsmon.conf holds passwords, and everybody can read it (mode 644)"]),
-            ("", 0o600, ["no SHUTDOWNCMD is set: nothing will stop this machine"]),
+            ("", 0o600, ["SHUTDOWNCMD is not set: nothing will shut down this machine"]),
             (HALTED + "POLLFREQ 13\n", 0o600, []),
             (HALTED + "POLLFREQ 15\n", 0o600, [late % (15, 15)]),
             (HALTED + "POLLFREQ 16\n", 0o600, [late % (16, 15), f"POLLFREQ 16 {asks} HOSTSYNC 15"]),
@@ -494,10 +494,10 @@ class Tests(Shimmed):
                     said = watch.lines("err")
                     expect(len(said), len(wanted), f"{conf} {mode:o}: {said}")
                     for line, front in zip(said, wanted):
-                        expect(line.startswith(f"upsmon: warning: {front}"), True, line)
+                        expect(line.startswith(f"upsmon: {front}"), True, line)
 
     def test_readable_users(self):
-        for mode, wanted in ((0o640, []), (0o604, ["upsd: warning: upsd.users holds passwords, and everybody can read it (mode 604)"])):
+        for mode, wanted in ((0o640, []), (0o604, ["upsd: upsd.users holds passwords, and everybody can read it (mode 604)"])):
             with self.room() as room:
                 os.chmod(room.path("upsd.users"), mode)
                 with open(room.path("err"), "wb") as err:
@@ -592,7 +592,7 @@ class Tests(Shimmed):
                 file.write(conf)
             words = [self.upsmon, "--check", "--conf", folder]
             done = subprocess.run(words, stdin=subprocess.DEVNULL, capture_output=True, timeout=60, env=env)
-            warning = f"upsmon: warning: UPS {target}: battery.runtime.low is 1, and this machine stops"
+            warning = f"upsmon: UPS {target}: battery.runtime.low is 1 s, but this machine may shut down as late as"
             expect(fronts(done.stderr.decode().splitlines(), [warning]), [warning], "what is told of the UPS")
 
     def test_halt_without_dev_null(self):

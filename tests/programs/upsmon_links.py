@@ -9,6 +9,7 @@ The last line is 'N passed, M failed'."""
 import contextlib
 import errno
 import os
+import re
 import signal
 import socket
 import subprocess
@@ -18,6 +19,7 @@ import threading
 import time
 
 from tests.support.harness import Failed, Missing, Shimmed, apart, build_library, ensure, expect
+from tests.support.model import LINE_MAX
 from tests.support.monitored import (
     BATTERY_LOW,
     ESTABLISHED,
@@ -27,6 +29,7 @@ from tests.support.monitored import (
     SHUTDOWN,
     USERS,
     Closing,
+    Endless,
     Nonsense,
     Rubbish,
     Upstream,
@@ -47,14 +50,14 @@ HOSTS = 30
 KNOWN = "ups.example"
 FSD = b"FSD su700\n"
 COUNT = b"GET NUMLOGINS su700\n"
-WAITS = "upsmon: warning: UPS %s: the server waits for its driver (WAIT): no shutdown begins by DEADTIME until it has heard it"
+WAITS = "upsmon: UPS %s: server reports WAIT: DEADTIME can't start a shutdown until it hears its driver"
 LATE = (
-    "upsmon: warning: UPS %s: an answer took more than 5 s: on battery upsmon gives up such a server, and may stop this machine"
+    "upsmon: UPS %s: an answer took more than 5 s: on battery upsmon gives up such a server, and may shut down this machine"
     " after DEADTIME"
 )
 RETURNED = (
-    "upsmon: warning: UPS %s: the server that had accepted FSD is back: if it was started again, FSD is gone, and machines that"
-    " have not come back are not waited for"
+    "upsmon: UPS %s: reconnected to the server that accepted FSD; if it restarted, FSD is lost and absent machines"
+    " aren't waited for"
 )
 
 
@@ -117,8 +120,8 @@ def reports_of(watch, target):
 
 
 def warnings_of(watch):
-    """Returns the warnings on standard error, without those of settings."""
-    return [line for line in watch.lines("err") if line.startswith("upsmon: warning: UPS ")]
+    """Returns the lines on standard error that are written also with -q: warnings of servers, without those of settings."""
+    return [line for line in watch.lines("err") if re.search(": (server reports WAIT|an answer took|reconnected to the server)", line)]
 
 
 class Tests(Shimmed):
@@ -208,7 +211,7 @@ class Tests(Shimmed):
     def test_host_is_looked_up_by_a_program(self):
         """What is told of a host if the program isn't there, can't be run, fails, or can't be started at all."""
         starts = self.refusing_starts(self.folder)
-        cannot, unknown = "getent, which looks its name up, cannot be started", "its name is not known"
+        cannot, unknown = "cannot connect to the server: getent, which looks its name up, cannot be started", "cannot resolve the server's name"
         for script, mode, settings, why in (
             (None, 0, {}, cannot),
             ("echo 127.0.0.1 STREAM", 0o644, {}, cannot),
@@ -224,7 +227,7 @@ class Tests(Shimmed):
                 env = {**os.environ, **settings, "PATH": names}
                 with self.watch("MONITOR su700@ups.example 1 mon m1 primary\n", env=env) as watch:
                     until(lambda: reports_of(watch, "su700@ups.example"), "a report")
-                    expect(reports_of(watch, "su700@ups.example"), [f"no server yet: {why}"], f"{script} {mode:o} refused: {bool(settings)}")
+                    expect(reports_of(watch, "su700@ups.example"), [why], f"{script} {mode:o} refused: {bool(settings)}")
 
     def test_no_watch_is_left(self):
         """What is reported if no socket can be watched."""
@@ -232,7 +235,7 @@ class Tests(Shimmed):
         with Moody() as server, self.watch(f"MONITOR {server.target} 1 mon m1 primary\n", env=env) as watch:
             until(lambda: reports_of(watch, server.target), "a report")
             why = f"{os.strerror(errno.ENOSPC)} (os error {errno.ENOSPC})"
-            expect(reports_of(watch, server.target), [f"no server yet: {why}"], "reports")
+            expect(reports_of(watch, server.target), [f"cannot connect to the server: {why}"], "reports")
 
     def test_server_that_stands_still(self):
         with self.room() as room:
@@ -387,10 +390,10 @@ class Tests(Shimmed):
                     expect(told, [RETURNED % target, SHUTDOWN], "what is told in turn")
 
     def test_servers_that_never_serve(self):
-        """A server that closes each connection, one that says what wasn't asked, and one that answers with a line that is no
-        answer."""
-        unread = "what it says is not understood"
-        for kind, why in ((Closing, "it closes the connection"), (Rubbish, unread), (Nonsense, unread)):
+        """A server that closes each connection, one that says what wasn't asked, one that answers with a line that is no answer,
+        and one that sends a line without an end. None costs processor time."""
+        closes, unread = "server closed the connection before answering", "server gave an unexpected answer"
+        for kind, why in ((Closing, closes), (Rubbish, unread), (Nonsense, unread), (Endless, unread)):
             with kind() as server, Upstream() as other:
                 conf = f"MINSUPPLIES 1\nMONITOR {server.target} 0 mon m1 secondary\nMONITOR {other.target} 1 mon m1 secondary\n"
                 with self.watch(conf + QUICK) as watch:
@@ -398,20 +401,34 @@ class Tests(Shimmed):
                     until(lambda: len(server.ends) >= 4, "it is called again", 20)
                     # after pauses of 1, 2 and 4 seconds
                     ensure(time.monotonic() - begun > 5, f"the pauses grow: {kind.__name__}")
-                    expect(reports_of(watch, server.target), [f"no server yet: {why}"], f"what is told once: {kind.__name__}")
+                    expect(reports_of(watch, server.target), [why], f"what is told once: {kind.__name__}")
                     expect(reports_of(watch, other.target), ["server connected"], "what is told of the other")
+                    ensure(watch.is_idle(3, 0.15), f"processor time: {kind.__name__}")
 
     def test_server_that_is_no_longer_understood(self):
         with Moody() as server, self.watch(f"MONITOR {server.target} 1 mon m1 secondary\n{QUICK}") as watch:
             until(lambda: server.asked.count(STATUS) >= 2, "the status is asked for")
             server.refused[b"GET"] = b"VAR other ups.status OL\n"
-            lost = "server lost: what it says is not understood"
+            lost = "server lost: unexpected answer"
             until(lambda: lost in reports_of(watch, server.target), "that is reported")
             watch.until_printed(LOST % server.target)
             server.refused.clear()
             watch.until_printed(ESTABLISHED % server.target)
             until(lambda: reports_of(watch, server.target)[-1] == "server connected", "that it is back is reported")
             expect(reports_of(watch, server.target)[:2], ["server connected", lost], "reports")
+
+    def test_line_without_an_end(self):
+        """A server that answers, and then sends a line that never ends, is given up at 2,049 bytes of it, long before its time is
+        over; at 2,048 it still has its time."""
+        for length, is_given_up in ((LINE_MAX, False), (LINE_MAX + 1, True)):
+            with Moody() as server, self.watch(f"MONITOR {server.target} 1 mon m1 secondary\n{QUICK}") as watch:
+                until(lambda: server.asked.count(STATUS) >= 2, "the status is asked for")
+                server.refused[b"GET"] = b"x" * length
+                server.asked.clear()
+                until(lambda: STATUS in server.asked, "it is asked for again")
+                time.sleep(3)
+                lost = ["server lost: unexpected answer"] if is_given_up else []
+                expect(reports_of(watch, server.target)[1:2], lost, f"what is told after {length} bytes")
 
     def test_driver_that_comes_late(self):
         """At a boot the server is there before the driver is: nothing is told of a loss, and the first status at once."""
@@ -611,7 +628,7 @@ class Inside(Tests):
                 ensure(passed <= 1 + 5, f"it halts within FINALDELAY and 5 s: {passed:.1f} s")
                 expect(watch.read("halted"), b"", "what SHUTDOWNCMD makes")
                 told = reports_of(watch, "u0@h0.example")
-                expect(told, ["no server yet: its name is not looked up in time"], "what is told of a name")
+                expect(told, ["cannot connect to the server: its name is not looked up in time"], "what is told of a name")
 
 
 def main():

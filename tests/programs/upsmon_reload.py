@@ -100,8 +100,8 @@ class Tests(Shimmed):
             until_asked(server)
             watch.reload(line_of(server) + "POLLFREQ 2\nHOSTSYNC 1\nFINALDELAY 0\nNOTIFYFLAG ONLINE IGNORE\n" + NEW)
             watch.until_reloaded("SHUTDOWNCMD changed, POLLFREQ changed, NOTIFYFLAG changed")
-            watch.until_told("upsmon: warning: POLLFREQ 2 is above HOSTSYNC 1: primary and secondaries will not wait for each other")
-            watch.until_told("upsmon: stops within 6 s of OB LB if each answer comes within 2 s")
+            watch.until_told("upsmon: POLLFREQ 2 is above HOSTSYNC 1: primary and secondaries will not wait for each other")
+            watch.until_told("upsmon: this machine shuts down within 6 s of OB LB if answers take at most 2 s")
             told = f"upsmon: UPS {server.target}: watched as primary, power value 1"
             until(lambda: watch.lines("err").count(told) == 2, "that the UPS is watched")
 
@@ -172,7 +172,7 @@ class Tests(Shimmed):
             until_asked(server)
             watch.reload(line_of(server) + QUICK)
             watch.until_reloaded("SHUTDOWNCMD changed")
-            watch.until_told("upsmon: warning: no SHUTDOWNCMD is set: nothing will stop this machine")
+            watch.until_told("upsmon: SHUTDOWNCMD is not set: nothing will shut down this machine")
             until(lambda: children_of(watch.process.pid) == [], "the shell is waited for")
             server.statuses[b"su700"] = b"OB LB"
             expect((watch.status(), watch.read("old")), (0, None), "status, and the halt")
@@ -192,7 +192,7 @@ class Tests(Shimmed):
             watch.until_told(f"upsmon: POWERDOWNFLAG {watch.path('b')} of an earlier shutdown is removed")
             expect(watch.read("b"), None, "a flag of another name")
             watch.reload(line_of(server) + QUICK + NEW + "POWERDOWNFLAG FOLDER/none/b\n")
-            warning = f"upsmon: warning: POWERDOWNFLAG {watch.path('none/b')} cannot be written: No such file or directory (os error 2)"
+            warning = f"upsmon: POWERDOWNFLAG {watch.path('none/b')} cannot be written: No such file or directory (os error 2)"
             watch.until_told(warning)
             os.mkdir(watch.path("none"))
             watch.open("none/b").close()

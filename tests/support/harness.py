@@ -48,7 +48,7 @@ def unread(pipe):
 
 
 # the last line of what a program of NUT's name writes if it doesn't know a word of its command line
-NUTS_OPTIONS = "{}: NUT's options that aren't taken here: see from-nut(7)\n"
+NUTS_OPTIONS = "{}: for NUT options that are not supported, see from-nut(7)\n"
 
 
 class Failed(Exception):

@@ -19,7 +19,7 @@ login_queries ups user password = requests.Username user ∷ requests.Password p
 -- what is asked to force the shutdown of a UPS, as the user of this name and password
 abbrev pub forcing_queries : List ℕ → List ℕ → List ℕ → List Request
 forcing_queries ups user password =
-    requests.Username user ∷ requests.Password password ∷ requests.Login ups ∷ requests.Primary ups ∷ requests.Fsd ups ∷ []
+    requests.Username user ∷ requests.Password password ∷ requests.Fsd ups ∷ []
 
 -- the lines of these queries, joined
 abbrev pub query_lines : List Request → List ℕ

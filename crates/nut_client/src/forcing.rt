@@ -13,9 +13,8 @@ use crate::stream::Stream;
 use nut_proto::{Request, Word};
 use std::alloc::Global;
 
-/// Forces the shutdown of the UPS of this name, as this user: asks USERNAME, PASSWORD, LOGIN, PRIMARY and FSD, each once
-/// the query before it was answered `OK`. The login lasts until the connection is closed, so close it at once: a primary
-/// that waits for other machines counts it.
+/// Forces the shutdown of the UPS of this name, as this user: asks USERNAME, PASSWORD and FSD, each once the query before it
+/// was answered `OK`. It doesn't log in, since a primary that waits for other machines would count it.
 ///
 /// # Errors
 ///
@@ -37,7 +36,7 @@ pub fn force_shutdown<S: Stream>(
     ensures lost { IfErr result (λ failure. failure ≡ ConnectionLost → S.has_ended stream.new) }
 {
     let mut conversation = Conversation::new(alloc);
-    let queries = forcing_queries(&ups, user, password);
+    let queries = forcing_queries(ups, user, password);
     ask_in_turn(&mut conversation, stream, &queries)
 }
 
@@ -77,15 +76,13 @@ fn login_queries<'t>(ups: Word<'t>, user: Word<'t>, password: Word<'t>) -> [Requ
 }
 
 /// Returns what is asked to force the shutdown of the UPS of this name.
-fn forcing_queries<'t>(ups: &Word<'t>, user: Word<'t>, password: Word<'t>) -> [Request<'t>; 5]
-    ensures { result ≡ forcing_queries ups.now user.entry password.entry }
+fn forcing_queries<'t>(ups: Word<'t>, user: Word<'t>, password: Word<'t>) -> [Request<'t>; 3]
+    ensures { result ≡ forcing_queries ups.entry user.entry password.entry }
 {
     [
         Request::Username { name: user },
         Request::Password { password },
-        Request::Login { ups: ups.copy() },
-        Request::Primary { ups: ups.copy() },
-        Request::Fsd { ups: ups.copy() },
+        Request::Fsd { ups },
     ]
 }
 

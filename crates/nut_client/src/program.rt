@@ -6,27 +6,37 @@ use crate::failure::Failure;
 use crate::output::{Output, WriterOutput};
 use crate::password::{PasswordFault, take_password};
 use crate::tool::Tool;
-use nut_program::hold_closed_streams;
+use nut_program::{TOOL_STACK, hold_closed_streams, low_stack};
 use std::alloc::AllocGlobal;
 use std::env::Env;
-use std::io::{Input, Print};
+use std::io::{Input, Print, Write};
 use std::net::Net;
 use std::process::ExitCode;
 use std::rt::Files;
 use std::time::Clock;
 use std::{env, io, str};
 
+/// What the name of a UPS looks like on a command line.
+const NAME_FORM: &str =
+    "expected UPS[@HOST[:PORT]], HOST a name or an IPv4 address (an IPv6 address needs a name in /etc/hosts)";
+
 /// Runs a tool as this program: with the words of its command line, over TCP, with the standard streams, of which this is
 /// the error output. Returns the exit status.
 ///
 /// Standard streams that are closed are held first, so that the connection never takes the place of one. A password `-`
 /// is read from standard input before the server is dialled. Below the line of a failure, a line of its own says why no
-/// connection was made, and the tool's usage if the words are no combination that it knows.
+/// connection was made or what the name of a UPS looks like, and the tool's usage if the words are no combination that it
+/// knows. If the stack is limited to less than the tool needs, only that is written.
 pub fn run_tool<R: Clock + Env + Files + Input + Net + Print + AllocGlobal, E: Print>(
     rt: &R,
     stderr: &E,
     tool: Tool,
 ) -> ExitCode {
+    if let Some(low) = low_stack(TOOL_STACK) {
+        let name = tool.name();
+        let _ = writeln!(io::writer(stderr), "{name}: {low}");
+        return ExitCode::from(1);
+    }
     let mut err = WriterOutput::new(io::writer(stderr));
     let status = match run_held(rt, tool, &mut err) {
         Ok(status) => status,
@@ -84,7 +94,7 @@ where
         Ok(()) => ask_destination(rt, tool, words.as_slice(), destination, err),
         Err(PasswordFault::Memory) => fail(rt, Failure::Memory, err),
         Err(PasswordFault::Missing) => {
-            put_all(err, b"Error: no password on standard input\n");
+            put_line(tool, "no password on standard input", err);
             1
         }
     }
@@ -131,20 +141,35 @@ where
     }
 }
 
-/// Writes why words that name no server can't be run, with the tool's usage if they are no combination that it knows, or
-/// the text that they ask for. Returns the exit status.
+/// Writes why words that name no server can't be run, or the text that they ask for. If a name isn't valid, a second line
+/// says what it looks like. If they are no combination that the tool knows, its usage comes last, below what keeps them from
+/// being one, if that is known. Returns the exit status.
 fn refuse_combination<R, E: Output>(rt: &R, tool: Tool, words: &[String], err: &mut E) -> u8
 where
     R: Print + AllocGlobal,
 {
     let mut out = WriterOutput::new(io::writer(rt));
     let status = tool.run_alone(rt.alloc(), words, &mut out, err);
+    if tool.has_bad_name(rt.alloc(), words) {
+        put_line(tool, NAME_FORM, err);
+    }
     if tool.is_bad_combination(rt.alloc(), words) {
+        if let Some(misfit) = tool.misfit(rt.alloc(), words) {
+            put_line(tool, misfit, err);
+        }
         put_all(err, b"Usage: ");
         put_all(err, tool.usage().as_bytes());
         put_all(err, b"\n");
     }
     status
+}
+
+/// Writes a line that begins with the name of the tool.
+fn put_line<E: Output>(tool: Tool, text: &str, err: &mut E) {
+    put_all(err, tool.name().as_bytes());
+    put_all(err, b": ");
+    put_all(err, text.as_bytes());
+    put_all(err, b"\n");
 }
 
 /// Writes why nothing was asked. Returns the exit status.

@@ -5,7 +5,7 @@ ghost use Rattle.nut_client.specs.CommandLine.{command_of, dialed, line_of, targ
 ghost use Rattle.nut_client.specs.Output.{written};
 ghost use Rattle.nut_client.specs.inside.Reading.{IsRead};
 ghost use Rattle.nut_client.specs.Tool.{EndsOver, RunsAs};
-ghost use Rattle.nut_client.specs.declared.failure.Failure.TheVariants.{BadArguments, NoConnection};
+ghost use Rattle.nut_client.specs.declared.failure.Failure.TheVariants.{BadArguments, BadName, NoConnection};
 
 use crate::command_line::{Options, Refusal, options_of, parse, value};
 use crate::destination::Destination;
@@ -83,6 +83,27 @@ impl Tool {
     {
         let matches = parse(self.command(alloc)?, words)?;
         options_of(self.wanted_in(&matches), value(&matches, "name"))
+    }
+
+    /// Whether the words can be read, but the name of the UPS, its host or its port isn't valid. It isn't if memory cannot be
+    /// allocated.
+    pub(crate) fn has_bad_name<W: AsStr>(self, alloc: Global, words: &[W]) -> bool
+        ensures { result ≡ true → line_of self (map W.text words.now) ≡ Ok (Err BadName) }
+    {
+        match self.read_options(alloc, words) {
+            Ok(_options) => false,
+            Err(Refusal::Failed(failure)) => matches!(failure, Failure::BadName),
+            Err(Refusal::Usage(_error)) => false,
+        }
+    }
+
+    /// Returns what keeps these words, which the tool can read, from being a combination that it knows, if that is known.
+    pub(crate) fn misfit<W: AsStr>(self, alloc: Global, words: &[W]) -> Option<&'static str> {
+        let matches = parse(self.command(alloc).ok()?, words).ok()?;
+        match self {
+            Tool::Upsc => upsc::misfit(&matches),
+            Tool::Upsrw | Tool::Upscmd => None,
+        }
     }
 
     /// Whether the words can be read, but are no combination that the tool knows. It isn't if memory cannot be allocated.

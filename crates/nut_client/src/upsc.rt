@@ -91,6 +91,15 @@ fn wanted_by<'a>(
     }
 }
 
+/// Returns what keeps options and arguments from being a combination that the tool knows, if that is known.
+pub(crate) fn misfit(matches: &ArgMatches<'_>) -> Option<&'static str> {
+    let lists = ["names", "descriptions", "clients"];
+    if is_given(matches, "json") && lists.iter().any(|id| is_given(matches, id)) {
+        return Some("-j does not combine with -l, -L or -c");
+    }
+    None
+}
+
 /// The command lines that the tool knows.
 pub(crate) const USAGE: &str =
     "upsc [-j] NAME [VAR]\n       upsc -l | -L [HOST[:PORT]]\n       upsc -c NAME";

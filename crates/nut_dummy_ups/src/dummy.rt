@@ -87,7 +87,7 @@ pub fn run_dummy_ups<S: AsStr, O: Write, E: Lines>(
 ) -> u8 {
     match run(rt, alloc, words, err) {
         Ok(()) => 0,
-        Err(failure) => failure.tell_of_nuts(out, err),
+        Err(failure) => failure.tell_of_nuts(alloc, None, out, err),
     }
 }
 

@@ -11,7 +11,7 @@ pub const ANSWER_ON_BATTERY: u8 = 5;
 
 /// What follows if a server takes longer than [`ANSWER_ON_BATTERY`], as an operator is told.
 pub const LATE_ANSWERS: &str =
-    "on battery upsmon gives up such a server, and may stop this machine after DEADTIME";
+    "on battery upsmon gives up such a server, and may shut down this machine after DEADTIME";
 
 /// The limits on a server. They are shorter if a UPS is on battery, because a battery doesn't wait.
 #[derive(Clone, Copy)]

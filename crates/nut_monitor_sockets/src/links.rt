@@ -18,7 +18,9 @@ use nut_conf::{MONITORS_MAX, MonConfig};
 use nut_io::{Piece, Written};
 use nut_monitor::{LastAnswer, Monitor, Phase, Query};
 use nut_monitor_loop::Next;
-use nut_poll::{Found, Heard, LookUps, Ready, Reports, Rounds, SOCKETS_MAX, Seconds, text_of};
+use nut_poll::{
+    Found, HOST_UNKNOWN, Heard, LookUps, Ready, Reports, Rounds, SOCKETS_MAX, Seconds, text_of,
+};
 use std::alloc::{AllocError, Global};
 use std::net::Net;
 use std::process::Processes;
@@ -370,7 +372,7 @@ impl Links {
     }
 
     /// Reads from a link, and has it looked at again if there may be more. If its server doesn't answer in time the link is
-    /// lost, whatever else the server sends.
+    /// lost, whatever else the server sends, and so it is at once if a line of the server is too long: it may never end.
     fn hear(
         &mut self,
         monitor: &Monitor,
@@ -382,7 +384,13 @@ impl Links {
         ensures given { IfSome result (λ n. IsGivenBy i n) }
         ensures turns { Looks [] self.old.rounds.ready self.new.rounds.ready }
     {
-        match self.upstreams.get_mut(i)?.hear(piece) {
+        let upstream = self.upstreams.get_mut(i)?;
+        let heard = upstream.hear(piece);
+        if upstream.is_too_long() {
+            self.end(i, Loss::Unread, reports);
+            return Some(Next::LinkLost(i));
+        }
+        match heard {
             Heard::All => Some(self.hand_on(i)),
             Heard::Part => {
                 self.rounds.ready.insert(Token(i));
@@ -540,7 +548,7 @@ impl Links {
             if upstream.host_name() == found.name.as_str() {
                 self.rounds.ready.insert(Token(i));
                 if !upstream.take_addresses(&found.addresses) {
-                    tell_unreachable(upstream, io::Error::other(found.reason), reports);
+                    tell_unfound(upstream, found.reason, reports);
                 }
             }
         }
@@ -633,6 +641,16 @@ fn tell_unreachable(upstream: &mut Upstream, error: io::Error, reports: &mut Rep
     }
 }
 
+/// Reports that a look-up found no address of a server, for this reason, unless it was reported since the server last served
+/// that it can't be reached.
+fn tell_unfound(upstream: &mut Upstream, reason: &'static str, reports: &mut Reports<'_>) {
+    if reason != HOST_UNKNOWN {
+        tell_unreachable(upstream, io::Error::other(reason), reports);
+    } else if upstream.misses() {
+        reports.tell(Report::Unresolved(upstream.name()));
+    }
+}
+
 /// Returns the report that a server that served is lost.
 fn lost(name: &str, loss: Loss) -> Report<'_> {
     match loss {
@@ -644,12 +662,11 @@ fn lost(name: &str, loss: Loss) -> Report<'_> {
 
 /// Returns the report that there is no server yet, after a link ended on which none served.
 fn unserved(name: &str, loss: Loss) -> Report<'_> {
-    let why = match loss {
-        Loss::Closed => "it closes the connection",
-        Loss::Silent(_) => "it does not answer",
-        Loss::Unread => "what it says is not understood",
-    };
-    Report::Unreachable(name, io::Error::other(why))
+    match loss {
+        Loss::Closed => Report::Closed(name),
+        Loss::Silent(_) => Report::Mute(name),
+        Loss::Unread => Report::Odd(name),
+    }
 }
 
 /// Notes the events of the links.

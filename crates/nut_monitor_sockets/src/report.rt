@@ -9,8 +9,16 @@ use std::{fmt, io};
 pub enum Report<'a> {
     /// The server is connected.
     Reached(&'a str),
+    /// The host's name can't be resolved: the resolver has no address for it.
+    Unresolved(&'a str),
     /// The server can't be reached.
     Unreachable(&'a str, io::Error),
+    /// The server closed the connection before it answered a query for a status.
+    Closed(&'a str),
+    /// The server didn't answer before it served, and was given up.
+    Mute(&'a str),
+    /// The server sent something that can't be read or wasn't asked for before it served.
+    Odd(&'a str),
     /// The server disconnected.
     Gone(&'a str),
     /// The server didn't answer for this many seconds, and was given up.
@@ -31,28 +39,34 @@ impl<'a> fmt::Display for Report<'a> {
     fn fmt<W: fmt::Write>(&self, f: &mut fmt::Formatter<W>) -> fmt::Result {
         match self {
             Report::Reached(target) => write!(f, "UPS {target}: server connected"),
-            Report::Unreachable(target, error) => write!(f, "UPS {target}: no server yet: {error}"),
+            Report::Unresolved(target) => {
+                write!(f, "UPS {target}: cannot resolve the server's name")
+            }
+            Report::Unreachable(target, error) => {
+                write!(f, "UPS {target}: cannot connect to the server: {error}")
+            }
+            Report::Closed(target) => write!(
+                f,
+                "UPS {target}: server closed the connection before answering"
+            ),
+            Report::Mute(target) => write!(f, "UPS {target}: server does not answer"),
+            Report::Odd(target) => { write!(f, "UPS {target}: server gave an unexpected answer") }
             Report::Gone(target) => write!(f, "UPS {target}: server lost"),
             Report::GivenUp(target, seconds) => {
                 write!(f, "UPS {target}: server lost: no answer for {seconds} s")
             }
-            Report::Unread(target) => {
-                write!(
-                    f,
-                    "UPS {target}: server lost: what it says is not understood"
-                )
-            }
+            Report::Unread(target) => { write!(f, "UPS {target}: server lost: unexpected answer") }
             Report::Late(target) => write!(
                 f,
-                "warning: UPS {target}: an answer took more than {ANSWER_ON_BATTERY} s: {LATE_ANSWERS}"
+                "UPS {target}: an answer took more than {ANSWER_ON_BATTERY} s: {LATE_ANSWERS}"
             ),
             Report::Waits(target) => write!(
                 f,
-                "warning: UPS {target}: the server waits for its driver (WAIT): no shutdown begins by DEADTIME until it has heard it"
+                "UPS {target}: server reports WAIT: DEADTIME can't start a shutdown until it hears its driver"
             ),
             Report::Returned(target) => write!(
                 f,
-                "warning: UPS {target}: the server that had accepted FSD is back: if it was started again, FSD is gone, and machines that have not come back are not waited for"
+                "UPS {target}: reconnected to the server that accepted FSD; if it restarted, FSD is lost and absent machines aren't waited for"
             ),
             Report::Refused(target, what, error) => {
                 write!(f, "UPS {target}: {what} refused: {error}")
@@ -65,7 +79,11 @@ impl<'a> Leveled for Report<'a> {
     fn level(&self) -> Level {
         match self {
             Report::Reached(_) => Level::Info,
-            Report::Unreachable(..)
+            Report::Unresolved(_)
+            | Report::Unreachable(..)
+            | Report::Closed(_)
+            | Report::Mute(_)
+            | Report::Odd(_)
             | Report::Gone(_)
             | Report::GivenUp(..)
             | Report::Unread(_)

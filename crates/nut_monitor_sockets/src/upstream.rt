@@ -17,6 +17,7 @@ use nut_io::{Piece, Written};
 use nut_link::Outcome;
 use nut_monitor::{LastAnswer, LastQuery, Query};
 use nut_poll::{Heard, Link, may_be_read, text_of};
+use nut_words::LINE_MAX;
 use std::alloc::{AllocError, Global};
 use std::io::ErrorKind;
 use std::net::{IpAddr, Net};
@@ -47,6 +48,8 @@ pub struct Upstream {
     pause: Pause,
     /// Whether the server has answered a query after those that open a link, since this link was made.
     serves: bool,
+    /// How many bytes of a line that hasn't ended the server has sent on this link.
+    unended: usize,
     refusals: Refusals,
     /// Whether the server waits for its driver. NUT's upsd does so on a new link, once it was started again.
     waiting: Waiting,
@@ -75,6 +78,7 @@ impl Upstream {
             stage: Stage::Down,
             pause: Pause::none(),
             serves: false,
+            unended: 0,
             refusals: Refusals::none(),
             waiting: Waiting::none(),
             is_gone: false,
@@ -191,6 +195,7 @@ impl Upstream {
     ) -> io::Result<bool> {
         match is_answered(link.stream(), waited) {
             Ok(true) => {
+                self.unended = 0;
                 self.stage = Stage::Up(link, Inquiry::new());
                 Ok(true)
             }
@@ -212,10 +217,20 @@ impl Upstream {
 
     /// Reads from the server.
     pub fn hear(&mut self, piece: &mut Piece) -> Heard {
-        match &mut self.stage {
+        let heard = match &mut self.stage {
             Stage::Up(link, _) => link.hear(piece),
             Stage::Down | Stage::Calling(_, _) => Heard::Nothing,
+        };
+        if matches!(heard, Heard::All | Heard::Part) {
+            self.unended = unended_after(self.unended, piece.as_slice());
         }
+        heard
+    }
+
+    /// Whether the server has sent more than [`LINE_MAX`] bytes of a line that hasn't ended. It is no answer then, however it
+    /// ends.
+    pub fn is_too_long(&self) -> bool {
+        self.unended > LINE_MAX
     }
 
     /// Notes the last answer on the link. Returns whether it wasn't noted before.
@@ -316,6 +331,14 @@ impl Upstream {
             self.host.lose();
         }
         served
+    }
+}
+
+/// Returns how many bytes of an unfinished line have come after a piece, of which so many had come before it.
+fn unended_after(unended: usize, piece: &[u8]) -> usize {
+    match piece.iter().rposition(|byte| *byte == b'\n') {
+        Some(at) => piece.len().saturating_sub(at).saturating_sub(1),
+        None => unended.saturating_add(piece.len()),
     }
 }
 

@@ -115,7 +115,11 @@ impl<S: Write + AsRawFd + Drop> LossyLines<S> {
         let lost = self.lost;
         if lost > 0 {
             let head = self.style.head(Level::Warning);
-            let _ = writeln!(&mut text, "{head}lines let go: {lost}");
+            let lines = if lost == 1 { "line" } else { "lines" };
+            let _ = writeln!(
+                &mut text,
+                "{head}{lost} log {lines} dropped (output blocked)"
+            );
         }
         let _ = text.write(&self.line);
         write_whole(&mut self.stream, &text)

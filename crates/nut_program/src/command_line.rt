@@ -1,10 +1,10 @@
-//! The options of both upsd and upsmon, and those of NUT's that no program has.
+//! The options of both upsd and upsmon, and where to read about those of NUT that no program has.
 
 use clap::{Arg, ArgAction};
 use std::alloc::Global;
 
-/// Where to read about an option of NUT's that a program doesn't have: below clap's text, after the program's name.
-pub const UNKNOWN_OPTION: &str = "NUT's options that aren't taken here: see from-nut(7)";
+/// Where to read about an option of NUT that a program doesn't have: below clap's text, after the program's name.
+pub const UNKNOWN_OPTION: &str = "for NUT options that are not supported, see from-nut(7)";
 
 /// Returns the option `--check`, with this text in the help.
 pub fn check_option<'a>(alloc: Global, help: &'static str) -> Arg<'a> {
@@ -28,7 +28,7 @@ pub fn debug_option<'a>(alloc: Global) -> Arg<'a> {
     Arg::new(alloc, "debug")
         .short('D')
         .action(ArgAction::Count)
-        .help("Stay in the foreground, as it always does; it tells no more than without")
+        .help("Stay in the foreground, as it always does; no other effect")
 }
 
 /// Returns the option `-q`, with this text in the help.

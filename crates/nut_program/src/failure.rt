@@ -2,9 +2,10 @@
 
 use crate::command_line::UNKNOWN_OPTION;
 use crate::conf_file::FileFault;
+use crate::without_tip::clap_text;
 use nut_io::ServeFault;
 use nut_log::{Level, Lines};
-use std::alloc::{AllocError, AllocFailed};
+use std::alloc::{AllocError, AllocFailed, Global};
 use std::fmt::Display;
 use std::io;
 use std::io::{ErrorKind, Write};
@@ -118,21 +119,44 @@ impl<F: OwnFault> Failure<F> {
         }
     }
 
-    /// Does what [`Failure::tell`] does, for a program that has options of NUT's: if a word of the command line is unknown,
-    /// a last line says where to read about those that aren't taken.
-    pub fn tell_of_nuts<O: Write, E: Lines>(&self, out: &mut O, err: &mut E) -> u8 {
-        let status = self.tell(out, err);
-        if self.is_unknown_word() {
-            let _ = writeln!(err.begin(Level::Error), "{UNKNOWN_OPTION}");
-        }
-        status
-    }
-
-    /// Whether the command line has a word that clap doesn't know.
-    fn is_unknown_word(&self) -> bool {
+    /// Does what [`Failure::tell`] does, for a program with options of NUT. If a word of the command line is unknown, clap's
+    /// text has no tip to pass it as an argument. Below it comes `way`, which says what to do in place of an option of NUT, and
+    /// where to read about those that are not supported. If there is a `way`, that is so too of an option that is given twice.
+    pub fn tell_of_nuts<O: Write, E: Lines>(
+        &self,
+        alloc: Global,
+        way: Option<&str>,
+        out: &mut O,
+        err: &mut E,
+    ) -> u8 {
         match self {
-            Failure::CommandLine(error) => error.kind() == clap::error::ErrorKind::UnknownArgument,
-            Failure::Own(_) | Failure::Memory | Failure::Io => false,
+            Failure::CommandLine(error) if is_of_nut(error.kind(), way) => {
+                tell_option(alloc, error, way, err)
+            }
+            _ => self.tell(out, err),
         }
     }
+}
+
+/// Whether clap refuses a command line by an option that NUT may have.
+fn is_of_nut(kind: clap::error::ErrorKind, way: Option<&str>) -> bool {
+    match kind {
+        clap::error::ErrorKind::UnknownArgument => true,
+        clap::error::ErrorKind::ArgumentConflict => way.is_some(),
+        _ => false,
+    }
+}
+
+/// Writes clap's text about an option that NUT may have, what to do in its place, if that is known, and where to read about
+/// such options. Returns the exit status, which is 2.
+fn tell_option<E: Lines>(alloc: Global, error: &clap::Error, way: Option<&str>, err: &mut E) -> u8 {
+    let _ = match clap_text(alloc, error) {
+        Ok(text) => write!(err.mark(Level::Error), "{text}"),
+        Err(AllocError) => writeln!(err.begin(Level::Error), "out of memory"),
+    };
+    if let Some(way) = way {
+        let _ = writeln!(err.begin(Level::Error), "{way}");
+    }
+    let _ = writeln!(err.begin(Level::Error), "{UNKNOWN_OPTION}");
+    2
 }

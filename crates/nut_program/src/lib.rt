@@ -16,6 +16,7 @@ mod streams;
 mod unknown;
 mod version;
 mod warning;
+mod without_tip;
 
 pub use arguments::refuse_start;
 pub use command_line::{
@@ -29,7 +30,8 @@ pub use folder::conf_folder;
 pub use named_lines::NamedLines;
 pub use reload_file::{Look, ReloadFile, Turn};
 pub use reload_report::ReloadReport;
-pub use stack::{LowStack, has_stack};
+pub use stack::{LowStack, TOOL_STACK, has_stack, low_stack};
 pub use streams::{Streams, hold_closed_streams};
 pub use version::VERSION;
 pub use warning::{Readable, readable_file, warn};
+pub use without_tip::clap_text;

@@ -1,6 +1,6 @@
-//! The stack that a daemon needs.
+//! The stack that a program needs.
 
-ghost use Rattle.std.specs.Prelude.{◌↔◌, ◌<◌, IsSome};
+ghost use Rattle.std.specs.Prelude.{◌↔◌, ◌<◌, ◌*◌, IsSome};
 
 use libc::types::rlimit;
 use libc::{RLIMIT_STACK, getrlimit};
@@ -9,7 +9,10 @@ use std::fmt;
 
 /// How much stack a daemon needs, in KiB. A process whose stack has no more room is ended by SIGSEGV, perhaps after it has
 /// begun to watch or to serve, and can say nothing of that.
-const NEEDED: u64 = 512;
+const DAEMON_STACK: u32 = 512;
+
+/// How much stack a tool needs, in KiB.
+pub const TOOL_STACK: u32 = 256;
 
 /// The bytes of a KiB.
 const KIB: u64 = 1024;
@@ -18,36 +21,44 @@ const KIB: u64 = 1024;
 #[derive(Clone, Copy)]
 pub struct LowStack {
     kibibytes: u64,
+    needed: u32,
 }
 
 impl fmt::Display for LowStack {
     fn fmt<W: fmt::Write>(&self, f: &mut fmt::Formatter<W>) -> fmt::Result {
-        let LowStack { kibibytes } = self;
+        let LowStack { kibibytes, needed } = self;
         write!(
             f,
-            "the stack is limited to {kibibytes} KiB; {NEEDED} are needed"
+            "the stack is limited to {kibibytes} KiB; {needed} are needed"
         )
     }
 }
 
 impl LowStack {
-    /// Returns this limit of the stack in bytes, if it is too low for a daemon.
-    pub fn of_limit(limit: u64) -> Option<LowStack>
-        ensures { IsSome result ↔ (limit < 524288) }
+    /// Returns this limit of the stack in bytes, if it is too low for a program that needs so many KiB.
+    pub fn of_limit(limit: u64, needed: u32) -> Option<LowStack>
+        ensures { IsSome result ↔ (limit < needed * 1024) }
     {
-        if limit >= NEEDED * KIB {
+        if limit >= u64::from(needed) * KIB {
             return None;
         }
         Some(LowStack {
             kibibytes: limit / KIB,
+            needed,
         })
     }
+}
+
+/// Returns the limit of this process's stack if it is too low for a program that needs so many KiB. One that can't be read
+/// isn't.
+pub fn low_stack(needed: u32) -> Option<LowStack> {
+    LowStack::of_limit(stack_limit(), needed)
 }
 
 /// Whether this process has the stack that a daemon needs. If its stack is limited to less, that is written to `err`. A
 /// limit that can't be read passes.
 pub fn has_stack<E: Lines>(err: &mut E) -> bool {
-    let Some(low) = LowStack::of_limit(stack_limit()) else {
+    let Some(low) = low_stack(DAEMON_STACK) else {
         return true;
     };
     let _ = writeln!(err.begin(Level::Error), "{low}");

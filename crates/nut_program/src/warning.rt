@@ -72,6 +72,6 @@ pub fn readable_file<C: ConfFile>(
 /// Writes a warning, if there is one. A warning that can't be written is dropped.
 pub fn warn<T: Display + Drop, E: Lines>(warning: Option<T>, err: &mut E) {
     if let Some(warning) = warning {
-        let _ = writeln!(err.begin(Level::Warning), "warning: {warning}");
+        let _ = writeln!(err.begin(Level::Warning), "{warning}");
     }
 }

@@ -4,6 +4,7 @@ use nut_conf::FaultKind;
 use nut_log::Lines;
 use nut_program::{Failure, FileFault, OwnFault};
 use nut_server_loop::Stream;
+use std::alloc::Global;
 use std::fmt;
 use std::io::Write;
 
@@ -74,12 +75,13 @@ pub fn ups_failure(fault: FaultKind) -> Failure<UpsdFault> {
 
 /// Returns the exit status of upsd: 0, or that of a failure, which is told.
 pub fn exit_status<O: Write, E: Lines>(
+    alloc: Global,
     served: Result<(), Failure<UpsdFault>>,
     out: &mut O,
     err: &mut E,
 ) -> u8 {
     match served {
         Ok(()) => 0,
-        Err(failure) => failure.tell_of_nuts(out, err),
+        Err(failure) => failure.tell_of_nuts(alloc, None, out, err),
     }
 }

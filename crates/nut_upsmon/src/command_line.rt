@@ -9,7 +9,7 @@ use std::alloc::{Alloc, AllocError, Global};
 use std::convert::AsStr;
 use std::env::Env;
 
-/// The command lines that upsmon takes. clap's own usage would have all options in one line.
+/// The forms of upsmon's command line. clap's own usage would have all options in one line.
 const USAGE: &str =
     "upsmon [--conf <DIR>] [-q]\n       upsmon --check [--conf <DIR>]\n       upsmon --check [--delay <DIR=SECONDS>]... <DIR>...\n       upsmon --fsd [--conf <DIR>]\n       upsmon -K [--conf <DIR>]";
 
@@ -44,16 +44,12 @@ pub struct Order<'a> {
 ///
 /// # Errors
 ///
-/// `NutsCommand` if they have NUT's option `-c`; `CommandLine` if clap refuses them, or they ask for the help or the
-/// version; `Memory` if memory cannot be allocated.
+/// `CommandLine` if clap refuses them, or they ask for the help or the version; `Memory` if memory cannot be allocated.
 pub fn order_of<'a, R: Env + Alloc, S: AsStr>(
     rt: &R,
     alloc: Global,
     words: &'a [S],
 ) -> Result<Order<'a>, Failure<UpsmonFault>> {
-    if words.iter().any(|word| word.as_str().starts_with("-c")) {
-        return Err(Failure::Own(UpsmonFault::NutsCommand));
-    }
     let matches = upsmon_command(alloc)?.try_get_matches_from(words)?;
     match order_by(rt, alloc, &matches) {
         Ok(order) => Ok(order),
@@ -119,10 +115,10 @@ fn upsmon_command<'a>(alloc: Global) -> Result<Command<'a>, AllocError> {
 /// Adds the arguments, in the order in which the help names them.
 fn add_args<'a>(alloc: Global, args: &mut Vec<Arg<'a>>) -> Result<(), AllocError> {
     args.push(conf_of_upsmon(alloc))?;
-    args.push(quiet_option(alloc, "Tell nothing of UPSes and servers that come and go"))?;
+    args.push(quiet_option(alloc, "Report no UPSes and servers that come and go"))?;
     args.push(check_option(
         alloc,
-        "Watch nothing: say the first fault of upsmon.conf, or how soon this machine stops",
+        "Report the first fault of upsmon.conf, or how soon this machine shuts down and what would prevent it, and exit",
     ))?;
     args.push(machines(alloc)?)?;
     args.push(delay(alloc)?)?;
@@ -135,7 +131,7 @@ fn add_args<'a>(alloc: Global, args: &mut Vec<Arg<'a>>) -> Result<(), AllocError
 
 fn conf_of_upsmon<'a>(alloc: Global) -> Arg<'a> {
     Arg::new(alloc, "conf").long("conf").value_name("DIR").help(
-        "The folder of upsmon.conf; unless given, that of NUT_CONFPATH or /etc/nut",
+        "The directory of upsmon.conf [default: that of NUT_CONFPATH, or /etc/nut]",
     )
 }
 
@@ -145,7 +141,7 @@ fn machines<'a>(alloc: Global) -> Result<Arg<'a>, AllocError> {
         .action(ArgAction::Append)
         .num_args(1..)
         .help(
-            "With --check: the folders of upsmon.conf of each machine of a room, to say what the room needs",
+            "With --check: the directories of the upsmon.conf of each machine of a room, to report what the room needs",
         )
         .requires_arg("check")?
         .conflicts_with("conf")
@@ -156,7 +152,9 @@ fn delay<'a>(alloc: Global) -> Result<Arg<'a>, AllocError> {
         .long("delay")
         .value_name("DIR=SECONDS")
         .action(ArgAction::Append)
-        .help("The longest time for an answer of the server on the machine of DIR; 2 unless given")
+        .help(
+            "With --check DIR: how long the server takes at most to answer the machine of DIR [default: 2]",
+        )
         .requires_arg("machines")
 }
 
@@ -164,7 +162,7 @@ fn force<'a>(alloc: Global) -> Result<Arg<'a>, AllocError> {
     Arg::new(alloc, "fsd")
         .long("fsd")
         .action(ArgAction::SetTrue)
-        .help("Watch nothing: force the shutdown of the UPSes of the primary MONITOR lines")
+        .help("Force the shutdown of the UPSes of the primary MONITOR lines, and exit")
         .conflicts_with("check")
 }
 
@@ -172,7 +170,7 @@ fn kill_power<'a>(alloc: Global) -> Result<Arg<'a>, AllocError> {
     Arg::new(alloc, "killpower")
         .short('K')
         .action(ArgAction::SetTrue)
-        .help("Watch nothing: the status is 0 if POWERDOWNFLAG is set, else 1")
+        .help("Exit with status 0 if POWERDOWNFLAG is set, else 1")
         .conflicts_with("quiet")?
         .conflicts_with("check")?
         .conflicts_with("fsd")

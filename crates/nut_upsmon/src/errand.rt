@@ -47,17 +47,17 @@ impl fmt::Display for Shortfall {
             Shortfall::Failed(_, failure) => write!(f, "{}", text_of(failure.reason())),
             Shortfall::Untold(Failure::Refused(name)) => write!(
                 f,
-                "its machines aren't told: {}; they stop once the driver is back",
+                "its machines don't hear of it: {}; they shut down once the driver is back",
                 text_of(name.as_bytes())
             ),
             Shortfall::Untold(failure) => write!(
                 f,
-                "whether its machines are told isn't known: {}",
+                "it is unknown whether its machines hear of it: {}",
                 text_of(failure.reason())
             ),
             Shortfall::Unshown(status) => write!(
                 f,
-                "its machines aren't told: its status is {}",
+                "its machines don't hear of it: its status is {}",
                 text_of(status.as_bytes().trim_ascii())
             ),
         }
@@ -98,7 +98,19 @@ impl Errand {
         match asked {
             Ok(()) if self == Errand::Force => look_at_status(clock, alloc, ups, stream),
             Ok(()) => Ok(()),
-            Err(failure) => Err(Shortfall::Failed(last_query(stream.asked()), failure)),
+            Err(failure) => Err(Shortfall::Failed(self.last_query(stream.asked()), failure)),
+        }
+    }
+
+    /// Returns the name of the last of these queries of it.
+    fn last_query(self, asked: &[u8]) -> &'static str {
+        match asked.iter().filter(|byte| **byte == b'\n').count() {
+            1 => "USERNAME",
+            2 => "PASSWORD",
+            _ => match self {
+                Errand::Force => "FSD",
+                Errand::LogIn => "LOGIN",
+            },
         }
     }
 }
@@ -122,17 +134,6 @@ fn look_at_status(
 fn shows_forced(status: &[u8]) -> bool {
     let mut flags = status.split(|byte| byte.is_ascii_whitespace());
     flags.any(|flag| flag == FORCED)
-}
-
-/// Returns the name of the last of these queries.
-fn last_query(asked: &[u8]) -> &'static str {
-    match asked.iter().filter(|byte| **byte == b'\n').count() {
-        1 => "USERNAME",
-        2 => "PASSWORD",
-        3 => "LOGIN",
-        4 => "PRIMARY",
-        _ => "FSD",
-    }
 }
 
 /// What was said to a server and by it.

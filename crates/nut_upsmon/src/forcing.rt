@@ -66,14 +66,14 @@ impl<'e> Teller for Report<'e> {
     fn tell(&mut self, line: &Monitored, ended: &Result<(), Shortfall>) {
         let ups = text_of(&line.written);
         let _ = match ended {
-            Ok(()) => writeln!(self.out.mark(Level::Notice), "{ups}: FSD set"),
+            Ok(()) => writeln!(self.out.mark(Level::Notice), "UPS {ups}: FSD set"),
             Err(shortfall @ (Shortfall::Untold(_) | Shortfall::Unshown(_))) => writeln!(
                 self.told.begin(Level::Error),
-                "{ups}: FSD set, but {shortfall}"
+                "UPS {ups}: FSD set, but {shortfall}"
             ),
             Err(shortfall) => writeln!(
                 self.told.begin(Level::Error),
-                "{ups}: FSD failed: {shortfall}"
+                "UPS {ups}: FSD failed: {shortfall}"
             ),
         };
     }
@@ -92,7 +92,7 @@ fn tell_supplies(config: &MonConfig, forced: &[bool], told: &mut ErrorLines) {
     if left < needed {
         return;
     }
-    let _ = write!(told.begin(Level::Warning), "this machine goes on: ");
+    let _ = write!(told.begin(Level::Warning), "this machine keeps running: ");
     if needed == 0 {
         let _ = writeln!(told, "MINSUPPLIES is 0");
         return;

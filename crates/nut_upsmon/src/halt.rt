@@ -47,7 +47,10 @@ impl fmt::Display for HaltFault {
     fn fmt<W: fmt::Write>(&self, f: &mut fmt::Formatter<W>) -> fmt::Result {
         match self {
             HaltFault::NotStarted(error) => write!(f, "SHUTDOWNCMD cannot be started: {error}"),
-            HaltFault::NotWaited(error) => write!(f, "SHUTDOWNCMD cannot be waited for: {error}"),
+            HaltFault::NotWaited(error) => write!(
+                f,
+                "cannot wait for SHUTDOWNCMD, result unknown: {error}"
+            ),
             HaltFault::Ended(status) => match status.code() {
                 Some(code) => write!(f, "SHUTDOWNCMD ended with status {code}"),
                 None => write!(f, "SHUTDOWNCMD ended by a {status}"),
@@ -283,7 +286,7 @@ fn tell_found(path: &str, found: FlagState, err: &mut ErrorLines) {
         ),
         FlagState::Foreign => writeln!(
             err.begin(Level::Warning),
-            "warning: POWERDOWNFLAG {path} {}",
+            "POWERDOWNFLAG {path} {}",
             FlagFault::Foreign
         ),
     };
@@ -293,7 +296,7 @@ fn tell_found(path: &str, found: FlagState, err: &mut ErrorLines) {
 fn tell_failed(what: &str, path: &str, error: &io::Error, err: &mut ErrorLines) {
     let _ = writeln!(
         err.begin(Level::Warning),
-        "warning: POWERDOWNFLAG {path} cannot be {what}: {error}"
+        "POWERDOWNFLAG {path} cannot be {what}: {error}"
     );
 }
 
@@ -338,7 +341,7 @@ fn replace_shell<R: Processes>(
 fn tell_not_ready(error: &io::Error, err: &mut ErrorLines) {
     let _ = writeln!(
         err.begin(Level::Warning),
-        "warning: the shell that is to run SHUTDOWNCMD cannot be started yet: {error}"
+        "cannot start SHUTDOWNCMD's shell yet: {error}"
     );
 }
 
@@ -346,7 +349,7 @@ fn tell_not_ready(error: &io::Error, err: &mut ErrorLines) {
 fn tell_stopped(err: &mut ErrorLines) {
     let _ = writeln!(
         err.begin(Level::Warning),
-        "warning: the shell that is to run SHUTDOWNCMD was stopped by a signal: it is sent SIGCONT"
+        "SHUTDOWNCMD's shell is suspended; sending SIGCONT"
     );
 }
 
@@ -354,7 +357,7 @@ fn tell_stopped(err: &mut ErrorLines) {
 fn tell_replaced(err: &mut ErrorLines) {
     let _ = writeln!(
         err.begin(Level::Warning),
-        "warning: there was no shell to run SHUTDOWNCMD, since it was ended or not started: another one waits now"
+        "SHUTDOWNCMD's shell was missing (killed or not started); replaced"
     );
 }
 

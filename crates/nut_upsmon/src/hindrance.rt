@@ -70,7 +70,7 @@ fn can_run(files: &impl Files, directive: &str, command: &[u8], err: &mut ErrorL
     if !is_program {
         let _ = writeln!(
             err.begin(Level::Warning),
-            "warning: {directive}: {path} isn't a program"
+            "{directive}: {path} isn't a program"
         );
     }
     is_program
@@ -91,10 +91,7 @@ impl<'e> Teller for Report<'e> {
     fn tell(&mut self, line: &Monitored, ended: &Result<(), Shortfall>) {
         if let Err(shortfall) = ended {
             let ups = text_of(&line.written);
-            let _ = writeln!(
-                self.err.begin(Level::Warning),
-                "warning: UPS {ups}: {shortfall}"
-            );
+            let _ = writeln!(self.err.begin(Level::Warning), "UPS {ups}: {shortfall}");
         }
     }
 }

@@ -16,6 +16,7 @@ mod machine;
 mod monitor;
 mod notifier;
 mod notify_command;
+mod nuts_option;
 mod power_down_flag;
 mod process_state;
 mod reloader;

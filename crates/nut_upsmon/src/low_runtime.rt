@@ -161,7 +161,7 @@ impl<'r, R: Processes> LowRuntimes<'r, R> {
         if seconds < self.needed {
             let _ = writeln!(
                 err.begin(Level::Warning),
-                "warning: UPS {}: battery.runtime.low is {seconds}, and this machine stops within {} s of OB LB",
+                "UPS {}: battery.runtime.low is {seconds} s, but this machine may shut down as late as {} s after OB LB",
                 ups.name,
                 self.needed
             );
@@ -248,7 +248,7 @@ fn ask_all<R: Processes>(
 fn tell_late(ups: &Ups, err: &mut ErrorLines) {
     let _ = writeln!(
         err.begin(Level::Warning),
-        "warning: UPS {}: no answer within {ANSWER_ON_BATTERY} s: {LATE_ANSWERS}",
+        "UPS {}: no answer within {ANSWER_ON_BATTERY} s: {LATE_ANSWERS}",
         ups.name
     );
 }
@@ -257,7 +257,7 @@ fn tell_late(ups: &Ups, err: &mut ErrorLines) {
 fn tell_unknown(ups: &Ups, err: &mut ErrorLines) {
     let _ = writeln!(
         err.begin(Level::Warning),
-        "UPS {}: battery.runtime.low isn't known",
+        "UPS {}: battery.runtime.low is unknown",
         ups.name
     );
 }

@@ -73,7 +73,7 @@ where
     match LossyLines::new(rt, alloc, streams.err) {
         Ok(mut err) => match run(rt, alloc, words, streams, &mut err) {
             Ok(status) => status,
-            Err(failure) => tell_failure(failure, streams.out, &mut err),
+            Err(failure) => tell_failure(alloc, words, failure, streams.out, &mut err),
         },
         Err(error) => refuse_start(&error, &mut streams.err),
     }
@@ -130,7 +130,7 @@ fn look_for_flag<R: Files>(
     files: &R,
     alloc: Global,
     folder: &str,
-    out: LogStream<Stdout>,
+    mut out: LogStream<Stdout>,
     err: &mut ErrorLines,
 ) -> Result<u8, Failure<UpsmonFault>> {
     let flag = match read_config(files, alloc, folder) {
@@ -139,7 +139,7 @@ fn look_for_flag<R: Files>(
             if !is_of_lines(&failure) {
                 return Err(failure);
             }
-            tell_failure(failure, out, err);
+            failure.tell(&mut out, err);
             last_flag_in(files, alloc, folder)?
         }
     };

@@ -36,7 +36,7 @@ pub enum CallFault {
 impl fmt::Display for CallFault {
     fn fmt<W: fmt::Write>(&self, f: &mut fmt::Formatter<W>) -> fmt::Result {
         match self {
-            CallFault::TooMany => write!(f, "is not run: {RUNNING_MAX} of it are running"),
+            CallFault::TooMany => write!(f, "skipped: {RUNNING_MAX} still running"),
             CallFault::NotStarted(error) => write!(f, "cannot be started: {error}"),
         }
     }

@@ -48,7 +48,7 @@ pub enum FlagFault {
 impl fmt::Display for FlagFault {
     fn fmt<W: fmt::Write>(&self, f: &mut fmt::Formatter<W>) -> fmt::Result {
         match self {
-            FlagFault::Foreign => write!(f, "is not a flag of upsmon, and is left as it is"),
+            FlagFault::Foreign => write!(f, "was not written by upsmon; left unchanged"),
             FlagFault::NotWritten(error) => write!(f, "cannot be written: {error}"),
         }
     }

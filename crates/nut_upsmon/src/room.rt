@@ -156,7 +156,7 @@ impl<'a> fmt::Display for Finding<'a> {
             ),
             Finding::Unneeded(primary) => write!(
                 f,
-                "{primary}: it goes on without the UPSes of which it is the primary: it forces no shutdown while their battery is low"
+                "{primary}: keeps running without the UPSes of which it is the primary: it forces no shutdown while their battery is low"
             ),
             Finding::Unfollowed(primary) => write!(
                 f,

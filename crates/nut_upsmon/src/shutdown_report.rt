@@ -39,9 +39,10 @@ fn tell_left_of(line: &Monitored, known: Known, err: &mut ErrorLines) {
             "shutdown: FSD on UPS {name} was not accepted"
         );
     } else if others > 0 {
+        let clients = if others == 1 { "client" } else { "clients" };
         let _ = writeln!(
             err.begin(Level::Warning),
-            "shutdown: other clients that are still logged in to UPS {name}: {others}"
+            "shutdown: no longer waiting for {others} {clients} logged in to UPS {name}"
         );
     }
 }

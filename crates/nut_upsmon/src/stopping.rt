@@ -30,9 +30,9 @@ impl fmt::Display for Stopping {
         match self {
             Stopping::Within { seconds, delay } => write!(
                 f,
-                "stops within {seconds} s of OB LB if each answer comes within {delay} s"
+                "shuts down within {seconds} s of OB LB if answers take at most {delay} s"
             ),
-            Stopping::Never => write!(f, "never stops this machine: MINSUPPLIES is 0"),
+            Stopping::Never => write!(f, "never shuts down: MINSUPPLIES is 0"),
         }
     }
 }
@@ -58,13 +58,13 @@ impl Stopping {
         }
     }
 
-    /// Writes it as a line.
+    /// Writes it as a line about this machine.
     ///
     /// # Errors
     ///
     /// That of the writer.
     pub fn tell<W: Lines>(self, out: &mut W) -> io::Result<()> {
-        writeln!(out.begin(Level::Info), "{self}")
+        writeln!(out.begin(Level::Info), "this machine {self}")
     }
 }
 

@@ -1,9 +1,12 @@
 //! The faults that only upsmon has.
 
 use crate::halt::HaltFault;
+use crate::nuts_option::way_of;
 use nut_log::LogStream;
 use nut_poll::ErrorLines;
-use nut_program::{Failure, FileFault, OwnFault, UNKNOWN_OPTION};
+use nut_program::{Failure, FileFault, OwnFault};
+use std::alloc::Global;
+use std::convert::AsStr;
 use std::fmt;
 use std::io::Stdout;
 
@@ -14,8 +17,6 @@ pub enum UpsmonFault {
     File(FileFault<'static>),
     /// This word isn't `FOLDER=SECONDS`, or names a folder that isn't checked.
     BadDelay(String),
-    /// The command line has the option `-c` by which NUT's upsmon commands one that runs.
-    NutsCommand,
     /// No MONITOR line of upsmon.conf is primary, so this machine may force no shutdown.
     NoPrimary,
     /// The machine wasn't halted.
@@ -28,11 +29,7 @@ impl fmt::Display for UpsmonFault {
             UpsmonFault::File(fault) => write!(f, "{fault}"),
             UpsmonFault::BadDelay(word) => write!(
                 f,
-                "--delay {word}: DIR=SECONDS is meant, with a DIR that is checked"
-            ),
-            UpsmonFault::NutsCommand => write!(
-                f,
-                "-c isn't an option here: upsmon --fsd stands for -c fsd, systemctl reload mulgefa-upsmon for -c reload"
+                "--delay {word}: expected DIR=SECONDS, with a DIR that is checked"
             ),
             UpsmonFault::NoPrimary => write!(f, "upsmon.conf: no MONITOR line is primary"),
             UpsmonFault::Halt(fault) => write!(f, "{fault}"),
@@ -44,7 +41,6 @@ impl OwnFault for UpsmonFault {
     fn remark(&self) -> Option<&str> {
         match self {
             UpsmonFault::File(fault) => fault.remark(),
-            UpsmonFault::NutsCommand => Some(UNKNOWN_OPTION),
             UpsmonFault::BadDelay(_) | UpsmonFault::NoPrimary | UpsmonFault::Halt(_) => None,
         }
     }
@@ -62,15 +58,13 @@ impl From<HaltFault> for Failure<UpsmonFault> {
     }
 }
 
-/// Tells a failure. Returns the exit status of a program that ends with it.
-pub fn tell_failure(
+/// Tells a failure by which upsmon ends that was started with these words. Returns the exit status.
+pub fn tell_failure<S: AsStr>(
+    alloc: Global,
+    words: &[S],
     failure: Failure<UpsmonFault>,
     mut out: LogStream<Stdout>,
     told: &mut ErrorLines,
 ) -> u8 {
-    let status = failure.tell_of_nuts(&mut out, told);
-    match failure {
-        Failure::Own(UpsmonFault::NutsCommand) => 2,
-        _ => status,
-    }
+    failure.tell_of_nuts(alloc, way_of(words), &mut out, told)
 }

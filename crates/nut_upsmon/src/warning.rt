@@ -26,7 +26,10 @@ impl fmt::Display for Warning {
     fn fmt<W: fmt::Write>(&self, f: &mut fmt::Formatter<W>) -> fmt::Result {
         match self {
             Warning::NoShutdownCommand => {
-                write!(f, "no SHUTDOWNCMD is set: nothing will stop this machine")
+                write!(
+                    f,
+                    "SHUTDOWNCMD is not set: nothing will shut down this machine"
+                )
             }
             Warning::SlowerThanDeadTime {
                 poll_freq,

@@ -96,9 +96,9 @@ pub record RunExamples : Type 0 where
   pub still_pending : ending (run_of set_v (numbered ++ times 10 (codes "TRACKING 7 PENDING\n"))).standing ≡ Err failures.ConnectionLost
   pub untracked : run_of set_v (codes "OK\nOK\nOK\nOK\n") ≡ record { queries = set_queries; standing = Failed failures.Untracked }
   pub never_tracks : run_of set_v (codes "OK\nOK\nERR INVALID-ARGUMENT\n") ≡ record { queries = codes "USERNAME a\nPASSWORD p\nSET TRACKING ON\n"; standing = Failed (failures.Refused (codes "INVALID-ARGUMENT")) }
-  pub forced : run_of forces_u (codes "OK\nOK\nOK\nOK PRIMARY-GRANTED\nOK FSD-SET\n") ≡ record { queries = codes "USERNAME a\nPASSWORD p\nLOGIN u\nPRIMARY u\nFSD u\n"; standing = Printed [] }
-  pub no_primary : run_of forces_u (codes "OK\nOK\nOK\nERR ACCESS-DENIED\nOK\n") ≡ record { queries = codes "USERNAME a\nPASSWORD p\nLOGIN u\nPRIMARY u\n"; standing = Failed (failures.Refused (codes "ACCESS-DENIED")) }
-  pub not_answered : ending (run_of forces_u (codes "OK\nOK\nOK\nOK\nOK FSD-SET")).standing ≡ Err failures.ConnectionLost
+  pub forced : run_of forces_u (codes "OK\nOK\nOK FSD-SET\n") ≡ record { queries = codes "USERNAME a\nPASSWORD p\nFSD u\n"; standing = Printed [] }
+  pub no_right : run_of forces_u (codes "OK\nOK\nERR ACCESS-DENIED\nOK\n") ≡ record { queries = codes "USERNAME a\nPASSWORD p\nFSD u\n"; standing = Failed (failures.Refused (codes "ACCESS-DENIED")) }
+  pub not_answered : ending (run_of forces_u (codes "OK\nOK\nOK FSD-SET")).standing ≡ Err failures.ConnectionLost
   -- Every run over a stream with these bytes ends so, unless memory or the connection is lacking.
   pub decided : (result : Result (List ℕ) Failure) (left before after : Option (List ℕ)) → (e : Ends value_of_v result (Some (codes "VAR u v \"1 2\"\nERR DATA-STALE\nVA")) left before after)
       → (result ≡ Err failures.Memory)

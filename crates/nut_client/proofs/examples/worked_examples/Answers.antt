@@ -59,7 +59,7 @@ returns-clause-runs c = record {
   untracked = refl;
   never_tracks = refl;
   forced = refl;
-  no_primary = refl;
+  no_right = refl;
   not_answered = refl;
   decided = λ result left before after ends. all_bytes _ _ _ left before after ends;
 }
