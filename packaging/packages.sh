@@ -166,7 +166,7 @@ make_tar() {
     done
     install -m 644 "$work/programs/third-party-notices" "$tree/bin/third-party-notices"
     for file in install.sh configure.sh completions.bash mulgefa-check mulgefa-nut-drivers until-ready mulgefa.sysusers \
-        mulgefa-upsd.service mulgefa-upsmon.service mulgefa-dummy-ups@.service; do
+        mulgefa-upsd.service mulgefa-upsmon.service mulgefa-dummy-ups@.service nut-drivers.conf; do
         install -m 644 "packaging/$file" "$tree/packaging/$file"
     done
     built "$tree/packaging/mulgefa-check"

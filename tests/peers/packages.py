@@ -145,7 +145,7 @@ class Tests:
 
     def test_drivers_of_nut_stay(self):
         """A driver of NUT, with a directive that isn't known here, from a package made of NUT's own. It needs no device,
-        since it copies what another driver tells."""
+        since it copies what another driver tells. upsd reads the same ups.conf, without what is the driver's."""
         folder = self.nut_installed("drivers")
         with open(os.path.join(folder, "etc/nut/ups.conf"), "a") as file:
             file.write("[copy]\n  driver = clone\n  port = dummy-ups-su700\n  pollinterval = 1\n")
@@ -153,19 +153,23 @@ class Tests:
         try:
             machine.wait_for("upsc copy ups.status 2> /dev/null", "OL", 90)
             before = machine.read("/etc/nut/ups.conf")
+            left = ["ups.conf: left to the drivers: maxretry", "ups.conf: left to the driver of copy: pollinterval"]
             check, _, drivers, exchange = shown_commands("Drivers", 0)
             machine.do(check)
             # there is no network, and what was fetched is kept
             machine.do(drivers.replace("nut-server_", "/var/cache/apt/archives/nut-server_"))
             said = machine.do(exchange)
-            ensure("/etc/nut/upsd.users any more" in said, f"upsd's directory isn't told: {said}")
-            ensure("take it out" not in said and "has no " not in said, f"what apt tells: {said}")
+            ensure("take it out" not in said and "refuses" not in said and "has no " not in said, f"what apt tells: {said}")
             machine.restart()
             machine.wait_for("upsc copy ups.status 2> /dev/null", "OL", 60)
             machine.wait_for("upsc su700 ups.status 2> /dev/null", "OL", 60)
             expect(machine.do("upsc copy driver.name"), "clone\n", "the driver")
             ensure("2.8.0" not in self.version(machine), "this project's server answers")
             expect(machine.read("/etc/nut/ups.conf"), before, "the drivers' ups.conf")
+            expect(machine.run("mulgefa-check"), (0, ""), "mulgefa-check")
+            said = machine.do("journalctl --boot --output cat -t upsd")
+            expect([line for line in said.splitlines() if line.startswith("ups.conf: ")], left, "what the journal names")
+            self.copies_anew(machine)
             expect(machine.do("dpkg --verify mulgefa-nut-drivers"), "", "files that differ")
             machine.wait_for("upsc -c su700", "127.0.0.1")
             self.flag_is_found(machine)
@@ -178,6 +182,22 @@ class Tests:
             machine.wait_for("upsc copy ups.status 2> /dev/null", "OL", 60)
         finally:
             machine.stop()
+
+    def copies_anew(self, machine):
+        """There is one ups.conf to edit: a reload of the unit has upsd read it, and a fault of upsd's own lines fails the reload."""
+        process, before = machine.do("systemctl show -p MainPID mulgefa-upsd"), machine.read("/etc/nut/ups.conf")
+        machine.write("/etc/nut/ups.conf", before + "[more]\n  driver = clone\n  port = x\n  offdelay = 1\n")
+        machine.do("chgrp nut /etc/nut/ups.conf && systemctl reload mulgefa-upsd")
+        machine.wait_for("upsc -l 2> /dev/null", "su700\ncopy\nmore")
+        number = len(before.splitlines()) + 1
+        machine.write("/etc/nut/ups.conf", before + "[more\n")
+        ensure(machine.run("systemctl reload mulgefa-upsd")[0] != 0, "a reload with a fault in a section")
+        ensure(f"ups.conf:{number}: " in machine.do("systemctl status mulgefa-upsd"), "the status shows the line of /etc/nut/ups.conf")
+        machine.write("/etc/nut/ups.conf", before)
+        machine.do("chgrp nut /etc/nut/ups.conf && systemctl reload mulgefa-upsd")
+        machine.wait_for("upsc -l 2> /dev/null", "su700\ncopy")
+        expect(machine.do("systemctl show -p MainPID mulgefa-upsd"), process, "the process of upsd")
+        expect(machine.do("stat -c '%U %G %a' /run/mulgefa /run/mulgefa/upsd.users"), "root nut 750\nroot nut 640\n", "who reads the copy")
 
     def test_driver_that_went_with_nut(self):
         """A machine with one UPS whose driver is NUT's: apt's last lines say that nobody watches it, and what to type, which brings the
@@ -200,20 +220,19 @@ class Tests:
             said = machine.do("apt-get install ./mulgefa-client_*.deb").splitlines()
             gone = f"the UPS eaton has no server and no driver here (both went with nut-server): until they run, {nothing}"
             expect(said[-2], gone, "what apt says last")
-            machine.write("/etc/nut/ups.conf", machine.read("/etc/nut/ups.conf").replace("  pollinterval = 1\n", ""))
+            # here the server can't start, since it refuses a line that the driver needs
             said = machine.do("apt-get install ./mulgefa-server_*.deb").splitlines()
             gone = f'the UPS eaton has no driver (usbhid-ups is NUT\'s, and went with nut-server): until one runs, {nothing}; see from-nut(7), "Drivers"'
             expect(said[-2], gone, "what apt says last but one")
             back = "apt-get download nut-server && mulgefa-nut-drivers nut-server_*.deb && apt-get install ./mulgefa-nut-drivers_*.deb"
             expect(said[-1], f"these bring NUT's drivers back: {back}", "what apt says last")
-            machine.write("/etc/nut/ups.conf", machine.read("/etc/nut/ups.conf") + "  pollinterval = 1\n")
             said = machine.do(back.replace("apt-get download nut-server", "cd made"))
             ensure("has no " not in said, f"what apt says: {said}")
             machine.wait_for("upsc eaton ups.status 2> /dev/null", "OL")
             machine.restart()
             machine.wait_for("upsc eaton ups.status 2> /dev/null", "OL")
             expect(machine.do("systemctl is-active nut-driver@eaton mulgefa-upsd mulgefa-upsmon"), "active\n" * 3, "what runs")
-            ensure("no driver yet" not in machine.do("journalctl --boot -t upsd"), "upsd starts after the driver")
+            ensure("cannot connect to its driver" not in machine.do("journalctl --boot -t upsd"), "upsd starts after the driver")
             said = machine.do("apt-get install --reinstall ./mulgefa-server_*.deb")
             ensure("has no " not in said, f"what apt says of a UPS with a status: {said}")
         finally:
@@ -382,7 +401,7 @@ class Tests:
     def nothing_was_lost_at_the_boot(self, machine):
         """Each program has found the one that it asks at once."""
         said = machine.do("journalctl --boot --output cat --unit mulgefa-upsd --unit mulgefa-upsmon")
-        for words in ("no driver yet", "cannot connect to the server", "lost", "refused"):
+        for words in ("cannot connect", "lost", "refused", "denied"):
             ensure(words not in said, f"{words!r} at a boot: {said}")
 
     def journal_names_the_programs(self, machine):

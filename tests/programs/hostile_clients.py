@@ -37,8 +37,8 @@ GREEDY_MAX_KIB = MOST * (570 + 64 + 32)
 LONG = b"ups.status: OL\n" + b"".join(b"ambient.%d.status: %s\n" % (i, b"x" * 100) for i in range(200))
 STALE = b"ERR DATA-STALE\n"
 SILENT = "upsd: client 127.0.0.1 closed: silent for {} s"
-FULL = "upsd: cannot let a client in: MAXCONN {} is reached"
-MADE_WAY = "upsd: client 127.0.0.1 closed: it isn't logged in, and MAXCONN {} is reached"
+FULL = "upsd: client refused: MAXCONN {} is reached, and all clients are logged in"
+MADE_WAY = "upsd: client 127.0.0.1 closed for another: not logged in, and MAXCONN {} is reached"
 LOG_IN = b"USERNAME mon\nPASSWORD m1\nLOGIN su700\n"
 # why a driver can't listen where another one does, or is about to
 IN_USE = "another driver listens there"

@@ -62,14 +62,9 @@ esac
 """,
 }
 
-# What mulgefa-check says of a driver of NUT's, and, without the folder's name, how upsd gets files of its own.
+# What mulgefa-check says of a driver of NUT's, and of lines that only drivers know.
 GOES = "note: the driver {} is NUT's, and goes with nut-server unless mulgefa-nut-drivers keeps it; see from-nut(7)"
-OWN_DIRECTORY = (
-    "NUT's drivers read ups.conf as it is, so give upsd a directory of its own:",
-    "    mulgefa-check --upsd -w /etc/mulgefa",
-    "    systemctl edit mulgefa-upsd    with the two lines [Service] and Environment=NUT_CONFPATH=/etc/mulgefa",
-    "Nobody then reads upsd.conf and upsd.users any more.",
-)
+REFUSED = "upsd refuses these lines, which NUT's drivers need. With the package mulgefa-nut-drivers it reads a copy without them; see from-nut(7), \"Drivers\""
 
 # Calls of the script that units wait by, in a room whose driver starts late.
 UNTIL_READY = """
@@ -186,6 +181,7 @@ def wanted_files():
     """Returns the files that are installed, with their modes."""
     files = {"lib/sysusers.d/mulgefa.conf": 0o644, "share/bash-completion/completions/nutroom": 0o644}
     files.update({script: 0o755 for script in ("sbin/mulgefa-check", "bin/nutroom", "lib/mulgefa/until-ready")})
+    files["lib/mulgefa/nut-drivers.conf"] = 0o644
     files.update({f"share/mulgefa/{page}": 0o644 for page in ("from-nut.md", "room.md", "room.svg", "third-party-notices")})
     files.update({f"share/mulgefa/rooms/five/{file}": 0o644 for file in ROOM_FILES})
     modules = os.listdir(os.path.join(ROOT, "tools", "nutroom_modules"))
@@ -506,10 +502,10 @@ class Tests:
         for name in ("ups.conf", "upsd.conf"):
             os.remove(os.path.join(folder, name))
         expect(self.check(folder), (0, ""), "a machine without a server")
-        none = f"mulgefa-check: {folder}: it has none of ups.conf, upsd.conf and upsd.users\n"
+        none = f"mulgefa-check: {folder}: none of ups.conf, upsd.conf and upsd.users is there\n"
         expect(self.check("--upsd", folder), (2, none), "the server of a machine without one")
         os.remove(os.path.join(folder, "upsmon.conf"))
-        expect(self.check(folder), (2, f"mulgefa-check: {folder}: it has none of NUT's files\n"), "a folder of others")
+        expect(self.check(folder), (2, f"mulgefa-check: {folder}: none of NUT's files is there\n"), "a folder of others")
         for words in (("--none",), ("-w",), (folder, folder), ("-i", "-w", folder), ("-w", folder, folder), (os.path.join(folder, "none"),)):
             expect(self.check(*words)[0], 2, f"mulgefa-check {words}")
 
@@ -555,13 +551,16 @@ class Tests:
         users = "[mon]\n Password = secret1\n pasword = secret2\n password secret3\n upsmon master\n"
         monitors = 'Monitor a@h 1 mon secret4 master\nMONTOR a@h 1 mon secret5 primary\nMONITOR a@h 1 mon "secret 6"\nCERTIDENT a "secret7"\n'
         monitors += "MONITOR a@h 1 mon \\\nsecret9 primary\nMONITOR a@h secretA primary\nMONITOR a@h mon secretB primary # secretC\n"
-        drivers = "[r]\n driver = snmp-ups\n community = secretD\n authPassword=secretE\n# \u00fc password = secretF\n"
-        folder = self.nuts_files("secrets", upsd_users=users, upsd_conf='certident "a b" "secret8"\n', upsmon_conf=monitors, ups_conf=drivers)
-        status, said = self.check(folder)
-        expect((status, "secret" in said.replace(folder, "")), (1, False), said)
-        shown = [line.split(": ", 2)[2] for line in said.splitlines() if line.startswith(folder)]
-        wanted = {"Password = ..", "pasword = ..", "password ..", "upsmon master", "certident ..", "community = ..", "authPassword = ..", "# .."}
-        expect(wanted - set(shown), set(), f"what it shows: {shown}")
+        drivers = "[r]\n driver = {}\n community = secretD\n authPassword=secretE\n# \u00fc password = secretF\n authPassword\nsecretG\n"
+        taken_out, left = {"community = ..", "authPassword = ..", "# .."}, {"community, authPassword, line 6, line 7"}
+        for driver, of_ups_conf in (("dummy-ups", taken_out), ("snmp-ups", left)):
+            ups_conf = drivers.format(driver) if driver == "snmp-ups" else drivers.format(driver).replace("secretG\n", "")
+            folder = self.nuts_files(f"hidden {driver}", upsd_users=users, upsd_conf='certident "a b" "secret8"\n', upsmon_conf=monitors, ups_conf=ups_conf)
+            status, said = self.check(folder)
+            expect((status, "secret" in said.replace(folder, "")), (1, False), said)
+            shown = [line.split(": ", 2)[2] for line in said.splitlines() if line.startswith(folder)]
+            wanted = {"Password = ..", "pasword = ..", "password ..", "upsmon master", "certident .."} | of_ups_conf
+            expect(wanted - set(shown), set(), f"what it shows: {shown}")
 
     def test_check_without_what_it_reads(self):
         folder = self.nuts_files("unreadable")
@@ -572,7 +571,7 @@ class Tests:
         os.makedirs(alone)
         shutil.copy(os.path.join(ROOT, "packaging/mulgefa-check"), alone)
         done = subprocess.run([os.path.join(alone, "mulgefa-check"), self.nuts_files("for-none")], stdin=subprocess.DEVNULL, capture_output=True, timeout=60)
-        said = b"mulgefa-check: no program is there that reads these files\n"
+        said = b"mulgefa-check: neither upsd nor upsmon is installed beside this program\n"
         expect((done.returncode, done.stdout, done.stderr), (2, b"", said), "no program")
 
     def test_check_in_a_full_folder(self):
@@ -652,14 +651,7 @@ class Tests:
             upsmon_conf='RUN_AS_USER nut\nMONITOR apc 1 mon "s3 cret" master # mine\nMONITOR apc@rack 0 guest m2 slave\nNOTIFYCMD /sbin/upssched\n',
         )
         before = state_of(folder)
-        leave = "    leave it to NUT's drivers, and give upsd a directory of its own, as said below"
         told = [
-            "ups.conf:1: OutsideSection: maxretry = 3",
-            leave,
-            "ups.conf:5: UnknownDirective: vendorid = 051d",
-            leave,
-            "ups.conf:6: UnknownDirective: override.battery.charge.low = 30",
-            leave,
             "upsd.users:3: UnknownWord: actions = set",
             "    change it to: actions = SET",
             "upsd.users:4: BadForm: upsmon = master",
@@ -680,19 +672,15 @@ class Tests:
             "upsmon.conf:3: UnknownWord: MONITOR apc@rack 0 .. slave",
             "    change it to: MONITOR apc@rack 0 .. secondary",
             "note: upssched is NUT's, and isn't part of these packages; see from-nut(7)",
-            *OWN_DIRECTORY,
+            "ups.conf: left to the drivers: maxretry",
+            "ups.conf: left to the driver of apc: vendorid, override.battery.charge.low",
+            REFUSED,
         ]
         status, said = self.check(folder)
         expect((status, said.replace(f"{folder}/", "").splitlines()), (1, told), "what is told")
-        status, said = self.check("-i", folder)
-        kept = f"nothing is written: drivers of NUT want {folder}/ups.conf as it is; -w writes another directory for upsd"
-        expect((status, said.splitlines()[-1]), (1, kept), "NUT's drivers keep their file")
-        expect(state_of(folder), before, "what it changed")
-
         to = os.path.join(self.folder, "written")
         status, said = self.check("-w", to, folder)
-        dead = f"nobody reads {folder}/upsd.conf and {folder}/upsd.users any more once upsd reads {to}"
-        expect((status, said.splitlines()[-1]), (0, dead), "mulgefa-check -w")
+        expect((status, said.splitlines()[-1]), (0, f"{folder}/{told[-2]}"), "mulgefa-check -w")
         expect(self.check(to)[0], 0, "mulgefa-check of what it wrote")
         written = {path: (it[0], it[3].decode()) for path, it in state_of(to).items()}
         wanted = {
@@ -702,6 +690,14 @@ class Tests:
             "upsmon.conf": (0o600, '\nMONITOR apc@localhost 1 mon "s3 cret" primary # mine\nMONITOR apc@rack 0 guest m2 secondary\nNOTIFYCMD /sbin/upssched\n'),
         }
         expect((written, state_of(folder)), (wanted, before), "what it wrote")
+
+        status, said = self.check("-i", folder)
+        expect((status, said.splitlines()[-1]), (0, f"{folder}/upsmon.conf is changed; what it was is {folder}/upsmon.conf.nut"), "mulgefa-check -i")
+        written = {path: it[3].decode() for path, it in state_of(folder).items() if path in wanted}
+        wanted = {**{path: it[1] for path, it in wanted.items()}, "ups.conf": before["ups.conf"][3].decode()}
+        expect(written, wanted, "what it wrote in place: NUT's drivers keep their file")
+        status, said = self.check(folder)
+        expect((status, said.splitlines()[-1]), (1, REFUSED), "what is still refused")
 
     def test_check_splits_lists(self):
         """A line for each word, which NUT takes in one. The numbers stay those of the file that is read."""
@@ -756,7 +752,7 @@ class Tests:
         folder = self.nuts_files("dummy of NUT", ups_conf="maxretry = 3\n[a]\n driver = dummy-ups\n mode = dummy-loop\n override.ups.id = x\n")
         before = state_of(folder)
         status, said = self.check("--upsd", "-i", folder)
-        kept = f"nothing is written: drivers of NUT want {folder}/ups.conf as it is; -w writes another directory for upsd"
+        kept = f"nothing was written: NUT's drivers need {folder}/ups.conf as it is; -w writes another directory for upsd"
         expect((status, said.splitlines()[-1], state_of(folder)), (1, kept, before), "what it changed")
         folder = self.nuts_files("kept drivers", ups_conf="[a]\n driver = usbhid-ups\n[b]\n driver = snmp-ups\n")
         notes = [GOES.format(driver) + "\n" for driver in ("snmp-ups", "usbhid-ups")]
@@ -769,6 +765,39 @@ class Tests:
                 pass
         said = subprocess.run([os.path.join(prefix, "sbin/mulgefa-check"), "--upsd", folder], stdin=subprocess.DEVNULL, capture_output=True, timeout=60)
         expect((said.returncode, said.stdout.decode()), (0, notes[0]), "with one of them in it")
+        folder = self.nuts_files("left lines", ups_conf="maxretry = 3\n[a]\n driver = usbhid-ups\n vendorid = 051d\n")
+        said = subprocess.run([os.path.join(prefix, "sbin/mulgefa-check"), "--upsd", folder], stdin=subprocess.DEVNULL, capture_output=True, timeout=60)
+        expect((said.returncode, said.stdout), (0, b""), "lines that upsd's unit leaves to them")
+
+    def test_check_gives_upsd_its_view(self):
+        """What upsd's unit calls where NUT's drivers read ups.conf: only upsd's lines of it are copied, in their places, and the other
+        files as they are, each time anew. No line is left out without a word, and no password is shown."""
+        ups = "\ufeffmaxretry = 3\n# \u00fc\n# plain \\\n[eaton]\n driver = usbhid-ups # ours\n vendorid=051d\n override.ups.id = \\\n  hunter2\n"
+        ups += ' "desc" = "A" \\\n "B"\n ignorelb\nhunter3\n\n[ apc ] # x\nport = auto\ndescr = \\\n[last]\n'
+        view = "\n\n# plain \\\n[eaton]\n driver = usbhid-ups # ours\n\n\n\n" + ' "desc" = "A" \\\n "B"\n\n\n\n[ apc ] # x\nport = auto\n\n[last]\n'
+        told = ["left to the drivers: maxretry", "left to the driver of eaton: vendorid, override.ups.id, line 8, line 11, line 12", "left to the driver of apc: descr"]
+        others = {"upsd.conf": "CERTFILE x\n", "upsd.users": "[a]\n actions = set\n"}
+        folder = self.nuts_files("for upsd", ups_conf=ups, upsd_conf=others["upsd.conf"], upsd_users=others["upsd.users"])
+        for name, mode in (("ups.conf", 0o640), ("upsd.conf", 0o600), ("upsd.users", 0o604)):
+            os.chmod(os.path.join(folder, name), mode)
+        to = os.path.join(self.folder, "view")
+        for written in ("at first", "once more"):
+            expect(self.check("--for-upsd", to, folder), (0, "".join(f"ups.conf: {line}\n" for line in told)), f"what it says {written}")
+            found = {path: (it[0], it[3].decode()) for path, it in state_of(to).items()}
+            wanted = {"ups.conf": (0o640, view), "upsd.conf": (0o640, others["upsd.conf"]), "upsd.users": (0o644, others["upsd.users"])}
+            expect(found, wanted, f"what it writes {written}")
+            expect(stat.S_IMODE(os.stat(to).st_mode), 0o750, "who may look into the directory")
+        os.remove(os.path.join(folder, "upsd.conf"))
+        script = os.path.join(self.installed("checked"), "sbin/mulgefa-check")
+        done = subprocess.run([script, "--for-upsd", to, folder], env={**os.environ, "TMPDIR": "/nowhere"}, stdin=subprocess.DEVNULL, capture_output=True, timeout=60)
+        expect((done.returncode, done.stderr), (0, b""), "a file that has gone, and no room but beside the directory")
+        expect(sorted(state_of(to)), ["ups.conf", "upsd.users"], "what is there then")
+        expect([it for it in os.listdir(self.folder) if it.startswith("mulgefa-check.")], [], "what is left")
+        for words in (("--for-upsd",), ("--for-upsd", to, "-i"), ("--for-upsd", to, "--upsd"), ("--for-upsd", to, "-w", to)):
+            expect(self.check(*words)[0], 2, f"mulgefa-check {words}")
+        empty = os.path.join(self.folder, "for nobody")
+        os.mkdir(empty)
+        expect(self.check("--for-upsd", to, empty), (2, f"mulgefa-check: {empty}: none of ups.conf, upsd.conf and upsd.users is there\n"), "a directory without files")
 
     def test_check_changes_all_or_nothing(self):
         """Where a disk becomes full, each file is what it was, and none is left over."""
@@ -819,7 +848,7 @@ class Tests:
             f"{folder}/upsd.conf:1: BadNumber: MAXAGE 0",
             "    upsd.conf(5) says what may stand there",
             f"{folder}/upsmon.conf: PastLimit: the power values of the MONITOR lines sum to less than MINSUPPLIES",
-            "nothing is written: this has to be changed by hand first",
+            "nothing was written: change this by hand first",
         ]
         expect((status, said.splitlines(), os.path.exists(to)), (1, told, False), "what is told")
 

@@ -94,7 +94,7 @@ class Tests:
             room.upsd(**journal.streams())
             journal.next(f"<6>listening on 127.0.0.1:{room.port}")
             journal.next(f"<6>UPS su700, driver at {room.path('dummy-ups-su700')}")
-            journal.next("<4>UPS su700: no driver yet: ")
+            journal.next("<4>UPS su700: cannot connect to its driver: ")
             driver = room.dummy()
             journal.next("<6>UPS su700: driver connected")
             # the server told that the data is stale if a second passed before the dump

@@ -22,7 +22,7 @@ from tests.support.harness import built_without_proof, ensure, expect, Missing, 
 
 PACKAGES = ("mulgefa-client", "mulgefa-server")
 # the files of each section of the manual, and the examples, that belong to the server
-SERVERS = ("upsd", "dummy-ups", "ups.conf", "upsd.conf", "upsd.users", "su700.dev")
+SERVERS = ("upsd", "dummy-ups", "ups.conf", "upsd.conf", "upsd.users", "su700.dev", "nut-drivers.conf")
 NAMES_OF_UNITS = {"nut-server.service": "mulgefa-upsd.service", "nut-monitor.service": "mulgefa-upsmon.service", "nut-client.service": "mulgefa-upsmon.service"}
 
 # what a fresh Debian changes by itself while packages are installed and removed
@@ -377,14 +377,18 @@ class Tests:
                 "mulgefa-upsmon.service can't start until this is changed; if it is enabled, systemd tries it every 5 seconds",
             ],
             "mulgefa-server": [
-                "/etc/nut/ups.conf:1: OutsideSection: maxretry = 3",
-                "    leave it to NUT's drivers, and give upsd a directory of its own, as said below",
                 install.GOES.format("usbhid-ups"),
-                *(re.sub(r"(?=\bups[a-z]*[.](conf|users))", "/etc/nut/", line) for line in install.OWN_DIRECTORY),
+                "/etc/nut/ups.conf: left to the drivers: maxretry",
+                install.REFUSED,
                 "mulgefa-upsd.service can't start until this is changed; if it is enabled, systemd tries it every 5 seconds",
             ],
         }
-        for mode in ("none", "standalone"):
+        gone = [
+            'the UPS apc has no driver (usbhid-ups is NUT\'s, and went with nut-server): until one runs, nothing stops this machine in a power failure; see from-nut(7), "Drivers"',
+            "these bring NUT's drivers back: apt-get download nut-server && mulgefa-nut-drivers nut-server_*.deb && apt-get install ./mulgefa-nut-drivers_*.deb",
+        ]
+        for mode, last in (("none", []), ("standalone", gone)):
+            told["mulgefa-server"] += last
             os.makedirs(root.path("/etc/nut"))
             for name, text in {
                 "nut.conf": f"MODE={mode}\n",
@@ -440,20 +444,18 @@ class Tests:
         path = self.drivers_package()
         _, said = run(["dpkg-deb", "--contents", path])
         found = {line.split()[5] for line in said.splitlines() if not line.startswith("d")}
+        drop_in = "/usr/lib/mulgefa/nut-drivers.conf"
+        ensure(f"mulgefa-upsd.service.d/nut-drivers.conf -> {drop_in}\n" in said, f"the drop-in of upsd's unit is the server's: {said}")
+        ensure(drop_in[1:] in wanted_files("mulgefa-server"), "the server has it")
         units = {f"./lib/systemd/system/{name}" for name in ("nut-driver.target", "nut-driver@.service", "mulgefa-upsd.service.d/nut-drivers.conf")}
         wanted = {"./lib/nut/usbhid-ups", "./lib/nut/dummy-ups", "./sbin/upsdrvctl", *(f"./usr/share/doc/mulgefa-nut-drivers/{it}" for it in ("copyright", "changelog.Debian.gz"))}
         expect(found, wanted | units, "its files")
         _, said = run(["dpkg-deb", "--field", path, "Depends"])
         expect(said, "mulgefa-server, dpkg\n", "what it needs")
-        tree = os.path.join(self.packages.folder, "tree-of-drivers")
-        run(["dpkg-deb", "-x", path, tree])
-        with open(os.path.join(tree, "lib/systemd/system/mulgefa-upsd.service.d/nut-drivers.conf")) as file:
-            said = file.read()
-        expect(said, "[Unit]\nWants=nut-driver.target\nAfter=nut-driver.target\n", "upsd starts after the drivers")
 
     def test_drivers_keep_their_file(self):
-        """With NUT's drivers installed in the same step, upsd reads files of its own, the drivers that ups.conf names are enabled, and
-        nobody is told to take out what they need. A purge of all leaves nothing of it."""
+        """With NUT's drivers installed in the same step, upsd reads a copy of ups.conf without what is theirs, those that ups.conf names are
+        enabled, and nobody is told to take out what they need. A purge of all leaves nothing of it."""
         if not {"upsd", "upsmon"} <= set(self.packages.built):
             raise Missing("no built programs were handed in")
         root = self.fresh("drivers")
@@ -469,19 +471,25 @@ class Tests:
         for name, text in files.items():
             root.write(f"/etc/nut/{name}", text)
         said = root.do("dpkg -i /root/mulgefa-*.deb").splitlines()
-        dead = "upsd now reads /etc/mulgefa, made from /etc/nut: nobody reads /etc/nut/upsd.conf and /etc/nut/upsd.users any more"
-        expect([line for line in said if "/etc/mulgefa" in line or "take it out" in line or "leave it" in line], [dead], f"what is told: {said}")
+        expect([line for line in said if "ups.conf:" in line or "take it out" in line], [], f"what is told: {said}")
         expect({name: root.read(f"/etc/nut/{name}") for name in files}, files, "the files of NUT's")
-        expect(root.read("/etc/mulgefa/ups.conf"), "\n[apc]\n driver = usbhid-ups\n port = auto\n\n[none]\n driver = snmp-ups\n port = h\n", "upsd's ups.conf")
-        drop_in = "/etc/systemd/system/mulgefa-upsd.service.d/directory.conf"
-        ensure(root.read(drop_in).endswith("[Service]\nEnvironment=NUT_CONFPATH=/etc/mulgefa\n"), "upsd's directory")
+        place = os.readlink(root.path("/lib/systemd/system/mulgefa-upsd.service.d/nut-drivers.conf"))
+        drop_in = root.read(place)
+        (command,) = re.findall("^ExecStartPre=[+](.*)$", drop_in, re.MULTILINE)
+        expect(re.findall("^ExecReload=[+]?(.*)$", drop_in, re.MULTILINE)[:2], ["", command], "what is run at a reload")
+        ensure("\nEnvironment=NUT_CONFPATH=/run/mulgefa\n" in drop_in, f"upsd's directory: {drop_in}")
+        expect(root.do(command), "ups.conf: left to the drivers: maxretry\nups.conf: left to the driver of apc: vendorid\n", "what is left to drivers")
+        expect(root.read("/run/mulgefa/ups.conf"), "\n[apc]\n driver = usbhid-ups\n port = auto\n\n[none]\n driver = snmp-ups\n port = h\n", "upsd's ups.conf")
+        expect(root.do("upsd --check --conf /run/mulgefa"), "", "what upsd says of it")
+        expect(root.do("stat -c '%U %G %a' /run/mulgefa /run/mulgefa/upsd.users"), "root nut 750\nroot nut 640\n", "who reads it")
         wants = root.path("/etc/systemd/system/nut-driver.target.wants")
         expect(os.listdir(wants), ["nut-driver@apc.service"], "the drivers that are enabled")
-        expect(root.run("mulgefa-check --upsd /etc/mulgefa"), (0, install.GOES.format("snmp-ups") + "\n"), "the drivers that aren't kept")
+        expect(root.run("mulgefa-check --upsd"), (0, install.GOES.format("snmp-ups") + "\n"), "the drivers that aren't kept")
         root.do("dpkg --purge mulgefa-nut-drivers")
-        ensure(os.path.exists(root.path(drop_in)), "the server's files stay with the server")
+        status, said = root.run("mulgefa-check --upsd")
+        expect((status, said.splitlines()[-1]), (1, install.REFUSED), "lines that are nobody's now")
         root.do("dpkg --purge mulgefa-server mulgefa-client")
-        left = [path for path in (drop_in, "/etc/mulgefa", "/etc/systemd/system/nut-driver.target.wants/nut-driver@apc.service") if os.path.lexists(root.path(path))]
+        left = [path for path in ("/run/mulgefa", "/lib/systemd/system/mulgefa-upsd.service.d", "/etc/systemd/system/nut-driver.target.wants/nut-driver@apc.service") if os.path.lexists(root.path(path))]
         expect(left, [], "what is left")
 
     def test_installation_that_fails(self):

@@ -25,7 +25,7 @@ RUN_OFF = f"{UPS}{ADMIN} asked the driver to run load.off"
 FORCED = f"{UPS}shutdown is forced (FSD) by {MON}"
 LOGGED_IN, LOGGED_OUT = f"{UPS}{MON} logged in", f"{UPS}{MON} logged out"
 LEFT = f"{UPS}connection of {MON} ended without LOGOUT"
-UNREAD = f"{UPS}cannot read what its driver says of "
+UNREAD = "%sunreadable line about {} from the driver" % UPS
 
 # passwords and values that show nowhere else
 USERS = (
@@ -35,8 +35,8 @@ USERS = (
 SECRETS = ("first-pass", "second-pass", "wrong-pass", "mistyped", "hidden-value", "hidden-parameter")
 
 # the lines that tell of clients, and those that are told of refusals
-OF_CLIENTS = re.compile(r".*( asked the driver to |\(FSD\)| logged (in|out)$|without LOGOUT$|\(ACCESS-DENIED\))")
-REFUSED = re.compile(r"upsd: clients? (\S+) .*refused.* \(ACCESS-DENIED\), requests: (\d+)$")
+OF_CLIENTS = re.compile(r".*( asked the driver to |\(FSD\)| logged (in|out)$|without LOGOUT$|: access denied )")
+REFUSED = re.compile(r"upsd: (?:client|clients at other) (\S+): access denied .*\((\d+) requests?\)$")
 
 
 class Source(Client):
@@ -360,7 +360,7 @@ class Tests:
                 with room.client() as client:
                     client.log_in(b"mon", b"wrong-pass")
                     self.refuse(client, 50)
-                    first = "upsd: client 127.0.0.1 refused as user mon (ACCESS-DENIED), requests: 1"
+                    first = "upsd: client 127.0.0.1: access denied for user mon (1 request)"
                     expect(room.said.next("upsd: client "), first, "the first")
                     expect(client.ask(b"PRIMARY su700\n"), b"ERR ACCESS-DENIED\n", "PRIMARY")
                     expect(client.ask(b"FSD su700\n"), b"ERR ACCESS-DENIED\n", "FSD")
@@ -373,12 +373,29 @@ class Tests:
                 with room.client() as client:
                     client.log_in(b"mistyped", b"wrong-pass")
                     self.refuse(client, 1)
-                unknown = "upsd: client 127.0.0.1 refused as an unknown user (ACCESS-DENIED), requests: 1"
+                unknown = "upsd: client 127.0.0.1: access denied for an unknown user (1 request)"
                 room.said.next(unknown)
                 found = refusals(room.said.lines)
                 expect(sum(count for _, count in found), 55, f"the sum of {found}")
                 ensure(len(found) <= took + 3, f"{len(found)} lines in {took:.1f} s: {found}")
                 ensure(not any("mistyped" in line or "-pass" in line for line in room.said.lines), f"a secret shows: {room.said.lines}")
+
+    def test_refused_passwords_of_several_users(self):
+        """Those of one second are told together: by the user's name if all are his, and else as those of several."""
+        tries = ((b"mon", b"wrong-pass"), (b"mon", b"wrong-pass")), ((b"admin", b"wrong-pass"), (b"mon", b"wrong-pass")), ((b"no", b"x"), (b"nobody", b"x"))
+        for later, whose in zip(tries, ("user mon", "several users", "an unknown user")):
+            with self.room() as room:
+                room.dummy()
+                room.serve()
+                room.until(STATUS, ONLINE)
+                for name, password in (later[1], *later):
+                    with room.client() as client:
+                        client.log_in(name, password)
+                        self.refuse(client, 1)
+                until(lambda: sum(count for _, count in refusals(room.said.lines)) == 3, "all are counted")
+                found = [line for line in room.said.lines if ": access denied " in line]
+                # the first is told at once, and the others mostly in the same second
+                ensure(len(found) == 3 or found[1] == f"upsd: client 127.0.0.1: access denied for {whose} (2 requests)", f"what is told of {later}: {found}")
 
     def test_a_user_without_the_right(self):
         with self.room() as room:
@@ -387,7 +404,7 @@ class Tests:
             room.until(STATUS, ONLINE)
             with room.mon() as client:
                 expect(client.ask(b"INSTCMD su700 load.off\n"), b"ERR ACCESS-DENIED\n", "INSTCMD of a monitor")
-            room.expect_told(["upsd: client 127.0.0.1 refused as user mon (ACCESS-DENIED), requests: 1"], "a user without the right")
+            room.expect_told(["upsd: client 127.0.0.1: access denied for user mon (1 request)"], "a user without the right")
 
     def test_refusals_of_many_addresses(self):
         """Each address has its own count, up to a number of addresses."""
@@ -405,14 +422,14 @@ class Tests:
                 client.close()
             until(lambda: sum(count for _, count in refusals(room.said.lines)) == 40, "all are counted")
             found = refusals(room.said.lines)
-            others = sum(count for address, count in found if address == "at")
+            others = sum(count for address, count in found if address == "addresses")
             ensure(others <= 8, f"{others} of 40 aren't told by their address: {found}")
             # nothing of them is left after some seconds
             time.sleep(2.5)
             with Source(room, "127.0.2.1") as client:
                 client.log_in(b"mon", b"wrong-pass")
                 self.refuse(client, 1)
-            room.said.next("upsd: client 127.0.2.1 refused as user mon (ACCESS-DENIED), requests: 1")
+            room.said.next("upsd: client 127.0.2.1: access denied for user mon (1 request)")
 
     def test_lines_of_a_driver_that_cannot_be_read(self):
         """A value with a quote that isn't escaped: the earlier one stays until the driver connects again, and that is told once."""
@@ -433,12 +450,12 @@ class Tests:
                     room.until(b"GET VAR su700 ups.id\n", b'VAR su700 ups.id "a\\"b"\n')
                     driver.sendall(b'SETINFO ups.id "hidden-value"b"\n')
                     time.sleep(1.5)
-                found = [line for line in room.said.lines if "cannot read" in line]
-                expect(found, [UNREAD + "ups.id", UNREAD + "ups.model"], f"with {words}")
+                found = [line for line in room.said.lines if "unreadable" in line]
+                expect(found, [UNREAD.format("ups.id"), UNREAD.format("ups.model")], f"with {words}")
                 ensure(not any("hidden-value" in line for line in room.said.lines), f"a value shows: {room.said.lines}")
 
     def test_many_lines_of_a_driver_that_cannot_be_read(self):
-        nameless, more = f"{UPS}cannot read a line of its driver", f"{UPS}cannot read what its driver says of more variables"
+        nameless, more = f"{UPS}unreadable line from the driver", f"{UPS}unreadable lines about more than 8 variables from the driver"
         with self.room(conf=NO_PINGS) as room, room.driver() as listener:
             room.serve()
             with accepted(listener) as driver:
@@ -456,8 +473,8 @@ class Tests:
                 until(lambda: room.said.count(more) == 1, "more of them")
                 driver.sendall(b'SETINFO outlet.99.desc "a"b"\n' * 1000)
                 time.sleep(1.5)
-            found = [line for line in room.said.lines if "cannot read" in line]
-            expect(found[:3], [UNREAD + "ups.temperature", nameless, UNREAD + "outlet.0.desc"], "the first")
+            found = [line for line in room.said.lines if "unreadable" in line]
+            expect(found[:3], [UNREAD.format("ups.temperature"), nameless, UNREAD.format("outlet.0.desc")], "the first")
             expect((len(found), found[-1]), (9, more), f"a number of variables, and once that there are more: {found}")
 
 

@@ -706,7 +706,7 @@ class Tests(Shimmed):
     def test_dummy_without_memory(self):
         """dummy-ups says each time that it closes a link for lack of memory, and serves the next server."""
         once = os.path.join(self.folder, "arid")
-        told = "dummy-ups: link closed: out of memory"
+        told = "dummy-ups: connection of the server closed: out of memory"
         with self.room() as room:
             # what a dump says is more than what has been said before
             room.write("su700.dev", DEVICE + b"".join(b"ambient.%d.status: x\n" % i for i in range(200)))

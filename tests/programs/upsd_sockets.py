@@ -28,7 +28,7 @@ ONLY_IPV6 = "/proc/sys/net/ipv6/bindv6only"
 # what upsd says at its start if it runs as root
 AS_ROOT = "upsd: running as root, which only a port below 1024 needs"
 # why dummy-ups can't listen where a file is of value, or where another one listens
-NOT_A_SOCKET = "it is there, and isn't a socket"
+NOT_A_SOCKET = "the file exists and is not a socket"
 IN_USE = "another driver listens there"
 
 
@@ -624,7 +624,7 @@ class Tests:
                     for _ in range(5):
                         with room.client() as third:
                             expect(third.is_closed(), True, "the third is closed again")
-            told = ["upsd: cannot let a client in: MAXCONN 2 is reached"]
+            told = ["upsd: client refused: MAXCONN 2 is reached, and all clients are logged in"]
             expect(said(upsd), told * 2, "it is told once until a client was let in again")
 
     def test_256_connections(self):
@@ -645,7 +645,7 @@ class Tests:
             finally:
                 for client in clients:
                     client.close()
-            expect(said(upsd), ["upsd: cannot let a client in: MAXCONN 256 is reached"], "what is told of the 257th")
+            expect(said(upsd), ["upsd: client refused: MAXCONN 256 is reached, and all clients are logged in"], "what is told of the 257th")
 
     def test_want_of_descriptors(self):
         def few():
@@ -669,7 +669,7 @@ class Tests:
                     client.close()
             # once for those that wait, and perhaps once more after the first of them was let in
             told = said(upsd)
-            wanted = f"upsd: cannot let a client in: {why(errno.EMFILE)}"
+            wanted = f"upsd: cannot accept a client: {why(errno.EMFILE)}"
             expect((len(told) in (1, 2), set(told)), (True, {wanted}), f"what is told: {told}")
 
     def test_clients_that_come_and_go(self):
@@ -695,7 +695,7 @@ class Tests:
             told = Lines(room.upsd())
             room.until(STATUS, ONLINE)
             driver.kill()
-            told.next("upsd: UPS su700: no driver yet: ")
+            told.next("upsd: UPS su700: cannot connect to its driver: ")
             # a few tries more
             time.sleep(2.5)
             socket_path = room.path("dummy-ups-su700")
@@ -710,7 +710,7 @@ class Tests:
 
     def test_causes_for_which_a_driver_is_missed(self):
         """Each is told once, and again only if there was another one or a driver since."""
-        missed = "upsd: UPS su700: no driver yet: "
+        missed = "upsd: UPS su700: cannot connect to its driver: "
         with self.room() as room:
             path = room.path("dummy-ups-su700")
             lines = Lines(room.upsd(preexec_fn=heed_modes))
@@ -775,7 +775,7 @@ class Tests:
                 room.dummy()
                 room.until(STATUS, b'VAR su700 ups.status "FSD OL"\n')
                 time.sleep(2.5)
-            back = "upsd: UPS su700: a shutdown is still forced (FSD): its machines stop now"
+            back = "upsd: UPS su700: shutdown is still forced (FSD); its machines shut down now"
             expect(lines.lines, [forced, back], "what is told")
 
     def test_a_shutdown_that_nobody_hears_of_is_told(self):
@@ -784,9 +784,9 @@ class Tests:
             with room.client() as client:
                 client.log_in(b"mon", b"m1")
                 expect(client.ask(b"FSD su700\n"), b"OK FSD-SET\n", "FSD")
-            lines.next("upsd: UPS su700: shutdown is forced (FSD) by mon@127.0.0.1; its machines aren't told until the driver is back")
+            lines.next("upsd: UPS su700: shutdown is forced (FSD) by mon@127.0.0.1; its machines learn of it once the driver is back")
             room.dummy()
-            lines.next("upsd: UPS su700: a shutdown is still forced (FSD): its machines stop now")
+            lines.next("upsd: UPS su700: shutdown is still forced (FSD); its machines shut down now")
             room.until(STATUS, b'VAR su700 ups.status "FSD OL"\n')
 
     def test_quiet(self):

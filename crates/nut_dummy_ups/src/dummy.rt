@@ -76,7 +76,7 @@ impl<'a> OwnFault for DummyUpsFault<'a> {
 /// `dummy-ups: FILE: unknown kind`; `dummy-ups: FILE: cannot read`, with the reason on a line of its own;
 /// `dummy-ups: FILE: more than 16777216 bytes`; the first fault of the script, as `dummy-ups: FILE:2: BadName`;
 /// `dummy-ups: cannot listen on SOCKET`, with the reason on a line of its own; or `dummy-ups: out of memory` if memory
-/// cannot be allocated before. Later, `dummy-ups: link closed: out of memory` is written each time that memory for an
+/// cannot be allocated before. Later, `dummy-ups: connection of the server closed: out of memory` is written each time that memory for an
 /// answer to the server is lacking; the server may connect again.
 pub fn run_dummy_ups<S: AsStr, O: Write, E: Lines>(
     rt: &(impl Wait + Files<File = File> + Net + Clock),
@@ -258,14 +258,14 @@ fn command<'a>(alloc: Global) -> Result<Command<'a>, AllocError> {
     let file = Arg::new(alloc, "file")
         .value_name("FILE")
         .required(true)
-        .help("The script: NAME.dev is told once, NAME.seq round after round");
+        .help("The script: NAME.dev is played once, NAME.seq is repeated");
     let socket = Arg::new(alloc, "socket")
         .value_name("SOCKET")
         .required(true)
         .help("Where a server connects: SOCKDIR/dummy-ups-UPS for upsd's -s SOCKDIR");
     Command::new(alloc, "dummy-ups")
         .version(VERSION)
-        .about("A driver that tells a script in place of a device")
+        .about("A driver that plays a script in place of a device")
         .arg(file)?
         .arg(socket)
 }

@@ -141,7 +141,10 @@ impl DummyDriver {
 /// Writes why a link ended, if the driver itself closed it. What can't be written is dropped.
 fn tell_end<E: Lines>(end: LinkEnd, err: &mut E) {
     if end == LinkEnd::OutOfMemory {
-        let _ = writeln!(err.begin(Level::Warning), "link closed: out of memory");
+        let _ = writeln!(
+            err.begin(Level::Warning),
+            "connection of the server closed: out of memory"
+        );
     }
 }
 

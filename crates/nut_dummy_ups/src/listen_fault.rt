@@ -3,7 +3,7 @@
 use std::fs::TryLockError;
 use std::{fmt, io};
 
-/// Why a driver can't listen at a socket. It is displayed as in `it is there, and isn't a socket`.
+/// Why a driver can't listen at a socket. It is displayed as in `the file exists and is not a socket`.
 #[derive(Drop)]
 pub enum ListenFault {
     /// Another driver listens there.
@@ -36,7 +36,7 @@ impl fmt::Display for ListenFault {
         match self {
             ListenFault::InUse => write!(f, "another driver listens there"),
             ListenFault::Locked => write!(f, "another driver is about to listen there"),
-            ListenFault::NotASocket => write!(f, "it is there, and isn't a socket"),
+            ListenFault::NotASocket => write!(f, "the file exists and is not a socket"),
             ListenFault::System(error) => write!(f, "{error}"),
         }
     }

@@ -18,26 +18,59 @@ impl<'a> fmt::Display for Who<'a> {
     }
 }
 
+/// Whose requests were refused.
+#[derive(Clone, Copy)]
+pub enum Whose<'a> {
+    /// Those of the user with this name.
+    User(&'a str),
+    /// Those of users that upsd.users doesn't have.
+    Unknown,
+    /// Those of several users.
+    Several,
+}
+
+impl<'a> fmt::Display for Whose<'a> {
+    fn fmt<W: fmt::Write>(&self, f: &mut fmt::Formatter<W>) -> fmt::Result {
+        match self {
+            Whose::User(name) => write!(f, "user {name}"),
+            Whose::Unknown => write!(f, "an unknown user"),
+            Whose::Several => write!(f, "several users"),
+        }
+    }
+}
+
+/// A number of requests, as it is reported.
+#[derive(Clone, Copy)]
+struct Requests(u64);
+
+impl fmt::Display for Requests {
+    fn fmt<W: fmt::Write>(&self, f: &mut fmt::Formatter<W>) -> fmt::Result {
+        let Requests(count) = self;
+        let mark = if *count == 1 { "" } else { "s" };
+        write!(f, "({count} request{mark})")
+    }
+}
+
 /// Requests from one address that were refused as ACCESS-DENIED.
 #[derive(Clone, Copy)]
 pub struct Denial<'a> {
     /// The address.
     pub address: &'a str,
-    /// The user of the last of them; empty if upsd.users has no such user.
-    pub user: &'a str,
+    /// Whose they were.
+    pub whose: Whose<'a>,
     /// How many they are.
     pub count: u64,
 }
 
 impl<'a> fmt::Display for Denial<'a> {
     fn fmt<W: fmt::Write>(&self, f: &mut fmt::Formatter<W>) -> fmt::Result {
-        write!(f, "client {} refused as ", self.address)?;
-        if self.user.is_empty() {
-            write!(f, "an unknown user")?;
-        } else {
-            write!(f, "user {}", self.user)?;
-        }
-        write!(f, " (ACCESS-DENIED), requests: {}", self.count)
+        let Denial {
+            address,
+            whose,
+            count,
+        } = self;
+        let requests = Requests(*count);
+        write!(f, "client {address}: access denied for {whose} {requests}")
     }
 }
 
@@ -78,7 +111,7 @@ impl<'a> fmt::Display for DeedReport<'a> {
             }
             DeedReport::ForcedUntold(ups, who) => write!(
                 f,
-                "UPS {ups}: shutdown is forced (FSD) by {who}; its machines aren't told until the driver is back"
+                "UPS {ups}: shutdown is forced (FSD) by {who}; its machines learn of it once the driver is back"
             ),
             DeedReport::LoggedIn(ups, who) => write!(f, "UPS {ups}: {who} logged in"),
             DeedReport::LoggedOut(ups, who) => write!(f, "UPS {ups}: {who} logged out"),
@@ -86,10 +119,10 @@ impl<'a> fmt::Display for DeedReport<'a> {
                 write!(f, "UPS {ups}: connection of {who} ended without LOGOUT")
             }
             DeedReport::Denied(denial) => write!(f, "{denial}"),
-            DeedReport::DeniedElsewhere(count) => write!(
-                f,
-                "clients at other addresses refused (ACCESS-DENIED), requests: {count}"
-            ),
+            DeedReport::DeniedElsewhere(count) => {
+                let requests = Requests(*count);
+                write!(f, "clients at other addresses: access denied {requests}")
+            }
         }
     }
 }

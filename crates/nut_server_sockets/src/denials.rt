@@ -1,6 +1,6 @@
 //! Requests that were refused as ACCESS-DENIED: at most one report in a second for each address.
 
-use crate::deed_report::{DeedReport, Denial};
+use crate::deed_report::{DeedReport, Denial, Whose};
 use crate::login::copied;
 use arrayvec::ArrayVec;
 use nut_poll::{Reports, text_of};
@@ -19,6 +19,8 @@ struct Denied {
     address: ArrayVec<u8, ADDRESS_MAX>,
     /// The user of the last of them; empty if upsd.users has no user of that name, which may be a password by mistake.
     user: ArrayVec<u8, CREDENTIAL_MAX>,
+    /// Whether those that weren't reported are of several users. All that upsd.users doesn't have count as one.
+    is_mixed: bool,
     /// How many weren't reported.
     count: u64,
 }
@@ -29,14 +31,27 @@ impl Denied {
         Denied {
             address: ArrayVec::new(),
             user: ArrayVec::new(),
+            is_mixed: false,
             count: 0,
         }
     }
 
     /// Counts a request.
     fn count(&mut self, user: &[u8]) {
+        self.is_mixed = self.count > 0 && (self.is_mixed || self.user.as_slice() != user);
         self.user = copied(user);
         self.count = self.count.saturating_add(1);
+    }
+
+    /// Returns whose those are that weren't reported.
+    fn whose(&self) -> Whose<'_> {
+        if self.is_mixed {
+            Whose::Several
+        } else if self.user.is_empty() {
+            Whose::Unknown
+        } else {
+            Whose::User(text_of(self.user.as_slice()))
+        }
     }
 
     /// Reports those that weren't, if there are any. Returns whether there were.
@@ -46,7 +61,7 @@ impl Denied {
         }
         reports.warn(DeedReport::Denied(Denial {
             address: text_of(self.address.as_slice()),
-            user: text_of(self.user.as_slice()),
+            whose: self.whose(),
             count: self.count,
         }));
         self.count = 0;

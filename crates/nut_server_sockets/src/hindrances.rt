@@ -99,7 +99,7 @@ fn note(has_told_it: &mut bool, has_told: &mut bool) -> bool
 /// Returns why a server refuses clients.
 fn refusal_by(server: &Server) -> Report<'static> {
     if server.opened() >= OPENED_MAX {
-        Report::Spent(OPENED_MAX)
+        Report::Spent
     } else {
         Report::Full(server.config().most_connections())
     }

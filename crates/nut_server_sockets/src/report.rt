@@ -1,6 +1,7 @@
 //! What is reported of drivers and clients.
 
 use nut_log::{Level, Leveled};
+use nut_server::UNREAD_MAX;
 use std::net::{IpAddr, SocketAddr};
 use std::{fmt, io};
 
@@ -60,8 +61,8 @@ pub enum Report<'a> {
     UnreadMore(&'a str),
     /// A client isn't let in, because MAXCONN, which is this, is reached.
     Full(usize),
-    /// No client is let in until the next start, because this many were.
-    Spent(u64),
+    /// No client is let in until the next start, because as many were let in as there are numbers.
+    Spent,
     /// No client can be let in, for this reason.
     ShutOut(io::Error),
     /// A client from this address was silent for this many seconds, and its connection is closed.
@@ -81,34 +82,34 @@ impl<'a> fmt::Display for Report<'a> {
                 write!(f, "cannot listen on {host}:{port} yet: {error}")
             }
             Report::Connected(name) => write!(f, "UPS {name}: driver connected"),
-            Report::Missed(name, error) => write!(f, "UPS {name}: no driver yet: {error}"),
+            Report::Missed(name, error) => {
+                write!(f, "UPS {name}: cannot connect to its driver: {error}")
+            }
             Report::Ended(name, end) => write!(f, "UPS {name}: driver {}", end.text()),
             Report::Stale(name) => write!(f, "UPS {name}: data is stale"),
             Report::Fresh(name) => write!(f, "UPS {name}: data is no longer stale"),
             Report::Stops(name) => write!(
                 f,
-                "UPS {name}: a shutdown is still forced (FSD): its machines stop now"
+                "UPS {name}: shutdown is still forced (FSD); its machines shut down now"
             ),
             Report::Unread(name, variable) => put_unread(f, name, variable),
             Report::UnreadMore(name) => write!(
                 f,
-                "UPS {name}: cannot read what its driver says of more variables"
+                "UPS {name}: unreadable lines about more than {UNREAD_MAX} variables from the driver"
             ),
-            Report::Full(most) => write!(f, "cannot let a client in: MAXCONN {most} is reached"),
-            Report::Spent(most) => {
-                write!(
-                    f,
-                    "cannot let a client in: {most} were let in since the start"
-                )
-            }
-            Report::ShutOut(error) => write!(f, "cannot let a client in: {error}"),
+            Report::Full(most) => write!(
+                f,
+                "client refused: MAXCONN {most} is reached, and all clients are logged in"
+            ),
+            Report::Spent => write!(f, "out of connection numbers; restart upsd"),
+            Report::ShutOut(error) => write!(f, "cannot accept a client: {error}"),
             Report::Shed(address, seconds) => {
                 write!(f, "client {address} closed: silent for {seconds} s")
             }
             Report::MadeWay(address, most) => {
                 write!(
                     f,
-                    "client {address} closed: it isn't logged in, and MAXCONN {most} is reached"
+                    "client {address} closed for another: not logged in, and MAXCONN {most} is reached"
                 )
             }
             Report::Unanswered(address) => write!(f, "client {address} closed: out of memory"),
@@ -127,7 +128,7 @@ impl<'a> Leveled for Report<'a> {
             | Report::Stale(_)
             | Report::Stops(_)
             | Report::Full(_)
-            | Report::Spent(_)
+            | Report::Spent
             | Report::ShutOut(_)
             | Report::MadeWay(..)
             | Report::Unread(..)
@@ -140,11 +141,11 @@ impl<'a> Leveled for Report<'a> {
 /// Writes that the driver of a UPS says something of a variable that can't be read.
 fn put_unread<W: fmt::Write>(f: &mut fmt::Formatter<W>, name: &str, variable: &str) -> fmt::Result {
     if variable.is_empty() {
-        write!(f, "UPS {name}: cannot read a line of its driver")
+        write!(f, "UPS {name}: unreadable line from the driver")
     } else {
         write!(
             f,
-            "UPS {name}: cannot read what its driver says of {variable}"
+            "UPS {name}: unreadable line about {variable} from the driver"
         )
     }
 }

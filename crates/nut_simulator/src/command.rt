@@ -29,7 +29,7 @@ fn folder_word<'a>(alloc: Global) -> Arg<'a> {
     Arg::new(alloc, "folder")
         .value_name("DIR")
         .required(true)
-        .help("The folder of ups.conf, upsd.users and upsd.conf")
+        .help("The directory of ups.conf, upsd.users and upsd.conf")
 }
 
 fn schedule_word<'a>(alloc: Global) -> Arg<'a> {

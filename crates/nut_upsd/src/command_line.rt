@@ -5,7 +5,7 @@ use nut_program::{VERSION, check_option, debug_option, foreground_option, quiet_
 use std::alloc::{AllocError, Global};
 use std::convert::AsStr;
 
-/// The command lines that upsd takes. clap's own usage would be of the required options alone.
+/// The forms of upsd's command line. clap's own usage would be of the required options alone.
 const USAGE: &str =
     "upsd [OPTIONS] --conf <DIR> -s <SOCKDIR>\n       upsd --check [--conf <DIR> [-s <SOCKDIR>]]\n       upsd --stdio [--conf <DIR> | --ups <NAME=DESC>...]";
 
@@ -86,7 +86,7 @@ fn conf<'a>(alloc: Global) -> Result<Arg<'a>, AllocError> {
     Arg::new(alloc, "conf")
         .long("conf")
         .value_name("DIR")
-        .help("The folder of ups.conf, upsd.users, upsd.conf and cmdvartab")
+        .help("The directory of ups.conf, upsd.users, upsd.conf and cmdvartab")
         .conflicts_with("ups")
 }
 
@@ -106,7 +106,7 @@ fn sockets<'a>(alloc: Global) -> Result<Arg<'a>, AllocError> {
     Arg::new(alloc, "sockets")
         .short('s')
         .value_name("SOCKDIR")
-        .help("The folder of the drivers' sockets, DRIVER-NAME for each UPS")
+        .help("The directory of the drivers' sockets, DRIVER-NAME for each UPS")
         .required_unless_present("stdio")?
         .required_unless_present("check")?
         .conflicts_with("stdio")?
@@ -114,15 +114,11 @@ fn sockets<'a>(alloc: Global) -> Result<Arg<'a>, AllocError> {
 }
 
 fn quiet_upsd<'a>(alloc: Global) -> Result<Arg<'a>, AllocError> {
-    quiet_option(
-        alloc,
-        "Tell nothing of listeners, UPSes, drivers and logins",
-    )
-    .conflicts_with("stdio")
+    quiet_option(alloc, "Report no listeners, UPSes, drivers and logins").conflicts_with("stdio")
 }
 
 fn check_upsd<'a>(alloc: Global) -> Result<Arg<'a>, AllocError> {
     let help =
-        "Serve nothing: say the first fault of the files; without --conf of those in NUT_CONFPATH or /etc/nut";
+        "Report the first fault of the files, and exit; without --conf, of those in NUT_CONFPATH or /etc/nut";
     check_option(alloc, help).conflicts_with("stdio")
 }
