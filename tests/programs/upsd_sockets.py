@@ -16,8 +16,8 @@ import tempfile
 import time
 from concurrent import futures
 
-from tests.support.harness import Failed, Missing, apart, built_without_proof, cannot_listen, cannot_read, expect, patience
-from tests.support.harness import processor_time, run_tests
+from tests.support.harness import NUTS_OPTIONS, Failed, Missing, apart, built_without_proof, cannot_listen, cannot_read, ensure, expect
+from tests.support.harness import patience, processor_time, run_tests
 from tests.support.room import Client, DEVICE, Lines, NOT_CONNECTED, ONLINE, Room, NO_PINGS, SOON, STATUS, VERSION
 from tests.support.room import accepted, connected, family_of, first_lines, free_port, give_address, has_ipv6, heed_modes, raise_loopback
 from tests.support.room import said, stopped, until
@@ -822,6 +822,38 @@ class Tests:
         for program, word in ((upsd, b"SOCKDIR"), (dummy, b"SOCKET")):
             status, out, err = self.run(program, "--help")
             expect((status, word in out, err), (0, True, b""), "help")
+
+    def test_options_of_nut(self):
+        """What to do in place of an option of NUT stands below clap's text, without a tip to pass it as a file. An unknown one has the
+        last line alone."""
+        upsd, dummy = self.programs
+        conf = ["--conf", self.folder, "-s", self.folder]
+        for program, words, way in (
+            (upsd, ["-c", "reload"], "-c reload is not supported: use systemctl reload mulgefa-upsd"),
+            (upsd, [*conf, "-creload"], "-c reload is not supported: use systemctl reload mulgefa-upsd"),
+            (upsd, ["-D", "-c", "stop"], "-c stop is not supported: use systemctl stop mulgefa-upsd"),
+            (upsd, ["-c"], "-c is not supported: use systemctl; --conf names the directory of the files"),
+            (upsd, ["-P", "77", "-c", "stop"], "-P is not supported: there are no PID files; use systemctl"),
+            (upsd, [*conf, "-FF"], "-FF is not supported: there are no PID files; use -F"),
+            (upsd, ["-F", "-F"], "-F -F is not supported: there are no PID files; use -F"),
+            (upsd, ["-B"], "-B is not supported: upsd always stays in the foreground"),
+            (upsd, [*conf, "-u", "nut"], "-u is not supported: the unit decides as which user upsd runs"),
+            (upsd, ["-r", "/jail"], "-r is not supported: the unit can have RootDirectory"),
+            (upsd, ["-4"], "-4 is not supported: LISTEN in upsd.conf names the addresses"),
+            (upsd, ["-x"], None),
+            (dummy, ["-a", "su700"], "-a is not supported: use dummy-ups FILE SOCKET, or systemctl start mulgefa-dummy-ups@NAME"),
+            (dummy, ["-s", "su700", "-x", "port=a.dev"], "-s is not supported: use dummy-ups FILE SOCKET"),
+            (dummy, ["-DD", "a.dev", "b"], "-D is not supported: dummy-ups reports only why it ends"),
+            (dummy, ["-F", "a.dev", "b"], "-F is not supported: dummy-ups always stays in the foreground"),
+            (dummy, ["-k", "-a", "su700"], "-k is not supported: use upscmd NAME load.off"),
+            (dummy, ["-q"], None),
+        ):
+            status, out, err = self.run(program, *words)
+            name = "upsd" if program == upsd else "dummy-ups"
+            said = f"{name}: {way}\n" if way else ""
+            expect((status, out), (2, b""), f"{name} {words}")
+            ensure(err.startswith(b"error: ") and b"tip: to pass" not in err, f"what clap says of {name} {words}: {err}")
+            ensure(err.decode().endswith(f"\n\nFor more information, try '--help'.\n{said}{NUTS_OPTIONS.format(name)}"), f"{name} {words}: {err}")
 
     def test_descriptions(self):
         status, off = b"GET DESC su700 ups.status\n", b"GET CMDDESC su700 load.off\n"

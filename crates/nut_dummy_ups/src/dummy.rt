@@ -3,11 +3,14 @@
 use crate::driver_socket::listen_at;
 use crate::dummy_driver::DummyDriver;
 use crate::listen_fault::ListenFault;
+use crate::nuts_options::NUTS_OPTIONS;
 use clap::{Arg, ArgMatches, Command};
 use mio::net::UnixListener;
 use nut_dummy::{Dummy, Script, ScriptFault, ScriptFaultKind, ScriptKind};
 use nut_log::Lines;
-use nut_program::{Failure, OwnFault, VERSION, hold_closed_streams, read_file, remark_on_unread};
+use nut_program::{
+    Failure, OwnFault, VERSION, hold_closed_streams, read_file, remark_on_unread, way_of,
+};
 use std::alloc::{AllocError, Global};
 use std::convert::AsStr;
 use std::fs::File;
@@ -87,7 +90,7 @@ pub fn run_dummy_ups<S: AsStr, O: Write, E: Lines>(
 ) -> u8 {
     match run(rt, alloc, words, err) {
         Ok(()) => 0,
-        Err(failure) => failure.tell_of_nuts(alloc, None, out, err),
+        Err(failure) => failure.tell_of_nuts(alloc, way_of(&NUTS_OPTIONS, words), out, err),
     }
 }
 

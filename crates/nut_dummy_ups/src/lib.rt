@@ -5,6 +5,7 @@ mod driver_socket;
 mod dummy;
 mod dummy_driver;
 mod listen_fault;
+mod nuts_options;
 mod socket_lock;
 
 pub use dummy::run_dummy_ups;

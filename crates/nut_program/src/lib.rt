@@ -9,6 +9,7 @@ mod failure;
 mod folder;
 mod meant;
 mod named_lines;
+mod nuts_option;
 mod reload_file;
 mod reload_report;
 mod stack;
@@ -28,6 +29,7 @@ pub use conf_file::{
 pub use failure::{Failure, OwnFault, tell_not_reloaded};
 pub use folder::conf_folder;
 pub use named_lines::NamedLines;
+pub use nuts_option::{NutsOption, way_of};
 pub use reload_file::{Look, ReloadFile, Turn};
 pub use reload_report::ReloadReport;
 pub use stack::{LowStack, TOOL_STACK, has_stack, low_stack};

@@ -67,7 +67,7 @@ pub fn run_upsd<S: AsStr, I: Read, O: Write>(
     err: &mut ErrorLines,
 ) -> u8 {
     let served = run(rt, alloc, words, input, out, err);
-    exit_status(alloc, served, out, err)
+    exit_status(alloc, words, served, out, err)
 }
 
 fn run<S: AsStr, I: Read, O: Write>(

@@ -6,6 +6,7 @@ mod command_line;
 mod configuration;
 mod daemon;
 mod listeners;
+mod nuts_options;
 mod reloading;
 mod report;
 mod stdio;

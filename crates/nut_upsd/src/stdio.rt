@@ -43,7 +43,7 @@ pub fn run_stdio<S: AsStr, I: Read, O: Write, E: Write>(
     err: &mut E,
 ) -> u8 {
     let served = serve_words(rt, alloc, words, input, out);
-    exit_status(alloc, served, out, &mut NamedLines::new("upsd", err))
+    exit_status(alloc, words, served, out, &mut NamedLines::new("upsd", err))
 }
 
 /// Serves one client as the words of the command line say.

@@ -1,10 +1,12 @@
 //! The faults that only upsd has.
 
+use crate::nuts_options::NUTS_OPTIONS;
 use nut_conf::FaultKind;
 use nut_log::Lines;
-use nut_program::{Failure, FileFault, OwnFault};
+use nut_program::{Failure, FileFault, OwnFault, way_of};
 use nut_server_loop::Stream;
 use std::alloc::Global;
+use std::convert::AsStr;
 use std::fmt;
 use std::io::Write;
 
@@ -73,15 +75,16 @@ pub fn ups_failure(fault: FaultKind) -> Failure<UpsdFault> {
     }
 }
 
-/// Returns the exit status of upsd: 0, or that of a failure, which is told.
-pub fn exit_status<O: Write, E: Lines>(
+/// Returns the exit status of an upsd that was started with these words: 0, or that of a failure, which is told.
+pub fn exit_status<S: AsStr, O: Write, E: Lines>(
     alloc: Global,
+    words: &[S],
     served: Result<(), Failure<UpsdFault>>,
     out: &mut O,
     err: &mut E,
 ) -> u8 {
     match served {
         Ok(()) => 0,
-        Err(failure) => failure.tell_of_nuts(alloc, None, out, err),
+        Err(failure) => failure.tell_of_nuts(alloc, way_of(&NUTS_OPTIONS, words), out, err),
     }
 }
