@@ -71,7 +71,7 @@ impl<'a> OwnFault for DummyUpsFault<'a> {
 /// `words` are those of the command line `dummy-ups FILE SOCKET`, the program's name first. The script in FILE is told,
 /// from now on, to one server at a time, which connects at SOCKET. A socket of that name is removed if no other driver
 /// listens at it, and so is an empty plain file; any other file of that name stays. The end of FILE says what kind the
-/// script is: `.dev` is told once, `.seq` round after round. The program ends if waiting for the socket or reading the
+/// script is: `.dev` is played once, `.seq` round after round. The program ends if waiting for the socket or reading the
 /// clock fails; then `dummy-ups: I/O failed` is written, and the status is 1.
 ///
 /// If clap refuses the words, its text is written to `err`, and the status is 2; the help and the version are written
@@ -116,7 +116,7 @@ fn run_matches<'a, E: Lines>(
     tell_file(rt, alloc, file, socket, err)
 }
 
-/// Tells the script of a file to servers that connect at a socket.
+/// Plays the script of a file to servers that connect at a socket.
 fn tell_file<'a, E: Lines>(
     rt: &(impl Wait + Files<File = File> + Net + Clock),
     alloc: Global,

@@ -148,7 +148,7 @@ fn tell_end<E: Lines>(end: LinkEnd, err: &mut E) {
     }
 }
 
-/// Tells the dummy driver the moment and what its server sent, each only if nothing waits before it, and offers what
+/// Gives the dummy driver the moment and what its server sent, each only if nothing waits before it, and offers what
 /// then waits.
 ///
 /// # Errors

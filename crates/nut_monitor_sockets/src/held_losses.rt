@@ -38,7 +38,7 @@ impl HeldLosses {
         self.lines.clear();
     }
 
-    /// Tells a notice, unless it is held. The losses that are held are told before SHUTDOWN.
+    /// Reports a notice, unless it is held. The losses that are held come before SHUTDOWN.
     pub fn tell<H: Herald>(&mut self, herald: &mut H, monitor: &Monitor, notice: Notice)
         ensures { HandsOn (H.told monitor.now.config herald.old herald.new) (notice ∷ []) }
     {
@@ -51,7 +51,7 @@ impl HeldLosses {
         herald.announce(monitor, notice);
     }
 
-    /// Counts a second that has passed. The losses that are held are told once the first seconds are over.
+    /// Counts a second that has passed. The losses that are held are reported once the first seconds are over.
     pub fn second<H: Herald>(&mut self, herald: &mut H, monitor: &Monitor)
         ensures { HandsOn (H.told monitor.now.config herald.old herald.new) [] }
     {
@@ -108,7 +108,7 @@ impl HeldLosses {
         }
     }
 
-    /// Tells the losses that are held.
+    /// Reports the losses that are held.
     fn tell_all<H: Herald>(&mut self, herald: &mut H, monitor: &Monitor)
         ensures { HandsOn (H.told monitor.now.config herald.old herald.new) [] }
     {

@@ -16,7 +16,7 @@ pub trait Herald: Drop {
     fn announce(&mut self, monitor: &Monitor, notice: Notice)
         ensures { told monitor.now.config self.old self.new (notice ∷ []) };
 
-    /// Is told that a second has passed, or several of them that were missed and that the monitor is told at once. What
+    /// Counts a second that has passed, or several that were missed and that the monitor gets at once. What
     /// was started for a notice may have ended. Returns whether the watch is to end: then this monitor is told nothing
     /// more.
     fn second(&mut self, monitor: &Monitor) -> bool

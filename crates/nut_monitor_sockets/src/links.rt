@@ -27,7 +27,7 @@ use std::process::Processes;
 use std::time::{Clock, Duration};
 use std::{io, mem};
 
-/// The most milliseconds of one wait while a look-up goes on. No event reports its end.
+/// The most milliseconds of one wait while a look-up continues. No event reports its end.
 const LOOK_UP_WAIT: u64 = 100;
 
 /// Why a link ended.
@@ -119,7 +119,7 @@ impl Links {
     }
 
     /// Begins with these links, and closes all others. Their servers are about to be called, at the addresses that are
-    /// known of their hosts. Look-ups that are under way go on. The poll stays: a late report of a closed socket harms no
+    /// known of their hosts. Look-ups that are under way continue. The poll stays: a late report of a closed socket harms no
     /// other.
     ///
     /// # Errors
@@ -170,7 +170,7 @@ impl Links {
 
     /// Returns what comes next, after at most one wait.
     ///
-    /// Links are looked at in the order in which they came to wait. A second is told only after the sockets have been
+    /// Links are looked at in the order in which they came to wait. A second is reported only after the sockets have been
     /// looked at since its end, so what had arrived by then is heard first.
     ///
     /// # Errors
@@ -202,7 +202,7 @@ impl Links {
         Ok(next.unwrap_or(Next::Again))
     }
 
-    /// Whether the clock was found to have moved on since this was last asked. Of several seconds that are told at once,
+    /// Whether the clock was found to have moved on since this was last asked. Of several seconds that come at once,
     /// this is so at the first one only.
     pub fn has_moved_on(&mut self) -> bool {
         mem::take(&mut self.has_moved_on)

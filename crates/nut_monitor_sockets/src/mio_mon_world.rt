@@ -102,7 +102,7 @@ impl<'r, 'e, R: Net + Clock + Processes, H: Herald> MioMonWorld<'r, 'e, R, H> {
     }
 
     /// Begins for a monitor with these links: their servers are called, and all earlier links are closed. The addresses
-    /// of hosts stay known, and look-ups that are under way go on. A lack of memory or descriptors is no error here.
+    /// of hosts stay known, and look-ups that are under way continue. A lack of memory or descriptors is no error here.
     ///
     /// # Errors
     ///

@@ -39,7 +39,7 @@ pub enum Look {
     Nothing,
     /// The program is to read its files.
     Asked,
-    /// The program is to read its files, and the file can't be removed. That is told at the first such request only,
+    /// The program is to read its files, and the file can't be removed. That is reported at the first such request only,
     /// and never if another program reads files of the folder.
     Stuck(io::Error),
 }

@@ -1,4 +1,4 @@
-//! Tells the operator who did what: who changed something, who logged in and out, and who was refused.
+//! Reports to the operator who did what: who changed something, who logged in and out, and who was refused.
 
 use crate::clients::Clients;
 use crate::deed_report::{DeedReport, Who};

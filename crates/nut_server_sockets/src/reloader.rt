@@ -9,6 +9,6 @@ pub trait Reloader {
     /// `None`. The call is made once a second.
     fn look(&mut self, server: &Server, reports: &mut Reports<'_>) -> Option<Box<Config>>;
 
-    /// Tells what became of the configuration that was given last, once the server has accepted or refused it.
+    /// Reports what became of the configuration that was given last, once the server has accepted or refused it.
     fn tell(&mut self, server: &Server, reports: &mut Reports<'_>);
 }

@@ -12,7 +12,7 @@ const PATIENCE: u8 = 2;
 
 /// The clients that wait for the drivers.
 ///
-/// A server that was stopped while the clock went on, for example by a signal or for want of memory, hasn't heard from
+/// A server that was stopped while the clock continued, for example by a signal or for want of memory, hasn't heard from
 /// any driver for more than a third of MAXAGE, and might call all data stale. It then sends each driver PING, and most
 /// answer at once. So clients are read only after that. A machine that slept isn't noticed, since its clock stood
 /// still.

@@ -28,7 +28,7 @@ pub struct Reloading<'r, F> {
     socket_file: Option<ReloadFile>,
     /// The LISTEN lines of the start.
     endpoints: Vec<Endpoint>,
-    /// The configuration that was given last, until it is told what became of it.
+    /// The configuration that was given last, until it is reported what became of it.
     given: Option<Given>,
 }
 

@@ -24,10 +24,10 @@ use std::sync::Wait;
 /// with status 0.
 ///
 /// With `--conf` the files ups.conf, upsd.users and upsd.conf of the folder are read, in this order, and then cmdvartab,
-/// if it is there. The first fault is told as `upsd: ups.conf:2: Repeated`, and a file that can't be read as
+/// if it is there. The first fault is reported as `upsd: ups.conf:2: Repeated`, and a file that can't be read as
 /// `upsd: ups.conf: cannot read`, with a line of its own that has the path and the reason. The values of `--ups` are
-/// read in the order given, and the first fault is told as `upsd: --ups: BadName`. Nothing is served then. A failed read
-/// is told as `upsd: input failed`, a failed write as `upsd: output failed`, and a lack of memory as
+/// read in the order given, and the first fault is reported as `upsd: --ups: BadName`. Nothing is served then. A failed read
+/// is reported as `upsd: input failed`, a failed write as `upsd: output failed`, and a lack of memory as
 /// `upsd: out of memory`.
 ///
 /// Replies are written as soon as a piece of the input was read, so `out` should not buffer.

@@ -75,7 +75,7 @@ pub fn ups_failure(fault: FaultKind) -> Failure<UpsdFault> {
     }
 }
 
-/// Returns the exit status of an upsd that was started with these words: 0, or that of a failure, which is told.
+/// Returns the exit status of an upsd that was started with these words: 0, or that of a failure, which is reported.
 pub fn exit_status<S: AsStr, O: Write, E: Lines>(
     alloc: Global,
     words: &[S],
