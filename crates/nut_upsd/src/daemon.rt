@@ -185,7 +185,7 @@ fn listen_and_serve<R: Wait + Files + Net + Clock + Processes>(
 }
 
 /// Returns what was made, and `value` beside it. If nothing was made, `value` is dropped here, in one place: a drop at
-/// each caller's `?` makes its proof long (docs/tests.md).
+/// each caller's `?` makes its proof long (CONTRIBUTING.md).
 fn paired<A: Drop, B: Drop, F: Drop>(made: Result<A, F>, value: B) -> Result<(A, B), F> {
     Ok((made?, value))
 }
