@@ -277,6 +277,35 @@ class Tests(Shimmed):
                     expect(client.ask(b"VER\n"), VERSION, "one that is logged in")
             until(room.serves, "the others have gone")
 
+    def test_who_asks_stays(self):
+        """A client that asks each five seconds, whoever calls meanwhile and says nothing; and of those that ask the one that was heard
+        last."""
+        with self.room() as room:
+            room.upsd("-q")
+            with room.client() as dashboard, closing([]) as strangers:
+                for _ in range(2):
+                    expect(dashboard.ask(b"VER\n"), VERSION, "a client that asks")
+                    strangers += [room.client() for _ in range(MOST)]
+                    time.sleep(5)
+                until(lambda: sum(map(self.has_ended, strangers)) == MOST + 1, "as many as it takes have made way", 60)
+                expect(dashboard.ask(b"VER\n"), VERSION, "a client that asks each five seconds")
+                gone = [i for i, it in enumerate(strangers) if self.has_ended(it)]
+                expect(gone, list(range(MOST + 1)), "who has made way: the first of those that say nothing")
+        with self.room(conf=b"MAXCONN 4\n") as room:
+            room.upsd("-q")
+            with contextlib.ExitStack() as stack:
+                there = [stack.enter_context(room.client()) for _ in range(4)]
+                for client in there:
+                    expect(client.ask(b"VER\n"), VERSION, "a client that asks")
+                # a second is over for each
+                time.sleep(2.2)
+                for client in (there[0], there[2], there[3]):
+                    expect(client.ask(b"VER\n"), VERSION, "a client that asks again")
+                expect(stack.enter_context(room.client()).ask(b"VER\n"), VERSION, "one more")
+                ensure(there[1].is_closed(), "the one that was silent for longest makes way")
+                for client in (there[0], there[2], there[3]):
+                    expect(client.ask(b"VER\n"), VERSION, "another")
+
     def test_what_is_told_of_those_that_make_way(self):
         with self.room(conf=b"MAXCONN 4\n") as room:
             upsd, begun = room.upsd("-q"), time.monotonic()

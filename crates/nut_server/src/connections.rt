@@ -88,7 +88,7 @@ fn has_no_login(connection: &Connection) -> bool
 }
 
 /// Whether the client isn't logged in, and hasn't given the name and the password of a user.
-fn is_stranger(config: &Config, connection: &Connection) -> bool
+pub fn is_stranger(config: &Config, connection: &Connection) -> bool
     ensures { result ≡ is_stranger config.now.users connection.now }
 {
     has_no_login(connection) && !has_right_credentials(config, connection)

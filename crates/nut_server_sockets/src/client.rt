@@ -34,12 +34,14 @@ pub struct Client {
     is_parked: bool,
     /// Whether the server was given bytes of it and hasn't offered it any since.
     is_unanswered: bool,
-    /// The second in which it last sent a whole line, or took some of an answer.
+    /// The second in which it connected.
+    since: u64,
+    /// The second in which it last sent a whole line, or took some of an answer; 0 if it has sent none.
     spoke: u64,
 }
 
 impl Client {
-    /// Returns a client that connects in this second.
+    /// Returns a client that connects in this second, counted from 1.
     pub fn new(number: u64, address: IpAddr, stream: TcpStream, second: u64) -> Client {
         Client {
             number,
@@ -50,7 +52,8 @@ impl Client {
             held: None,
             is_parked: false,
             is_unanswered: false,
-            spoke: second,
+            since: second,
+            spoke: 0,
         }
     }
 
@@ -145,7 +148,7 @@ impl Client {
     /// Returns how many seconds of silence the client is allowed. Whether it is logged in matters only after
     /// [`PATIENCE`].
     pub fn patience(&self, server: &Server, second: u64) -> u64 {
-        if second > self.spoke.saturating_add(PATIENCE) && server.is_logged_in(self.number) {
+        if second > self.last_of(PATIENCE) && server.is_logged_in(self.number) {
             PATIENCE_WITH_LOGIN
         } else {
             PATIENCE
@@ -154,7 +157,22 @@ impl Client {
 
     /// Returns the last second of as many of silence.
     pub fn last_of(&self, patience: u64) -> u64 {
-        self.spoke.saturating_add(patience)
+        self.heard().saturating_add(patience)
+    }
+
+    /// Returns the second in which it last sent a whole line or took some of an answer; that in which it connected, if it has
+    /// sent no line.
+    pub fn heard(&self) -> u64 {
+        if self.is_mute() {
+            self.since
+        } else {
+            self.spoke
+        }
+    }
+
+    /// Whether it has sent no whole line.
+    pub fn is_mute(&self) -> bool {
+        self.spoke == 0
     }
 }
 

@@ -7,6 +7,7 @@ ghost use Rattle.nut_server_spec.specs.Acceptance.{may_read, session_of};
 use crate::client::{Client, PATIENCE};
 use crate::door::Guest;
 use crate::keepalive::keep_alive;
+use crate::leaving::Leaving;
 use crate::login::Login;
 use crate::source::Source;
 use mio::event::Event;
@@ -49,7 +50,8 @@ pub struct Clients {
     held: Slab<Piece>,
     /// The key of the socket that was read last. Most bytes are offered to that connection.
     last_heard: usize,
-    /// How many seconds the server has been awake. Seconds in which it was stopped don't count as silence of a client.
+    /// The second of those in which the server is awake, from 1 on. Seconds in which it was stopped don't count as silence of a
+    /// client.
     second: u64,
     /// The last second in which no client can have been silent for too long.
     patient: u64,
@@ -69,7 +71,7 @@ impl Clients {
             logins: Slab::with_capacity(alloc, CLIENTS_MAX)?,
             held: Slab::with_capacity(alloc, CLIENTS_MAX)?,
             last_heard: 0,
-            second: 0,
+            second: 1,
             patient: u64::MAX,
         })
     }
@@ -201,6 +203,23 @@ impl Clients {
         Some(client)
     }
 
+    /// Returns the number of the connection that is closed if a client calls, if one has to be. Clients that gave the name and the
+    /// password of a user make way only if there are no others without login.
+    pub fn makes_way(&self, server: &Server) -> Option<u64> {
+        let first = server.makes_way()?;
+        let are_strangers = server.is_stranger(first);
+        let mut leaving = Leaving::none();
+        for (number, key) in self.keys.iter() {
+            if may_leave(server, are_strangers, *number)
+                && let Some(client) = self.sockets.get(*key)
+            {
+                leaving.look(*number, client.heard(), client.is_mute());
+            }
+        }
+        let chosen = leaving.chosen(server.config().most_connections());
+        Some(chosen.unwrap_or(first))
+    }
+
     /// Closes the socket of a connection to let another client in. Returns the address of its client.
     pub fn turn_out(&mut self, number: u64) -> Option<IpAddr> {
         let client = self.remove(number)?;
@@ -234,5 +253,14 @@ impl Clients {
     /// Closes the socket of a connection. Returns the address of its client if that is unanswered.
     pub fn close(&mut self, number: u64) -> Option<IpAddr> {
         self.remove(number)?.unanswered()
+    }
+}
+
+/// Whether a client may make way: a stranger if these do, else any that isn't logged in.
+fn may_leave(server: &Server, are_strangers: bool, number: u64) -> bool {
+    if are_strangers {
+        server.is_stranger(number)
+    } else {
+        !server.is_logged_in(number)
     }
 }

@@ -13,6 +13,7 @@ mod drivers;
 mod dual_stack;
 mod hindrances;
 mod keepalive;
+mod leaving;
 mod listeners;
 mod login;
 mod mio_world;

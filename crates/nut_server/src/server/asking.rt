@@ -5,9 +5,10 @@ ghost use Rattle.std.specs.Option.{option_map_or};
 ghost use Rattle.nut_queue.specs.Front.{IsFrontPart};
 ghost use Rattle.nut_server_spec.specs.Device.{is_stale};
 ghost use Rattle.nut_server_spec.specs.Acceptance.{session_of, supply_of, asks_of, kept, is_connected, has_login};
-ghost use Rattle.nut_server.specs.Seats.{makes_way};
+ghost use Rattle.nut_server.specs.Seats.{is_stranger, makes_way};
 
 use crate::connection::Connection;
+use crate::connections::is_stranger;
 use crate::deeds::Deed;
 use crate::device::Device;
 use crate::server::Server;
@@ -41,6 +42,17 @@ impl Server {
     {
         match self.parts.connections.get(c) {
             Some(connection) => connection.login().is_some(),
+            None => false,
+        }
+    }
+
+    /// Whether the client of a connection isn't logged in, and hasn't given the name and the password of a user: false if the
+    /// connection isn't open.
+    pub fn is_stranger(&self, c: u64) -> bool
+        ensures { result ≡ option_map_or (is_stranger self.now.configuration.users) (session_of c self.now.sessions) false }
+    {
+        match self.parts.connections.get(c) {
+            Some(connection) => is_stranger(&self.parts.config, connection),
             None => false,
         }
     }

@@ -93,7 +93,7 @@ impl Sockets {
         ensures given { IfSome result (λ n. (token : ℕ) → IsGivenBy token n) }
         ensures turns { self.new.rounds ≡ self.old.rounds }
     {
-        if let Some(number) = server.makes_way() {
+        if let Some(number) = self.clients.makes_way(server) {
             self.turn_out(server, number, reports);
             return Some(Next::Close(number));
         }
