@@ -53,7 +53,7 @@ pub trait Starter: Drop {
         ensures { IfOk result (λ actor. Self.Actor.log actor ≡ log self) };
 }
 
-/// Whoever acts on the machine for upsmon: tells notices, and halts.
+/// Whoever acts on the machine for upsmon: reports notices, and halts.
 pub trait Actor: Drop {
     /// What it did, the newest first; None if it tells nothing.
     ghost log: { Self → Option (List Act) };
@@ -93,7 +93,7 @@ pub trait Actor: Drop {
     ///
     /// # Errors
     ///
-    /// Why it isn't set, which was told.
+    /// Why it isn't set, which was reported.
     fn set_flag(&mut self) -> Result<(), FlagFault>
         ensures { log self.new ≡ does TriedFlag (log self.old) };
 

@@ -9,7 +9,7 @@ use nut_monitor::Monitor;
 use nut_monitor_sockets::NewLinks;
 use std::alloc::{AllocError, Global};
 
-/// What a watch begins with: a monitor that was told nothing yet, and its links. All memory that a watch needs to begin
+/// What a watch begins with: a monitor that has heard nothing yet, and its links. All memory that a watch needs to begin
 /// is in it.
 #[derive(Drop)]
 pub struct Beginning {

@@ -66,7 +66,7 @@ impl fmt::Display for Shortfall {
 
 /// Who hears how an errand ended.
 pub trait Teller {
-    /// Tells how the errand at the server of this line ended.
+    /// Reports how the errand at the server of this line ended.
     fn tell(&mut self, line: &Monitored, ended: &Result<(), Shortfall>);
 }
 
@@ -221,7 +221,7 @@ fn is_waiting(ended: &Result<(), Shortfall>) -> bool {
     )
 }
 
-/// Does an errand at the servers of all lines that it concerns, at once, and tells of each how it ended as soon as it has.
+/// Does an errand at the servers of all lines that it concerns, at once, and reports of each how it ended as soon as it has.
 /// A server that isn't reached, or takes longer than 10 seconds for an answer, keeps nobody else waiting. Returns for each
 /// line whether all was done.
 ///

@@ -15,7 +15,7 @@ use std::rt::Files;
 use std::time::Clock;
 
 /// Sets FSD at the servers of the primary lines of a configuration, at all of them at once, and asks each whether the
-/// status of its UPS shows that. Tells of each what became of it: on standard output that it is set, on `told` why it
+/// status of its UPS shows that. Reports of each what became of it: on standard output that it is set, on `told` why it
 /// isn't, or why the machines of that UPS don't stop. At the end `told` says what this machine is still fed by, if that is
 /// enough for it. Returns whether FSD is set and shown on all. The standard streams that are closed are held meanwhile, so
 /// that no socket takes the place of one.
@@ -55,7 +55,7 @@ fn is_all_forced(lines: &[Monitored], forced: &[bool]) -> bool {
     each.all(|(line, is_forced)| *is_forced || line.role == Role::Secondary)
 }
 
-/// Where it is told what became of each line.
+/// Where it is reported what became of each line.
 #[derive(Drop)]
 struct Report<'e> {
     out: OutputLines,
@@ -79,7 +79,7 @@ impl<'e> Teller for Report<'e> {
     }
 }
 
-/// Tells which lines still supply this machine, if they supply enough for it.
+/// Reports which lines still supply this machine, if they supply enough for it.
 fn tell_supplies(config: &MonConfig, forced: &[bool], told: &mut ErrorLines) {
     let lines = config.monitors.lines.as_slice();
     let needed = u64::from(config.min_supplies.value);

@@ -236,7 +236,7 @@ pub fn clear_left_flag(
     Ok(())
 }
 
-/// Tells what a start tells of the POWERDOWNFLAG of a configuration, except that it removes one. No flag is removed, and no
+/// Reports what a start tells of the POWERDOWNFLAG of a configuration, except that it removes one. No flag is removed, and no
 /// file is left.
 ///
 /// # Errors
@@ -254,7 +254,7 @@ pub fn check_flag(
     Ok(())
 }
 
-/// Tells what keeps a flag from being removed at a start, or, if it is to be set, from being written.
+/// Reports what keeps a flag from being removed at a start, or, if it is to be set, from being written.
 fn check(flag: &PowerDownFlag, files: &impl Files, is_to_set: bool, err: &mut ErrorLines) {
     match flag.state(files) {
         Ok(FlagState::Foreign) => tell_found(flag.path(), FlagState::Foreign, err),
@@ -268,7 +268,7 @@ fn check(flag: &PowerDownFlag, files: &impl Files, is_to_set: bool, err: &mut Er
     }
 }
 
-/// Removes a flag if it is set, and tells what was found in its place.
+/// Removes a flag if it is set, and reports what was found in its place.
 fn clear(flag: &PowerDownFlag, files: &impl Files, err: &mut ErrorLines) {
     match flag.clear(files) {
         Ok(state) => tell_found(flag.path(), state, err),
@@ -276,7 +276,7 @@ fn clear(flag: &PowerDownFlag, files: &impl Files, err: &mut ErrorLines) {
     }
 }
 
-/// Tells what was found under the name of POWERDOWNFLAG. A flag that was set is removed.
+/// Reports what was found under the name of POWERDOWNFLAG. A flag that was set is removed.
 fn tell_found(path: &str, found: FlagState, err: &mut ErrorLines) {
     let _ = match found {
         FlagState::Absent | FlagState::Empty => Ok(()),
@@ -292,7 +292,7 @@ fn tell_found(path: &str, found: FlagState, err: &mut ErrorLines) {
     };
 }
 
-/// Tells why POWERDOWNFLAG isn't removed, or couldn't be written if the machine were to be halted now.
+/// Reports why POWERDOWNFLAG isn't removed, or couldn't be written if the machine were to be halted now.
 fn tell_failed(what: &str, path: &str, error: &io::Error, err: &mut ErrorLines) {
     let _ = writeln!(
         err.begin(Level::Warning),
@@ -300,7 +300,7 @@ fn tell_failed(what: &str, path: &str, error: &io::Error, err: &mut ErrorLines) 
     );
 }
 
-/// Tells why POWERDOWNFLAG isn't set.
+/// Reports why POWERDOWNFLAG isn't set.
 fn tell_unset(path: &str, fault: &FlagFault, err: &mut ErrorLines) {
     let _ = writeln!(err.begin(Level::Warning), "POWERDOWNFLAG {path} {fault}");
 }
@@ -337,7 +337,7 @@ fn replace_shell<R: Processes>(
     }
 }
 
-/// Tells that the shell for SHUTDOWNCMD can't be started, and why.
+/// Reports that the shell for SHUTDOWNCMD can't be started, and why.
 fn tell_not_ready(error: &io::Error, err: &mut ErrorLines) {
     let _ = writeln!(
         err.begin(Level::Warning),
@@ -345,7 +345,7 @@ fn tell_not_ready(error: &io::Error, err: &mut ErrorLines) {
     );
 }
 
-/// Tells that the shell for SHUTDOWNCMD is stopped.
+/// Reports that the shell for SHUTDOWNCMD is stopped.
 fn tell_stopped(err: &mut ErrorLines) {
     let _ = writeln!(
         err.begin(Level::Warning),
@@ -353,7 +353,7 @@ fn tell_stopped(err: &mut ErrorLines) {
     );
 }
 
-/// Tells that another shell waits to run SHUTDOWNCMD.
+/// Reports that another shell waits to run SHUTDOWNCMD.
 fn tell_replaced(err: &mut ErrorLines) {
     let _ = writeln!(
         err.begin(Level::Warning),

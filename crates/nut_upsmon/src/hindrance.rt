@@ -81,7 +81,7 @@ fn is_plain(byte: &u8) -> bool {
     byte.is_ascii_alphanumeric() || matches!(*byte, b'/' | b'.' | b'_' | b'-' | b'+')
 }
 
-/// Where it is told why a server doesn't let this machine log in.
+/// Where it is reported why a server doesn't let this machine log in.
 #[derive(Drop)]
 struct Report<'e> {
     err: &'e mut ErrorLines,

@@ -35,7 +35,7 @@ struct Patience {
     pause: u8,
     /// How often a server is asked that doesn't answer.
     tries: u8,
-    /// Whether it is told that a server doesn't answer, and that it takes too long for an answer.
+    /// Whether it is reported that a server doesn't answer, and that it takes too long for an answer.
     is_told: bool,
 }
 
@@ -47,7 +47,7 @@ const CHECK: Patience = Patience {
     is_told: true,
 };
 
-/// For a monitor that goes on meanwhile, with steps of a second: its server may start later than it does.
+/// For a monitor that continues meanwhile, with steps of a second: its server may start later than it does.
 const WATCH: Patience = Patience {
     question: ANSWER_ON_BATTERY,
     pause: 30,
@@ -145,7 +145,7 @@ impl<'r, R: Processes> LowRuntimes<'r, R> {
         self.heed(question.about, answer, err);
     }
 
-    /// Tells what is known of a UPS by the answer about it, if it is one of this configuration.
+    /// Reports what is known of a UPS by the answer about it, if it is one of this configuration.
     fn heed(&mut self, ups: Ups, answer: Option<u64>, err: &mut ErrorLines) {
         if ups.generation != self.generation {
             return;
@@ -244,7 +244,7 @@ fn ask_all<R: Processes>(
     runtimes.end();
 }
 
-/// Tells that a server takes longer for an answer than upsmon waits while a UPS is on battery.
+/// Reports that a server takes longer for an answer than upsmon waits while a UPS is on battery.
 fn tell_late(ups: &Ups, err: &mut ErrorLines) {
     let _ = writeln!(
         err.begin(Level::Warning),
@@ -253,7 +253,7 @@ fn tell_late(ups: &Ups, err: &mut ErrorLines) {
     );
 }
 
-/// Tells that a UPS isn't known to say LB early enough.
+/// Reports that a UPS isn't known to say LB early enough.
 fn tell_unknown(ups: &Ups, err: &mut ErrorLines) {
     let _ = writeln!(
         err.begin(Level::Warning),

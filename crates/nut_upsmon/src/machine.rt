@@ -23,7 +23,7 @@ use std::rt::Files;
 use std::time::Clock;
 use std::{fmt, io, mem};
 
-/// The actor of upsmon: it tells notices and what a shutdown is for, keeps the halt of its machine prepared, and takes up a
+/// The actor of upsmon: it reports notices and what a shutdown is for, keeps the halt of its machine prepared, and takes up a
 /// changed upsmon.conf.
 ///
 /// The halt that a configuration sets is prepared before the earlier one is given up, so there is no moment without.
@@ -146,7 +146,7 @@ where
     R: Files + Processes + Clock,
 {
     /// Makes ready to take up a configuration in place of an earlier one. Returns what its watch begins with. If that
-    /// fails, everything goes on as before, and why is told.
+    /// fails, everything continues as before, and the reason is reported.
     fn take_up(&mut self, former: &MonConfig, reload: Reload) -> Option<Beginning> {
         match self.ready_next(former, reload.config()) {
             Ok(()) => Some(self.reloader.report(reload, &mut self.err)),
@@ -168,7 +168,7 @@ where
         started
     }
 
-    /// Starts the shell of another configuration's halt, and tells by that configuration from now on.
+    /// Starts the shell of another configuration's halt, and gives notices by that configuration from now on.
     fn start_halt(
         &mut self,
         halt: &mut Halt<'r, 'r, R>,
@@ -181,7 +181,7 @@ where
         Ok(())
     }
 
-    /// Tells once that a shutdown has begun, and for which UPSes.
+    /// Reports once that a shutdown has begun, and for which UPSes.
     fn follow(&mut self, monitor: &Monitor) {
         if !self.is_ending && monitor.phase() != Phase::Watching {
             self.is_ending = true;
@@ -196,7 +196,7 @@ where
 {
     ghost log = { λ m. None };
 
-    /// Makes the next POWERDOWNFLAG ready, starts the shell that waits to run SHUTDOWNCMD, and tells what is watched. A
+    /// Makes the next POWERDOWNFLAG ready, starts the shell that waits to run SHUTDOWNCMD, and reports what is watched. A
     /// shell that can't be started is told.
     fn ready(&mut self, config: &MonConfig) -> Result<(), AllocError> {
         self.notifier.restart(config)?;

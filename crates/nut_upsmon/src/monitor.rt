@@ -40,7 +40,7 @@ use std::time::Clock;
 /// `out` as one line if its flags have SYSLOG or WALL, and NOTIFYCMD is run with it if they have EXEC; with IGNORE
 /// neither is done. At the halt all links are closed, POWERDOWNFLAG is set if a MONITOR line is primary, and then
 /// SHUTDOWNCMD is run. All that this takes is prepared before anything is watched, except a shell that can't be started
-/// yet, which is told. The status is 0 if SHUTDOWNCMD ended with 0 or there is none, else 1. A POWERDOWNFLAG that an
+/// yet, which is reported. The status is 0 if SHUTDOWNCMD ended with 0 or there is none, else 1. A POWERDOWNFLAG that an
 /// earlier shutdown left is removed at the start, or when a reload names it.
 ///
 /// With `-K` nothing is watched: the status is 0 if POWERDOWNFLAG is set, else 1. If the file can be read, but a line
@@ -125,7 +125,7 @@ where
 }
 
 /// Returns whether the flag that upsmon.conf in this folder names is set, as an exit status: 1 if it names none. If a line
-/// of the file has a fault, that is told, and the last line that names a flag and has none counts.
+/// of the file has a fault, that is reported, and the last line that names a flag and has none counts.
 fn look_for_flag<R: Files>(
     files: &R,
     alloc: Global,
@@ -171,7 +171,7 @@ fn is_set(files: &impl Files, flag: &Option<PowerDownFlag>) -> bool {
     }
 }
 
-/// Reads upsmon.conf in this folder, writes what it should set otherwise and how soon its machine stops, tells what is
+/// Reads upsmon.conf in this folder, writes what it should set otherwise and how soon its machine stops, reports what is
 /// wrong with POWERDOWNFLAG and what would keep the machine from stopping, and asks the servers whether their UPSes report
 /// LB early enough. Returns the exit status: 0 if nothing keeps the machine from stopping, else 1.
 fn check_file<R>(

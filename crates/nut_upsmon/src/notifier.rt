@@ -18,7 +18,7 @@ const TEXT_MAX: usize = MESSAGE_MAX + TARGET_MAX - 2;
 
 /// Prints notices, and runs NOTIFYCMD with them.
 ///
-/// A run of the command that can't be started is let go, which is told, as is a UPS that says LB later than this machine
+/// A run of the command that can't be started is let go, which is reported, as is a UPS that says LB later than this machine
 /// needs to stop.
 #[derive(Drop)]
 pub struct Notifier<'a, R: Processes> {
@@ -48,7 +48,7 @@ impl<'a, R: Processes> Notifier<'a, R> {
         })
     }
 
-    /// Tells by this configuration from now on. Runs of the command that haven't ended go on.
+    /// Gives notices by this configuration from now on. Runs of the command that haven't ended continue.
     ///
     /// # Errors
     ///
@@ -79,7 +79,7 @@ impl<'a, R: Processes> Notifier<'a, R> {
         let _ = self.out.write_all(b"\n");
     }
 
-    /// Runs NOTIFYCMD with a notice. A run that can't be started is told on `err`.
+    /// Runs NOTIFYCMD with a notice. A run that can't be started is reported on `err`.
     pub fn call(&mut self, monitor: &Monitor, notice: Notice, err: &mut ErrorLines) {
         self.put_text(monitor, notice);
         let called = self.command.call(Call {
@@ -105,7 +105,7 @@ impl<'a, R: Processes> Notifier<'a, R> {
         tell_left(monitor, err);
     }
 
-    /// Forgets the processes that have ended, and goes on asking the UPSes. A UPS that says LB too late is told on `err`.
+    /// Forgets the processes that have ended, and continues asking the UPSes. A UPS that says LB too late is reported on `err`.
     pub fn second(&mut self, err: &mut ErrorLines) {
         self.command.reap();
         let _ = self.runtimes.step(err);

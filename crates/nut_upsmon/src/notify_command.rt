@@ -67,7 +67,7 @@ impl<'r, R: Processes> NotifyCommand<'r, R> {
         })
     }
 
-    /// Takes a script, of [`script_in`]. Runs that haven't ended go on.
+    /// Takes a script, of [`script_in`]. Runs that haven't ended continue.
     pub fn set_script(&mut self, script: Option<String>) {
         self.script = script;
     }

@@ -45,7 +45,7 @@ impl Reload {
 /// Reads upsmon.conf at the start, and looks each second whether it is to be read again.
 ///
 /// A new monitor knows of a UPS only what its server says from then on. So a configuration waits while the last status of
-/// a UPS that it goes on watching has OB or FSD: if that server then said nothing more, this machine would have to be
+/// a UPS that it continues watching has OB or FSD: if that server then said nothing more, this machine would have to be
 /// halted, and a new monitor wouldn't know.
 #[derive(Drop)]
 pub struct Reloader {
@@ -110,7 +110,7 @@ impl Reloader {
         Reports::new(err, !self.is_quiet)
     }
 
-    /// Reads upsmon.conf if that was asked for and it is upsmon's turn. Returns the configuration to go on with, if
+    /// Reads upsmon.conf if that was asked for and it is upsmon's turn. Returns the configuration to continue with, if
     /// there is one now. Why there is none though it was asked for is written to `err`.
     pub fn second(
         &mut self,
@@ -161,7 +161,7 @@ impl Reloader {
         }
     }
 
-    /// Reads upsmon.conf. If it can't be read, or nothing in it has changed, that is told.
+    /// Reads upsmon.conf. If it can't be read, or nothing in it has changed, that is reported.
     fn read(&mut self, files: &impl Files, former: &MonConfig, err: &mut ErrorLines) {
         self.is_wait_told = false;
         self.waiting = match self.read_reload(files, former, err) {
@@ -184,7 +184,7 @@ impl Reloader {
         Reload::of(self.alloc, former, config).map_err(|_| FileFault::Memory)
     }
 
-    /// Returns a configuration in which something has changed. If nothing has, that is told: the links stay.
+    /// Returns a configuration in which something has changed. If nothing has, that is reported: the links stay.
     fn unless_same(&self, reload: Reload, err: &mut ErrorLines) -> Option<Reload> {
         if reload.changes.are_none() {
             let changes = reload.changes.as_str();
@@ -194,7 +194,7 @@ impl Reloader {
         Some(reload)
     }
 
-    /// Returns the configuration that waits, unless it has to go on waiting, which is told once.
+    /// Returns the configuration that waits, unless it has to continue waiting, which is reported once.
     fn take_waiting(&mut self, monitor: &Monitor, err: &mut ErrorLines) -> Option<Reload> {
         match first_obstacle(monitor, self.waiting.as_ref()?.config()) {
             Some(obstacle) => {
@@ -205,7 +205,7 @@ impl Reloader {
         }
     }
 
-    /// Tells that the configuration waits for a UPS, if that wasn't told before.
+    /// Reports that the configuration waits for a UPS, if that wasn't told before.
     fn tell_wait_once(&mut self, obstacle: Obstacle<'_>, err: &mut ErrorLines) {
         if !self.is_wait_told {
             self.is_wait_told = true;
@@ -231,7 +231,7 @@ fn tell_wait(obstacle: Obstacle<'_>, err: &mut ErrorLines) {
     );
 }
 
-/// Returns the first UPS that holds up a reload to this configuration, of those that it goes on watching.
+/// Returns the first UPS that holds up a reload to this configuration, of those that it continues watching.
 fn first_obstacle<'a>(monitor: &'a Monitor, config: &MonConfig) -> Option<Obstacle<'a>> {
     let lines = &monitor.config().monitors.lines;
     for (i, line) in lines.iter().enumerate() {

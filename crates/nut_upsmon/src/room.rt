@@ -220,7 +220,7 @@ impl<'s> Findings<'s> {
     }
 }
 
-/// Tells what each machine of a room does and should set otherwise, and what each primary needs for the others.
+/// Reports what each machine of a room does and should set otherwise, and what each primary needs for the others.
 fn tell_room(machines: &[Machine<'_>], told: &mut Findings<'_>) -> io::Result<()> {
     for machine in machines {
         tell_machine(machine, machines, told)?;
@@ -236,7 +236,7 @@ fn tell_room(machines: &[Machine<'_>], told: &mut Findings<'_>) -> io::Result<()
     Ok(())
 }
 
-/// Tells how soon a machine stops, what it should set otherwise, and why no primary waits for it.
+/// Reports how soon a machine stops, what it should set otherwise, and why no primary waits for it.
 fn tell_machine(
     machine: &Machine<'_>,
     machines: &[Machine<'_>],
@@ -257,7 +257,7 @@ fn tell_machine(
     Ok(())
 }
 
-/// Tells whether the HOSTSYNC of a primary is enough for the other machines that need its UPSes, and how long their battery
+/// Reports whether the HOSTSYNC of a primary is enough for the other machines that need its UPSes, and how long their battery
 /// has to last.
 fn tell_primary(
     primary: &Machine<'_>,
@@ -327,7 +327,7 @@ impl<'a> Machine<'a> {
     }
 }
 
-/// Returns the HOSTSYNC of a primary from which on another machine is halted before the primary goes on, whether or not the
+/// Returns the HOSTSYNC of a primary from which on another machine is halted before the primary continues, whether or not the
 /// primary's last status is so old that it takes the UPS for dead.
 fn host_sync_for(primary: &Machine<'_>, other: &Machine<'_>) -> u64
     ensures { result ≡ host_sync_for (configuration_of primary.now.config) (prompt primary.now.delay) false

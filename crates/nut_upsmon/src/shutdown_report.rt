@@ -7,7 +7,7 @@ use nut_monitor_spec::Communication;
 use nut_poll::{ErrorLines, text_of};
 use std::io::Write;
 
-/// Tells what is known of the UPSes that a shutdown may be for, as it begins.
+/// Reports what is known of the UPSes that a shutdown may be for, as it begins.
 pub fn tell_beginning(monitor: &Monitor, err: &mut ErrorLines) {
     for (i, line) in monitor.config().monitors.lines.iter().enumerate() {
         if let Some(state) = monitor.known(i).and_then(state_of) {
@@ -17,7 +17,7 @@ pub fn tell_beginning(monitor: &Monitor, err: &mut ErrorLines) {
     }
 }
 
-/// Tells, as the notice of the shutdown is given, how many other clients are still logged in to each UPS of which this
+/// Reports, as the notice of the shutdown is given, how many other clients are still logged in to each UPS of which this
 /// machine is the primary, or that FSD wasn't accepted.
 pub fn tell_left(monitor: &Monitor, err: &mut ErrorLines) {
     for (i, line) in monitor.config().monitors.lines.iter().enumerate() {
@@ -29,7 +29,7 @@ pub fn tell_left(monitor: &Monitor, err: &mut ErrorLines) {
     }
 }
 
-/// Tells how many other clients are still logged in to this UPS, or that FSD wasn't accepted.
+/// Reports how many other clients are still logged in to this UPS, or that FSD wasn't accepted.
 fn tell_left_of(line: &Monitored, known: Known, err: &mut ErrorLines) {
     let name = text_of(&line.written);
     let others = known.logins.unwrap_or(0).saturating_sub(1);

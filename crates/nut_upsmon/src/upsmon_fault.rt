@@ -58,7 +58,7 @@ impl From<HaltFault> for Failure<UpsmonFault> {
     }
 }
 
-/// Tells a failure by which upsmon ends that was started with these words. Returns the exit status.
+/// Reports a failure by which upsmon ends that was started with these words. Returns the exit status.
 pub fn tell_failure<S: AsStr>(
     alloc: Global,
     words: &[S],

@@ -137,7 +137,7 @@ where
     Ok(phase)
 }
 
-/// Watches with a monitor that was told nothing yet. Returns what it says in the end.
+/// Watches with a monitor that has heard nothing yet. Returns what it says in the end.
 ///
 /// # Errors
 ///
