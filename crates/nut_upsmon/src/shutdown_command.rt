@@ -134,7 +134,7 @@ impl<'r, 'h, R: Processes> ShutdownCommand<'r, 'h, R> {
     }
 
     /// Sends SIGCONT to the shell that waits or runs the command, by another shell, which isn't waited for. One that was
-    /// started for this before and continues is enough.
+    /// started for this before and still runs is enough.
     pub fn wake(&mut self) {
         forget_ended(&mut self.waker);
         if self.waker.is_none()
