@@ -137,6 +137,8 @@ put 644 man/nutroom.8 share/man/man8/nutroom.8
 put 644 packaging/completions.bash share/bash-completion/completions/nutroom
 put 755 packaging/until-ready lib/mulgefa/until-ready
 put_filled packaging/nut-drivers.conf lib/mulgefa/nut-drivers.conf
+sed -e "s|@PREFIX@|$PREFIX|g" packaging/upsmon-apart > "$filled"
+put 755 "$filled" lib/mulgefa/upsmon-apart
 put 755 packaging/mulgefa-check sbin/mulgefa-check
 put 644 man/mulgefa-check.8 share/man/man8/mulgefa-check.8
 for page in man/*.5; do

@@ -165,12 +165,12 @@ make_tar() {
         install -m 755 "$work/programs/$program" "$tree/bin/$program"
     done
     install -m 644 "$work/programs/third-party-notices" "$tree/bin/third-party-notices"
-    for file in install.sh configure.sh completions.bash mulgefa-check mulgefa-nut-drivers until-ready mulgefa.sysusers \
+    for file in install.sh configure.sh completions.bash mulgefa-check mulgefa-nut-drivers until-ready upsmon-apart mulgefa.sysusers \
         mulgefa-upsd.service mulgefa-upsmon.service mulgefa-dummy-ups@.service nut-drivers.conf; do
         install -m 644 "packaging/$file" "$tree/packaging/$file"
     done
     built "$tree/packaging/mulgefa-check"
-    (cd "$tree/packaging" && chmod 755 install.sh mulgefa-check mulgefa-nut-drivers until-ready)
+    (cd "$tree/packaging" && chmod 755 install.sh mulgefa-check mulgefa-nut-drivers until-ready upsmon-apart)
     cp -R man examples CHANGELOG.md SECURITY.md "$tree/"
     install -m 644 packaging/archive.md "$tree/README.md"
     install -D -m 755 tools/nutroom "$tree/tools/nutroom"

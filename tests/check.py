@@ -51,6 +51,7 @@ TESTS = (
     ("programs.upsmon_links", ("upsd", "dummy_ups", "upsc", "upsmon")),
     ("programs.upsmon_halting", ("upsd", "dummy_ups", "upsc", "upsmon")),
     ("programs.upsmon_reload", ("upsd", "dummy_ups", "upsc", "upsmon")),
+    ("programs.upsmon_apart", ("upsd", "dummy_ups", "upsc", "upsmon")),
     ("programs.journal", ("upsd", "dummy_ups", "upsc", "upsmon")),
     ("programs.nutsim", ("nutsim", "rehearse")),
     ("programs.nutroom", ("nutsim",)),

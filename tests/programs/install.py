@@ -180,7 +180,8 @@ def folder_of(program):
 def wanted_files():
     """Returns the files that are installed, with their modes."""
     files = {"lib/sysusers.d/mulgefa.conf": 0o644, "share/bash-completion/completions/nutroom": 0o644}
-    files.update({script: 0o755 for script in ("sbin/mulgefa-check", "bin/nutroom", "lib/mulgefa/until-ready")})
+    scripts = ("sbin/mulgefa-check", "bin/nutroom", "lib/mulgefa/until-ready", "lib/mulgefa/upsmon-apart")
+    files.update({script: 0o755 for script in scripts})
     files["lib/mulgefa/nut-drivers.conf"] = 0o644
     files.update({f"share/mulgefa/{page}": 0o644 for page in ("from-nut.md", "room.md", "room.svg", "third-party-notices")})
     files.update({f"share/mulgefa/rooms/five/{file}": 0o644 for file in ROOM_FILES})
@@ -942,6 +943,9 @@ class Tests:
             for page, section in re.findall(r"man:([^ (]+)\((\d)\)", text):
                 path = os.path.join(prefix, f"share/man/man{section}/{page}.{section}")
                 expect(os.path.exists(path), True, f"{program}: the page {page}({section})")
+        with open(os.path.join(prefix, "lib/mulgefa/upsmon-apart")) as file:
+            text = file.read()
+        expect((f"{prefix}/sbin/upsmon}}" in text, "@PREFIX@" in text), (True, False), "the program of upsmon-apart")
         self.install(f"PREFIX={prefix}", "CONFDIR=/srv/ups")
         for program in UNITS.keys() & set(programs()):
             with open(os.path.join(prefix, "lib/systemd/system", UNITS[program])) as file:

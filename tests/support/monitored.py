@@ -56,11 +56,9 @@ class Watch:
         self.folder = tempfile.mkdtemp(dir=folder)
         with open(self.path("upsmon.conf"), "w") as file:
             file.write(conf.replace("FOLDER", self.folder))
-        streams = {"stdout": self.open("out"), "stderr": self.open("err"), **options}
+        streams = {"stdin": subprocess.DEVNULL, "stdout": self.open("out"), "stderr": self.open("err"), **options}
         # a session of its own, so that what it started is ended with it
-        self.process = subprocess.Popen(
-            [program, "--conf", self.folder, *words], stdin=subprocess.DEVNULL, start_new_session=True, **streams
-        )
+        self.process = subprocess.Popen([program, "--conf", self.folder, *words], start_new_session=True, **streams)
 
     def __enter__(self):
         return self

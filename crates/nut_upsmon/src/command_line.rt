@@ -1,7 +1,7 @@
 //! The command line of upsmon.
 
 use crate::upsmon_fault::UpsmonFault;
-use clap::{Arg, ArgAction, ArgMatches, Command};
+use clap::{Arg, ArgAction, ArgMatches, Command, value_parser};
 use nut_program::{
     Failure, VERSION, check_option, conf_folder, debug_option, foreground_option, quiet_option,
 };
@@ -24,8 +24,11 @@ pub enum Task {
     CheckRoom,
     /// Force the shutdown of the UPSes of the primary lines.
     Force,
-    /// Watch, and tell nothing of UPSes and servers that come and go if that is to be quiet.
-    Watch { is_quiet: bool },
+    /// Watch nothing: halt the machine when the process that watches orders it.
+    Obey,
+    /// Watch, and report no UPSes and servers that come and go if that is to be quiet. The machine is halted by the
+    /// process with this number, if one is given.
+    Watch { is_quiet: bool, halter: Option<u32> },
 }
 
 /// What the words of a command line ask for.
@@ -94,9 +97,12 @@ fn task_of(matches: &ArgMatches<'_>) -> Task {
         Task::Check
     } else if matches.get_flag("fsd") {
         Task::Force
+    } else if matches.get_flag("obey") {
+        Task::Obey
     } else {
         Task::Watch {
             is_quiet: matches.get_flag("quiet"),
+            halter: matches.get_one("halter"),
         }
     }
 }
@@ -124,6 +130,8 @@ fn add_args<'a>(alloc: Global, args: &mut Vec<Arg<'a>>) -> Result<(), AllocError
     args.push(delay(alloc)?)?;
     args.push(force(alloc)?)?;
     args.push(kill_power(alloc)?)?;
+    args.push(halter(alloc)?)?;
+    args.push(obey(alloc)?)?;
     args.push(foreground_option(alloc))?;
     args.push(debug_option(alloc))?;
     Ok(())
@@ -164,6 +172,29 @@ fn force<'a>(alloc: Global) -> Result<Arg<'a>, AllocError> {
         .action(ArgAction::SetTrue)
         .help("Force the shutdown of the UPSes of the primary MONITOR lines, and exit")
         .conflicts_with("check")
+}
+
+/// An option for packaging/upsmon-apart alone, as the next one is.
+fn halter<'a>(alloc: Global) -> Result<Arg<'a>, AllocError> {
+    Arg::new(alloc, "halter")
+        .long("halter")
+        .value_name("PID")
+        .value_parser(value_parser!(u32))
+        .hide(true)
+        .conflicts_with("check")?
+        .conflicts_with("fsd")?
+        .conflicts_with("killpower")
+}
+
+fn obey<'a>(alloc: Global) -> Result<Arg<'a>, AllocError> {
+    Arg::new(alloc, "obey")
+        .long("obey")
+        .action(ArgAction::SetTrue)
+        .hide(true)
+        .conflicts_with("halter")?
+        .conflicts_with("check")?
+        .conflicts_with("fsd")?
+        .conflicts_with("killpower")
 }
 
 fn kill_power<'a>(alloc: Global) -> Result<Arg<'a>, AllocError> {

@@ -41,6 +41,8 @@ pub enum HaltFault {
     NotWaited(io::Error),
     /// It ended with a status other than 0, or by a signal.
     Ended(ExitStatus),
+    /// The process with this number, which is to run it, takes no order.
+    NotOrdered(u32),
 }
 
 impl fmt::Display for HaltFault {
@@ -55,6 +57,9 @@ impl fmt::Display for HaltFault {
                 Some(code) => write!(f, "SHUTDOWNCMD ended with status {code}"),
                 None => write!(f, "SHUTDOWNCMD ended by a {status}"),
             },
+            HaltFault::NotOrdered(halter) => {
+                write!(f, "process {halter} takes no order to run SHUTDOWNCMD")
+            }
         }
     }
 }
@@ -110,6 +115,11 @@ impl<'r, 'h, R: Files + Processes + Clock> Halt<'r, 'h, R> {
             command: shutdown_command(self.rt, self.heap, config)?,
             told: None,
         })
+    }
+
+    /// Returns no steps, of the same heap.
+    pub fn without_steps(&self) -> Halt<'r, 'h, R> {
+        Halt::none(self.rt, self.alloc, self.heap)
     }
 
     /// Starts the shell that will run SHUTDOWNCMD. If it cannot be started, it is tried again at the halt.

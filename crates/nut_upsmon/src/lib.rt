@@ -17,6 +17,8 @@ mod monitor;
 mod notifier;
 mod notify_command;
 mod nuts_option;
+mod obeying;
+mod orders;
 mod power_down_flag;
 mod process_state;
 mod reloader;

@@ -6,6 +6,7 @@ use crate::actor::{Actor, Starter, Told};
 use crate::beginning::Beginning;
 use crate::halt::{Halt, HaltFault, clear_left_flag};
 use crate::notifier::Notifier;
+use crate::orders::Orders;
 use crate::power_down_flag::FlagFault;
 use crate::reloader::{Reload, Reloader};
 use crate::shutdown_report::tell_beginning;
@@ -35,6 +36,8 @@ pub struct Machine<'r, R: Files + Processes> {
     err: ErrorLines,
     notifier: Notifier<'r, R>,
     halt: Halt<'r, 'r, R>,
+    /// How another process is ordered to halt the machine, if this one isn't to.
+    orders: Option<Orders>,
     /// The halt of the configuration that was readied last, until it takes the place of the other.
     ready: Option<Halt<'r, 'r, R>>,
     reloader: &'r mut Reloader,
@@ -53,6 +56,8 @@ pub struct MachineStarter<'r, R> {
     pub heap: &'r Option<LocalHeap>,
     pub reloader: &'r mut Reloader,
     pub streams: Streams,
+    /// The process that halts the machine, if this one isn't to.
+    pub halter: Option<u32>,
 }
 
 /// Why a configuration isn't taken up.
@@ -100,13 +105,15 @@ where
         heap: &'r LocalHeap,
         reloader: &'r mut Reloader,
         streams: Streams,
+        halter: Option<u32>,
     ) -> io::Result<Machine<'r, R>> {
         Ok(Machine {
             held: hold_closed_streams(rt, alloc)?,
             rt,
             err: LossyLines::new(rt, alloc, streams.err)?,
-            notifier: Notifier::new(rt, alloc, streams.out)?,
+            notifier: Notifier::new(rt, alloc, streams.out, halter.is_some())?,
             halt: Halt::none(rt, alloc, heap),
+            orders: halter.map(Orders::new),
             ready: None,
             reloader,
             is_ending: false,
@@ -123,6 +130,9 @@ where
     ghost log = { λ s. None };
 
     fn clear_flag<E: Told>(&mut self, config: &MonConfig, err: &mut E) -> Result<(), AllocError> {
+        if self.halter.is_some() {
+            return Ok(());
+        }
         clear_left_flag(self.rt, self.alloc, config, err.lines())
     }
 
@@ -133,9 +143,10 @@ where
             heap,
             reloader,
             streams,
+            halter,
         } = self;
         match heap {
-            Some(heap) => Machine::new(rt, alloc, heap, reloader, streams),
+            Some(heap) => Machine::new(rt, alloc, heap, reloader, streams, halter),
             None => Err(io::Error::from(ErrorKind::OutOfMemory)),
         }
     }
@@ -159,13 +170,21 @@ where
 
     /// Readies the halt of another configuration. A halt that fails to get ready is given up.
     fn ready_next(&mut self, former: &MonConfig, config: &MonConfig) -> Result<(), ReloadFault> {
-        let mut halt = self.halt.with(config)?;
+        let mut halt = self.halt_of(config)?;
         let started = self.start_halt(&mut halt, former, config);
         match &started {
             Ok(()) => drop(self.ready.replace(halt)),
             Err(_) => self.notifier.adopt(halt.give_up()),
         }
         started
+    }
+
+    /// Returns the steps of this configuration's halt: none if another process halts the machine.
+    fn halt_of(&self, config: &MonConfig) -> Result<Halt<'r, 'r, R>, AllocError> {
+        match &self.orders {
+            Some(_) => Ok(self.halt.without_steps()),
+            None => self.halt.with(config),
+        }
     }
 
     /// Starts the shell of another configuration's halt, and gives notices by that configuration from now on.
@@ -200,7 +219,7 @@ where
     /// shell that can't be started is told.
     fn ready(&mut self, config: &MonConfig) -> Result<(), AllocError> {
         self.notifier.restart(config)?;
-        let mut halt = self.halt.with(config)?;
+        let mut halt = self.halt_of(config)?;
         halt.ready_flag(config, &mut self.err);
         halt.begin(&mut self.err);
         tell_start(config, self.reloader.is_quiet(), &mut self.err);
@@ -217,7 +236,7 @@ where
     }
 
     fn print(&mut self, monitor: &Monitor, notice: Notice) {
-        self.notifier.print(monitor, notice);
+        self.notifier.print(monitor, notice, &mut self.err);
     }
 
     fn call(&mut self, monitor: &Monitor, notice: Notice) {
@@ -228,6 +247,9 @@ where
         self.follow(monitor);
         self.notifier.second(&mut self.err);
         self.halt.second(&mut self.err);
+        if let Some(orders) = &mut self.orders {
+            orders.second(self.rt, self.notifier.out(), &mut self.err);
+        }
         match self.reloader.second(self.rt, monitor, &mut self.err) {
             Some(reload) => self.take_up(monitor.config(), reload),
             None => None,
@@ -239,14 +261,23 @@ where
             let former = mem::replace(&mut self.halt, ready);
             self.notifier.adopt(former.give_up());
         }
+        if let Some(orders) = &mut self.orders {
+            orders.change();
+        }
     }
 
     fn set_flag(&mut self) -> Result<(), FlagFault> {
+        if let Some(orders) = &mut self.orders {
+            orders.set_flag();
+        }
         self.halt.set_flag(&mut self.err)
     }
 
     fn run_shutdown(&mut self) -> Result<(), HaltFault> {
-        self.halt.run(self.notifier.out(), &mut self.err)
+        match &mut self.orders {
+            Some(orders) => orders.halt(self.rt, self.notifier.out(), &mut self.err),
+            None => self.halt.run(self.notifier.out(), &mut self.err),
+        }
     }
 }
 

@@ -7,6 +7,7 @@ use crate::halt::{HaltFault, check_flag, halt_heap};
 use crate::hindrance::warn_of_hindrances;
 use crate::low_runtime::check_low_runtimes;
 use crate::machine::MachineStarter;
+use crate::obeying::obey_input;
 use crate::power_down_flag::{FlagState, PowerDownFlag};
 use crate::reloader::Reloader;
 use crate::room::check_room;
@@ -22,7 +23,7 @@ use std::alloc::{Alloc, Global};
 use std::convert::AsStr;
 use std::env::Env;
 use std::io;
-use std::io::Stdout;
+use std::io::{Read, Stdout};
 use std::net::Net;
 use std::process::Processes;
 use std::rt::Files;
@@ -52,6 +53,10 @@ use std::time::Clock;
 /// became of each, on `out` that it is set and on `err` why it isn't or why no machine hears of it. The status is 0 if it
 /// is set on all of them and shown; without such a line that is written to `err`, with status 1.
 ///
+/// With `--obey` nothing is watched either: the halt is prepared, and done once a line of `input` orders it. If `input` ends
+/// before, that is written to `err`, with status 1. With `--halter PID` the process PID, `upsmon --obey`, halts the machine:
+/// its orders are written to `out`, and notices to `err`.
+///
 /// When somebody makes the file `reload` in the folder, upsmon reads upsmon.conf again. If the file has a fault, the halt
 /// that it sets can't be prepared, or a shutdown has begun, upsmon says so on `err` and watches as before. A UPS that
 /// stays watched and is on battery or has a forced shutdown holds the change up until it has neither. Then upsmon writes
@@ -66,12 +71,18 @@ use std::time::Clock;
 /// `upsmon: upsmon.conf: cannot read`, and below it the path and the reason; the file's first fault, as
 /// `upsmon: upsmon.conf:2: BadName`; `upsmon: out of memory`. If waiting for the sockets or reading the clock fails,
 /// upsmon ends with `upsmon: I/O failed` and status 1.
-pub fn run_upsmon<R, S: AsStr>(rt: &R, alloc: Global, words: &[S], mut streams: Streams) -> u8
+pub fn run_upsmon<R, S: AsStr, I: Read>(
+    rt: &R,
+    alloc: Global,
+    words: &[S],
+    input: &mut I,
+    mut streams: Streams,
+) -> u8
 where
     R: Wait + Files + Net + Clock + Processes + Env + Alloc,
 {
     match LossyLines::new(rt, alloc, streams.err) {
-        Ok(mut err) => match run(rt, alloc, words, streams, &mut err) {
+        Ok(mut err) => match run(rt, alloc, words, input, streams, &mut err) {
             Ok(status) => status,
             Err(failure) => tell_failure(alloc, words, failure, streams.out, &mut err),
         },
@@ -80,10 +91,11 @@ where
 }
 
 /// Does what the words of the command line ask for. Returns the exit status.
-fn run<R, S: AsStr>(
+fn run<R, S: AsStr, I: Read>(
     rt: &R,
     alloc: Global,
     words: &[S],
+    input: &mut I,
     streams: Streams,
     err: &mut ErrorLines,
 ) -> Result<u8, Failure<UpsmonFault>>
@@ -91,14 +103,15 @@ where
     R: Wait + Files + Net + Clock + Processes + Env + Alloc,
 {
     let order = order_of(rt, alloc, words)?;
-    carry_out(rt, alloc, &order, streams, err)
+    carry_out(rt, alloc, &order, input, streams, err)
 }
 
 /// Does what this order asks for. Returns the exit status.
-fn carry_out<R>(
+fn carry_out<R, I: Read>(
     rt: &R,
     alloc: Global,
     order: &Order<'_>,
+    input: &mut I,
     streams: Streams,
     err: &mut ErrorLines,
 ) -> Result<u8, Failure<UpsmonFault>>
@@ -120,7 +133,10 @@ where
             )
         }
         Task::Force => force(rt, alloc, folder, streams, err),
-        Task::Watch { is_quiet } => guard(rt, alloc, folder, is_quiet, streams, err),
+        Task::Obey => obey_input(rt, alloc, folder, input, streams, err),
+        Task::Watch { is_quiet, halter } => guard(
+            rt, alloc, folder, is_quiet, halter, streams, err,
+        ),
     }
 }
 
@@ -216,6 +232,7 @@ fn guard<R>(
     alloc: Global,
     folder: &str,
     is_quiet: bool,
+    halter: Option<u32>,
     streams: Streams,
     err: &mut ErrorLines,
 ) -> Result<u8, Failure<UpsmonFault>>
@@ -231,6 +248,7 @@ where
         heap: &heap,
         reloader: &mut reloader,
         streams,
+        halter,
     };
     status_of(watch_over_sockets(rt, alloc, starter, first, is_quiet, err))
 }

@@ -27,6 +27,8 @@ pub struct Notifier<'a, R: Processes> {
     text: Vec<u8>,
     command: NotifyCommand<'a, R>,
     runtimes: LowRuntimes<'a, R>,
+    /// Whether notices go to standard error, since standard output is for orders.
+    is_aside: bool,
 }
 
 impl<'a, R: Processes> Notifier<'a, R> {
@@ -35,7 +37,12 @@ impl<'a, R: Processes> Notifier<'a, R> {
     /// # Errors
     ///
     /// If memory or descriptors aren't available.
-    pub fn new(rt: &'a R, alloc: Global, out: LogStream<Stdout>) -> io::Result<Notifier<'a, R>>
+    pub fn new(
+        rt: &'a R,
+        alloc: Global,
+        out: LogStream<Stdout>,
+        is_aside: bool,
+    ) -> io::Result<Notifier<'a, R>>
     where
         R: Net,
     {
@@ -45,6 +52,7 @@ impl<'a, R: Processes> Notifier<'a, R> {
             text: Vec::with_capacity(alloc, TEXT_MAX)?,
             command: NotifyCommand::new(rt, alloc)?,
             runtimes: LowRuntimes::watched(rt, alloc),
+            is_aside,
         })
     }
 
@@ -54,7 +62,7 @@ impl<'a, R: Processes> Notifier<'a, R> {
     ///
     /// [`AllocError`] if memory cannot be allocated. Nothing has changed then.
     pub fn restart(&mut self, config: &MonConfig) -> Result<(), AllocError> {
-        let script = script_in(self.alloc, config)?;
+        let script = script_in(self.alloc, config, self.is_aside)?;
         self.runtimes.restart(config)?;
         self.command.set_script(script);
         Ok(())
@@ -73,10 +81,13 @@ impl<'a, R: Processes> Notifier<'a, R> {
     }
 
     /// Prints the text of a notice as a line, which doesn't have the program's name.
-    pub fn print(&mut self, monitor: &Monitor, notice: Notice) {
+    pub fn print(&mut self, monitor: &Monitor, notice: Notice, err: &mut ErrorLines) {
         self.put_text(monitor, notice);
-        let _ = self.out.mark(Level::Notice).write_all(&self.text);
-        let _ = self.out.write_all(b"\n");
+        if self.is_aside {
+            print_on(err, &self.text);
+        } else {
+            print_on(&mut self.out, &self.text);
+        }
     }
 
     /// Runs NOTIFYCMD with a notice. A run that can't be started is reported on `err`.
@@ -110,6 +121,12 @@ impl<'a, R: Processes> Notifier<'a, R> {
         self.command.reap();
         let _ = self.runtimes.step(err);
     }
+}
+
+/// Prints a text as a line that doesn't have the program's name.
+fn print_on<L: Lines>(lines: &mut L, text: &[u8]) {
+    let _ = lines.mark(Level::Notice).write_all(text);
+    let _ = lines.write_all(b"\n");
 }
 
 /// Returns the UPS of a notice as MONITOR has it; empty for SHUTDOWN.

@@ -13,6 +13,9 @@ const RUNNING_MAX: usize = 64;
 /// What the script begins with.
 const BEGINNING: &str = unstopped!("");
 
+/// What it begins with if standard output is for orders to the process that halts.
+const BEGINNING_ASIDE: &str = unstopped!("exec >&2; ");
+
 /// What a command is told about a notice.
 #[derive(Clone, Copy)]
 pub struct Call<'a> {
@@ -104,23 +107,28 @@ impl<'r, R: Processes> NotifyCommand<'r, R> {
     }
 }
 
-/// Returns the script of the command that upsmon.conf sets, if it sets one.
+/// Returns the script of the command that upsmon.conf sets, if it sets one. If it `is_aside`, it writes to standard error alone.
 ///
 /// # Errors
 ///
 /// [`AllocError`] if memory cannot be allocated.
-pub fn script_in(alloc: Global, config: &MonConfig) -> Result<Option<String>, AllocError> {
+pub fn script_in(
+    alloc: Global,
+    config: &MonConfig,
+    is_aside: bool,
+) -> Result<Option<String>, AllocError> {
     match &config.notify_cmd {
-        Some(command) => Ok(Some(script_of(alloc, command.as_bytes())?)),
+        Some(command) => Ok(Some(script_of(alloc, command.as_bytes(), is_aside)?)),
         None => Ok(None),
     }
 }
 
 /// Returns the command with the text of a notice as its last argument. The shell inserts the text itself, so that no
 /// byte of it is read as a command.
-fn script_of(alloc: Global, command: &[u8]) -> Result<String, AllocError> {
+fn script_of(alloc: Global, command: &[u8], is_aside: bool) -> Result<String, AllocError> {
     let command = text_of(command);
-    format!(in alloc; "{BEGINNING}{command} \"$1\"")
+    let beginning = if is_aside { BEGINNING_ASIDE } else { BEGINNING };
+    format!(in alloc; "{beginning}{command} \"$1\"")
 }
 
 /// Starts a shell that runs the script with this call.

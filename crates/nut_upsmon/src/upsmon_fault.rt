@@ -21,6 +21,8 @@ pub enum UpsmonFault {
     NoPrimary,
     /// The machine wasn't halted.
     Halt(HaltFault),
+    /// The process that watches has ended without an order to halt.
+    NoWatch,
 }
 
 impl fmt::Display for UpsmonFault {
@@ -33,6 +35,7 @@ impl fmt::Display for UpsmonFault {
             ),
             UpsmonFault::NoPrimary => write!(f, "upsmon.conf: no MONITOR line is primary"),
             UpsmonFault::Halt(fault) => write!(f, "{fault}"),
+            UpsmonFault::NoWatch => write!(f, "the process that watches has ended"),
         }
     }
 }
@@ -41,7 +44,10 @@ impl OwnFault for UpsmonFault {
     fn remark(&self) -> Option<&str> {
         match self {
             UpsmonFault::File(fault) => fault.remark(),
-            UpsmonFault::BadDelay(_) | UpsmonFault::NoPrimary | UpsmonFault::Halt(_) => None,
+            UpsmonFault::BadDelay(_)
+            | UpsmonFault::NoPrimary
+            | UpsmonFault::Halt(_)
+            | UpsmonFault::NoWatch => None,
         }
     }
 }

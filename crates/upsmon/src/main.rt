@@ -15,7 +15,13 @@ fn main(rt: HostRuntime) -> ExitCode {
         return ExitCode::from(1);
     }
     let status = match words(&rt) {
-        Ok(words) => nut_upsmon::run_upsmon(&rt, rt.alloc(), words.as_slice(), streams),
+        Ok(words) => nut_upsmon::run_upsmon(
+            &rt,
+            rt.alloc(),
+            words.as_slice(),
+            &mut rt.reader(),
+            streams,
+        ),
         Err(error) => nut_program::refuse_start(&error, &mut streams.err),
     };
     ExitCode::from(status)
