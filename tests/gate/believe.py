@@ -57,6 +57,8 @@ PROMISES = (
     ("What upsmon does to its machine", "when SHUTDOWNCMD is run, and who gets a notice", (
         ("nut_upsmon", "watching.rt", ("watch_in_turn",)), ("nut_upsmon", "guard.rt", ("tell",)),
         ("nut_upsmon", "actor.rt", ("Actor.*",)))),
+    ("The process that halts", "what is done at orders, where upsmon is two processes", (
+        ("nut_halter", "lib.rt", ("obey", "Orders.*", "Halter.*")),)),
     ("Configuration files", "what a file means", (
         ("nut_conf", None, (
             "read_ups", "read_users", "read_upsd", "read_descriptions", "read_upsmon", "first_fault", "blank_lines_change_nothing",

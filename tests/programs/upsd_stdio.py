@@ -248,10 +248,10 @@ class Tests(Shimmed):
         for args in ([], ["--ups", "a=b"], ["--stdio", "--nothing"], ["--stdio", "more"], ["--stdio", "--ups"], ["-c", "reload"], ["--stdio", "--conf"], [*EXAMPLES, "--ups", "a=b"], [*EXAMPLES, "--conf", "x"]):
             status, out, err = self.run(args, b"VER\n")
             expect((status, out, err != b""), (2, b"", True), f"{args}")
-        for args in (["-c", "reload"], ["--stdio", "-B"], ["-u", "nut"]):
+        for args in (["-c", "reload"], ["--stdio", "-B"], ["-u", "nut"], ["-F", "-F"]):
             _, _, err = self.run(args)
             expect(err.endswith(NUTS_OPTIONS.format("upsd").encode()), True, f"what is said of {args}: {err}")
-        for args in ([], ["-s", "x"], ["-F", "-F"]):
+        for args in ([], ["-s", "x"]):
             _, _, err = self.run(args)
             expect((USAGE in err, b"from-nut" in err), (True, False), f"what is said of {args}: {err}")
         # NUT's options that ask for what is done anyway
