@@ -36,8 +36,8 @@ ALONE = ": one process of root does all"
 
 
 def orders_in(read):
-    """Returns the orders among these bytes, without those of each second and what says how many were let go."""
-    return [it for it in read.decode().splitlines() if it != "second" and not it.startswith("upsmon: lines let go: ")]
+    """Returns the orders among these bytes, without those of each second and what says how many were dropped."""
+    return [it for it in read.decode().splitlines() if it != "second" and not it.endswith(" dropped (output blocked)")]
 
 
 class Halter(Watch):
