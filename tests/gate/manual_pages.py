@@ -212,7 +212,7 @@ class Tests:
     def test_probes(self):
         """upsd(8) says after how many seconds a machine counts as gone that answers no probe."""
         idle, interval, probes = numbers("nut_server_sockets/keepalive IDLE INTERVAL PROBES")
-        ensure(f"its machine answers no probe {idle + interval * probes} s" in words("upsd.8"), "the time of probes in upsd(8)")
+        ensure(f"client's machine answers no probe {idle + interval * probes} s" in words("upsd.8"), "the time of probes in upsd(8)")
 
 
 if __name__ == "__main__":

@@ -28,7 +28,7 @@ PLACE = r"signal: N \(NAME\)|\b(?:X|N|ROLE|FILE|WHY|NAME|ERROR|QUERY|CHANGES|STA
 NUMBERS = (
     ("upsmon.8", "If a server doesn't answer within {} seconds,", "nut_monitor_sockets/limits", "answer"),
     ("upsmon.8", "or {} while any UPS is on battery, it is lost", "nut_monitor_sockets/limits", "ANSWER_ON_BATTERY"),
-    ("upsmon.8", "and tries that for {} seconds", "nut_upsmon/halt", "TRIES"),
+    ("upsmon.8", "tries for {} seconds to start another one", "nut_upsmon/halt", "TRIES"),
     ("upsmon.8", "this machine shuts down within 28 s of OB LB if answers take at most {} s", "nut_upsmon/stopping", "DELAY"),
     ("upsmon.8", "that isn't reached within {} seconds or refuses the login", "nut_monitor_sockets/visits", "PATIENCE"),
     ("upsmon.8", "or doesn't answer, within {} seconds", "nut_monitor_sockets/visits", "PATIENCE"),
