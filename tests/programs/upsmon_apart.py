@@ -344,8 +344,9 @@ class Tests(Shimmed):
         with open(os.path.join(ROOT, "packaging", "mulgefa-upsmon.service")) as file:
             (start,) = [line for line in file.read().splitlines() if line.startswith("ExecStart=")]
         wanted = start.replace("@PREFIX@/sbin/upsmon", "/usr/lib/mulgefa/upsmon-apart")
-        for line in (f"\nExecStart=\n{wanted}\n", NO_WATCH, UNHEARD.format("PID"), LATE + "REASON", NOT_ORDERED.format("PID")):
-            ensure(line in page, f"upsmon(8) lacks {line!r}")
+        # the page leaves out what each line begins with
+        for line in (f"\nExecStart=\n{wanted}\n", NO_WATCH, UNHEARD.format("PID"), LATE + "WHY", NOT_ORDERED.format("PID")):
+            ensure(line.removeprefix("upsmon: ") in page, f"upsmon(8) lacks {line!r}")
 
     def test_command_line(self):
         """Only the script gives these options, so the help doesn't have them."""
