@@ -27,7 +27,7 @@ pub trait Outlet: Write {
 }
 
 /// A stream of lines that doesn't wait for its reader. A line that the stream doesn't accept at once is dropped. Before
-/// the next accepted line the stream says how many were dropped, as in `upsd: lines let go: 3`.
+/// the next accepted line the stream says how many were dropped, as in `upsd: 3 log lines dropped (output blocked)`.
 ///
 /// What is written is kept until a line is whole. A write never fails.
 ///
