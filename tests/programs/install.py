@@ -1110,7 +1110,7 @@ class Tests:
             with open(os.path.join(ROOT, "man", page)) as file:
                 text = file.read()
             for name, section in re.findall(r"(?:^\.BR |\\fB)(\S+?)(?: |\\fR)\((\d)\)", text, re.MULTILINE):
-                if name in ("getent", "resolv.conf", "syslog", "systemd.exec"):  # the system's
+                if name in ("getent", "resolv.conf", "setpriv", "syslog", "systemd.exec"):  # the system's
                     continue
                 other = f"{name.replace(chr(92), '')}.{section}"
                 expect(os.path.exists(os.path.join(ROOT, "man", other)), True, f"{page}: {other}")
