@@ -78,6 +78,25 @@ LIMITS = {
         ("took more than {} seconds for an answer", "nut_client/timed_stream ANSWER_SECONDS"),
         ("more than {} bytes of one line", "nut_words/limits LINE_MAX"),
     ),
+    "upsmon.8": (
+        ("If a server doesn't answer within {} seconds,", "nut_monitor_sockets/limits answer"),
+        ("or {} while any UPS is on battery, it is lost", "nut_monitor_sockets/limits ANSWER_ON_BATTERY"),
+        ("tries for {} seconds to start another one", "nut_upsmon/halt TRIES"),
+        ("this machine shuts down within 28 s of OB LB if answers take at most {} s", "nut_upsmon/stopping DELAY"),
+        ("that isn't reached within {} seconds or refuses the login", "nut_monitor_sockets/visits PATIENCE"),
+        ("or doesn't answer, within {} seconds", "nut_monitor_sockets/visits PATIENCE"),
+        ("a server that doesn't answer within {} seconds.", "nut_monitor_sockets/limits ANSWER_ON_BATTERY"),
+        ("doesn't wait for it; at most {} run at a time", "nut_upsmon/notify_command RUNNING_MAX"),
+        ("NOTIFYCMD skipped: {} still running", "nut_upsmon/notify_command RUNNING_MAX"),
+    ),
+    "upsmon.conf.5": (
+        ("There are at most {} of these lines", "nut_conf/limits MONITORS_MAX"),
+        ("(1 to {} bytes) are those of the server's", "nut_conf/limits PASSWORD_MAX"),
+        ("a name or an IPv4 address of at most {} letters", "nut_conf/limits HOST_MAX"),
+        ("These three have 1 to {} bytes", "nut_conf/limits COMMAND_MAX"),
+        ("The text of a type, at most {} bytes", "nut_conf/limits MESSAGE_MAX"),
+        ("COMMBAD is held back in the first {} seconds", "nut_monitor_sockets/held_losses FIRST_SECONDS"),
+    ),
     "upscmd.8": (
         ("answers later than after {} seconds", "nut_client/timed_stream ANSWER_SECONDS"),
         ("hasn't answered within {} seconds", "nut_client/deeds PAUSES_MAX"),
@@ -85,6 +104,9 @@ LIMITS = {
         ("of at most {} bytes: the driver", "nut_words/limits VALUE_MAX"),
     ),
 }
+
+# A text that a source writes.
+WRITTEN = re.compile(r'write(?:ln)?!\([^"]*?"((?:[^"\\]|\\.)*)"')
 
 
 @functools.lru_cache(maxsize=None)
@@ -126,7 +148,7 @@ def heads(page, section):
 
 def texts(name):
     """Returns the texts that a source writes, and those that stand there alone, such as what a match gives."""
-    written = re.findall(r'write(?:ln)?!\([^"]*?"((?:[^"\\]|\\.)*)"', code(name))
+    written = WRITTEN.findall(code(name))
     alone = [it for it in re.findall(r'"((?:[^"\\{}]|\\.)*)"', code(name)) if it not in written]
     return [re.sub(r"\s+", " ", it) for it in written], alone
 
@@ -142,11 +164,12 @@ def forms(written, place):
 
 
 def numbers(place):
-    """Returns the values of constants of a source, or the default of a directive's number."""
+    """Returns the values of constants or fields of a source, or the default of a directive's number."""
     name, *constants = place.split(" ")
     for it in constants:
-        found = re.search(rf"\bconst {it}: \w+ = ([\d_]+);|\b{it}: NumberOr<.*, ([\d_]+)>", code(name))
-        yield int((found[1] or found[2]).replace("_", ""))
+        found = re.search(rf"\bconst {it}: \w+ = ([\d_]+);|\b{it}: NumberOr<.*, ([\d_]+)>|\b{it}: (\d+),", code(name))
+        ensure(found, f"{name} has no {it}")
+        yield int((found[1] or found[2] or found[3]).replace("_", ""))
 
 
 class Tests:

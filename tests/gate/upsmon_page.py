@@ -11,6 +11,7 @@ import os
 import re
 import sys
 
+from tests.gate.manual_pages import WRITTEN, heads, lines
 from tests.support.harness import ROOT, ensure, expect, run_tests
 
 MOST_BYTES = 21 * 1024
@@ -24,43 +25,10 @@ NOT_ON_THE_PAGE = ("room.rt", "command_line.rt")
 # What the page has for a part of a line, in capitals or as a number.
 PLACE = r"signal: N \(NAME\)|\b(?:X|N|ROLE|FILE|WHY|NAME|ERROR|QUERY|CHANGES|STATUS|DIRECTIVE|PATH|DIR)\b|\b\d+\b"
 
-# Texts with the numbers of constants, by the page, and by the crate and the file that define these.
-NUMBERS = (
-    ("upsmon.8", "If a server doesn't answer within {} seconds,", "nut_monitor_sockets/limits", "answer"),
-    ("upsmon.8", "or {} while any UPS is on battery, it is lost", "nut_monitor_sockets/limits", "ANSWER_ON_BATTERY"),
-    ("upsmon.8", "tries for {} seconds to start another one", "nut_upsmon/halt", "TRIES"),
-    ("upsmon.8", "this machine shuts down within 28 s of OB LB if answers take at most {} s", "nut_upsmon/stopping", "DELAY"),
-    ("upsmon.8", "that isn't reached within {} seconds or refuses the login", "nut_monitor_sockets/visits", "PATIENCE"),
-    ("upsmon.8", "or doesn't answer, within {} seconds", "nut_monitor_sockets/visits", "PATIENCE"),
-    ("upsmon.8", "a server that doesn't answer within {} seconds.", "nut_monitor_sockets/limits", "ANSWER_ON_BATTERY"),
-    ("upsmon.8", "doesn't wait for it; at most {} run at a time", "nut_upsmon/notify_command", "RUNNING_MAX"),
-    ("upsmon.8", "NOTIFYCMD skipped: {} still running", "nut_upsmon/notify_command", "RUNNING_MAX"),
-    ("upsmon.conf.5", "There are at most {} of these lines", "nut_conf/limits", "MONITORS_MAX"),
-    ("upsmon.conf.5", "(1 to {} bytes) are those of the server's", "nut_conf/limits", "PASSWORD_MAX"),
-    ("upsmon.conf.5", "a name or an IPv4 address of at most {} letters", "nut_conf/limits", "HOST_MAX"),
-    ("upsmon.conf.5", "These three have 1 to {} bytes", "nut_conf/limits", "COMMAND_MAX"),
-    ("upsmon.conf.5", "The text of a type, at most {} bytes", "nut_conf/limits", "MESSAGE_MAX"),
-    ("upsmon.conf.5", "COMMBAD is held back in the first {} seconds", "nut_monitor_sockets/held_losses", "FIRST_SECONDS"),
-)
-
 
 def read(path):
     with open(path, encoding="utf-8") as file:
         return file.read()
-
-
-def page(name):
-    """Returns a page as it is read, line by line, each with its macro if it has one."""
-    text = re.sub(r"\\f[BIR]", "", read(os.path.join(ROOT, "man", name)))
-    for escape, sign in (("-", "-"), ("~", " "), ("(aq", "'"), ("e", "\\")):
-        text = text.replace("\\" + escape, sign)
-    return text
-
-
-def heads(text):
-    """Returns the heads of the paragraphs under DIAGNOSTICS."""
-    section = text.partition(".SH DIAGNOSTICS\n")[2].partition("\n.SH ")[0]
-    return re.findall(r"^\.T[PQ]\n(.*)$", section, re.MULTILINE)
 
 
 def parts(text, place):
@@ -80,7 +48,7 @@ def codes(patterns, left_out=()):
 
 class Tests:
     def __init__(self):
-        self.page = page("upsmon.8")
+        self.page = "\n".join(lines("upsmon.8"))
 
     def test_diagnostics_are_written(self):
         """What a line has between its places is a text of the sources, or several, since some texts are put together."""
@@ -88,17 +56,16 @@ class Tests:
         known = {it for literal in literals for it in parts(literal, r"\{[^{}]*\}|\b\d+\b")}
         any_of = "|".join(sorted(map(re.escape, known), key=len, reverse=True))
         written = re.compile(f"(?:{any_of})(?:[ ;(]+(?:{any_of}))*")
-        found = heads(self.page)
+        found = heads("upsmon.8", "DIAGNOSTICS")
         ensure(len(found) > 50, f"upsmon(8) has {len(found)} diagnostics")
         for head in found:
             for part in parts(head, PLACE):
                 ensure(written.fullmatch(part), f"upsmon(8) has {part!r} of {head!r}, which nothing writes")
 
     def test_what_is_written_is_on_the_page(self):
-        shared = os.path.join(ROOT, "man", "mulgefa.7")
-        there = "\n".join(heads(self.page)) + self.page + (page("mulgefa.7") if os.path.exists(shared) else "")
+        there = self.page + "\n".join(lines("mulgefa.7"))
         for name, code in codes(SOURCES, NOT_ON_THE_PAGE):
-            for text in re.findall(r'write(?:ln)?!\([^"]*?"((?:[^"\\]|\\.)*)"', code):
+            for text in WRITTEN.findall(code):
                 # what is wrong with a word of the command line is said of the word
                 for part in [] if text.startswith("--") else parts(text, r"\{[^{}]*\}|\\\w|\b\d+\b"):
                     ensure(part in there, f"upsmon(8) lacks {part!r} of {name}: {text!r}")
@@ -109,14 +76,6 @@ class Tests:
         expect(names[2:5], ["DESCRIPTION", "IN AN EMERGENCY", "WHEN THE MACHINE IS SHUT DOWN"], "the first sections")
         for name in ("OPTIONS", "EXIT STATUS", "ENVIRONMENT", "FILES", "DIAGNOSTICS", "SECURITY", "EXAMPLES", "SEE ALSO"):
             ensure(name in names, f"upsmon(8) has no section {name}")
-
-    def test_numbers(self):
-        for name, text, source, constant in NUMBERS:
-            code = read(os.path.join(ROOT, "crates", source.replace("/", "/src/") + ".rt"))
-            number = re.search(rf"\b{constant}: (?:\w+ = )?(\d+)[;,]", code)
-            ensure(number, f"{source} has no {constant}")
-            shown = text.replace("{}", number[1])
-            ensure(shown in re.sub(r"\n(?:\.[BI]+ )?", " ", page(name)), f"{name} doesn't say {shown!r}")
 
     def test_script(self):
         """The script that shuts down after some minutes is the one that from-nut(7) has, which the packages' tests run."""
