@@ -667,7 +667,7 @@ class Tests:
             "    take it out: the option -s names the directory of the sockets",
             GOES.format("usbhid-ups"),
             "upsmon.conf:1: UnknownDirective: RUN_AS_USER nut",
-            "    take it out: there is one process, which the unit runs as root",
+            "    take it out: the unit runs one process as root; upsmon(8) has a drop-in for two",
             "upsmon.conf:2: BadName: MONITOR apc 1 .. master",
             "    change it to: MONITOR apc@localhost 1 .. primary",
             "upsmon.conf:3: UnknownWord: MONITOR apc@rack 0 .. slave",

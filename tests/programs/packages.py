@@ -373,7 +373,7 @@ class Tests:
         told = {
             "mulgefa-client": [
                 "/etc/nut/upsmon.conf:2: UnknownDirective: RUN_AS_USER nut",
-                "    take it out: there is one process, which the unit runs as root",
+                "    take it out: the unit runs one process as root; upsmon(8) has a drop-in for two",
                 "mulgefa-upsmon.service can't start until this is changed; if it is enabled, systemd tries it every 5 seconds",
             ],
             "mulgefa-server": [
