@@ -1,12 +1,12 @@
 //! The loop over any world.
 
-ghost use Rattle.std.specs.Prelude.{◌≡◌, ◌⊎◌, ◌+◌, ◌-◌, ◌^◌, ◌<◌, ℕ, true, false, [], length, slice_get, Option, Some, None, Ok, IfOk, OnOk, OnErr, is_ok, option_map, if◌then◌else◌};
+ghost use Rattle.std.specs.Prelude.{◌≡◌, ◌⊎◌, ◌-◌, ◌^◌, ◌<◌, ℕ, true, false, [], length, slice_get, Option, Some, None, Ok, IfOk, OnOk, OnErr, option_map};
 ghost use Rattle.nut_monitor_spec.specs.Content.{content, phase_of};
 ghost use Rattle.nut_monitor_spec.specs.Decision.{is_halted};
 ghost use Rattle.nut_monitor.specs.Events.{event_of as told_as};
 ghost use Rattle.nut_monitor_loop.specs.Record.{waiting_of, IsSettled, NothingIsWithheld, event_given};
 ghost use Rattle.nut_monitor_loop.specs.Watched.{Since, Watched, WatchedBefore, sender, lost_of};
-ghost use Rattle.nut_monitor_loop.specs.inside.Kept.{OnlyAt, StaysLate, KeepsLate, Less, Settles, Unbroken};
+ghost use Rattle.nut_monitor_loop.specs.inside.Kept.{Ready, Goes, OnlyAt, StaysLate, KeepsLate, Less, Settles, Unbroken};
 
 use crate::{MonWorld, Next};
 use nut_io::{Fault, Piece, ServeFault, Written};
@@ -60,17 +60,11 @@ fn go_on<W: MonWorld>(
     piece: &mut Piece,
 ) -> Result<Phase, ServeFault>
     ghost since: { Since W }
-    requires few { W.fault_count world.old < 2 ^ 64 - 1 }
-    requires watched { Watched since.first (W.did since.config since.start world.old) monitor.old.content None }
-    requires config { monitor.old.config ≡ since.config }
-    ensures err { OnErr result ((owed : Option ℕ)
-        × Watched since.first (W.did since.config since.start world.new) monitor.new.content owed) }
-    ensures ok { OnOk result (Watched since.first (W.did since.config since.start world.new) monitor.new.content None) }
+    requires ready { Ready W.fault_count W.did since world.old monitor.old }
+    ensures goes { Goes W.fault_count W.did since world.old result world.new monitor.new }
     ensures phase { IfOk result (λ phase. phase ≡ phase_of monitor.new.content) }
     ensures told { OnOk result (monitor.new.content.notices ≡ []) }
     ensures ended { IfOk result (λ phase. (is_halted phase ≡ true) ⊎ W.has_ended world.new) }
-    ensures fault { OnErr result (W.fault_count world.old < W.fault_count world.new) }
-    ensures config { monitor.new.config ≡ monitor.old.config }
 {
     for _ in rt.forever() {
         if !round(monitor, world, piece)? {
@@ -88,16 +82,10 @@ fn round<W: MonWorld>(
     piece: &mut Piece,
 ) -> Result<bool, Fault>
     ghost since: { Since W }
-    requires few { W.fault_count world.old < 2 ^ 64 - 1 }
-    requires watched { Watched since.first (W.did since.config since.start world.old) monitor.old.content None }
-    requires config { monitor.old.config ≡ since.config }
-    ensures err { OnErr result ((owed : Option ℕ)
-        × Watched since.first (W.did since.config since.start world.new) monitor.new.content owed) }
-    ensures ok { OnOk result (Watched since.first (W.did since.config since.start world.new) monitor.new.content None) }
+    requires ready { Ready W.fault_count W.did since world.old monitor.old }
+    ensures goes { Goes W.fault_count W.did since world.old result world.new monitor.new }
     ensures told { result ≡ Ok false → monitor.new.content.notices ≡ [] }
     ensures ended { result ≡ Ok false → (is_halted (phase_of monitor.new.content) ≡ true) ⊎ W.has_ended world.new }
-    ensures counted { W.fault_count world.new ≡ (if is_ok result then W.fault_count world.old else W.fault_count world.old + 1) }
-    ensures config { monitor.new.config ≡ monitor.old.config }
 {
     // A lost link may let queries be put on other links, so after a failed write all links are settled again.
     if !settle_links(monitor, world)? {
@@ -111,18 +99,12 @@ fn round<W: MonWorld>(
 /// continues.
 fn turn<W: MonWorld>(monitor: &mut Monitor, world: &mut W, piece: &mut Piece) -> Result<bool, Fault>
     ghost since: { Since W }
-    requires few { W.fault_count world.old < 2 ^ 64 - 1 }
+    requires ready { Ready W.fault_count W.did since world.old monitor.old }
     requires withheld { NothingIsWithheld (W.late world.old) monitor.old.content }
     requires told { monitor.old.content.notices ≡ [] }
-    requires watched { Watched since.first (W.did since.config since.start world.old) monitor.old.content None }
-    requires config { monitor.old.config ≡ since.config }
-    ensures err { OnErr result ((owed : Option ℕ)
-        × Watched since.first (W.did since.config since.start world.new) monitor.new.content owed) }
-    ensures ok { OnOk result (Watched since.first (W.did since.config since.start world.new) monitor.new.content None) }
+    ensures goes { Goes W.fault_count W.did since world.old result world.new monitor.new }
     ensures told { result ≡ Ok false → monitor.new.content.notices ≡ [] }
     ensures ended { result ≡ Ok false → (is_halted (phase_of monitor.new.content) ≡ true) ⊎ W.has_ended world.new }
-    ensures counted { W.fault_count world.new ≡ (if is_ok result then W.fault_count world.old else W.fault_count world.old + 1) }
-    ensures config { monitor.new.config ≡ monitor.old.config }
 {
     if has_halted(monitor) {
         return Ok(false);
@@ -158,11 +140,7 @@ fn hand_on<W: MonWorld>(
     requires told { monitor.old.content.notices ≡ [] }
     requires watched { WatchedBefore since.first (W.did since.config since.start world.old) monitor.old.content next.now piece.now.items }
     requires config { monitor.old.config ≡ since.config }
-    ensures err { OnErr result ((owed : Option ℕ)
-        × Watched since.first (W.did since.config since.start world.new) monitor.new.content owed) }
-    ensures ok { OnOk result (Watched since.first (W.did since.config since.start world.new) monitor.new.content None) }
-    ensures counted { W.fault_count world.new ≡ (if is_ok result then W.fault_count world.old else W.fault_count world.old + 1) }
-    ensures config { monitor.new.config ≡ monitor.old.config }
+    ensures goes { Goes W.fault_count W.did since world.old result world.new monitor.new }
 {
     let Some(event) = event_of(next, piece) else {
         return Ok(());
@@ -214,15 +192,9 @@ fn lost_link(monitor: &Monitor, sender: Option<usize>) -> Option<usize>
 /// none failed.
 fn settle_links<W: MonWorld>(monitor: &mut Monitor, world: &mut W) -> Result<bool, Fault>
     ghost since: { Since W }
-    requires few { W.fault_count world.old < 2 ^ 64 - 1 }
-    requires watched { Watched since.first (W.did since.config since.start world.old) monitor.old.content None }
-    requires config { monitor.old.config ≡ since.config }
-    ensures err { OnErr result ((owed : Option ℕ)
-        × Watched since.first (W.did since.config since.start world.new) monitor.new.content owed) }
-    ensures ok { OnOk result (Watched since.first (W.did since.config since.start world.new) monitor.new.content None) }
+    requires ready { Ready W.fault_count W.did since world.old monitor.old }
+    ensures goes { Goes W.fault_count W.did since world.old result world.new monitor.new }
     ensures withheld { result ≡ Ok true → NothingIsWithheld (W.late world.new) monitor.new.content }
-    ensures counted { W.fault_count world.new ≡ (if is_ok result then W.fault_count world.old else W.fault_count world.old + 1) }
-    ensures config { monitor.new.config ≡ monitor.old.config }
 {
     let lines = monitor.lines();
     let mut i = 0;
@@ -239,17 +211,11 @@ fn settle_links<W: MonWorld>(monitor: &mut Monitor, world: &mut W) -> Result<boo
 /// succeeded.
 fn flush<W: MonWorld>(monitor: &mut Monitor, world: &mut W, i: usize) -> Result<bool, Fault>
     ghost since: { Since W }
-    requires few { W.fault_count world.old < 2 ^ 64 - 1 }
-    requires watched { Watched since.first (W.did since.config since.start world.old) monitor.old.content None }
-    requires config { monitor.old.config ≡ since.config }
-    ensures err { OnErr result ((owed : Option ℕ)
-        × Watched since.first (W.did since.config since.start world.new) monitor.new.content owed) }
-    ensures ok { OnOk result (Watched since.first (W.did since.config since.start world.new) monitor.new.content None) }
+    requires ready { Ready W.fault_count W.did since world.old monitor.old }
+    ensures goes { Goes W.fault_count W.did since world.old result world.new monitor.new }
     ensures settled { result ≡ Ok true → IsSettled (W.late world.new) monitor.new.content.watches i }
     ensures only { result ≡ Ok true → OnlyAt i monitor.old.content.watches monitor.new.content.watches }
     ensures late { OnOk result (StaysLate (W.late world.old) (W.late world.new)) }
-    ensures counted { W.fault_count world.new ≡ (if is_ok result then W.fault_count world.old else W.fault_count world.old + 1) }
-    ensures config { monitor.new.config ≡ monitor.old.config }
 {
     while monitor.waiting(i).len() > 0 {
         match write_once(monitor, world, i)? {
@@ -264,19 +230,13 @@ fn flush<W: MonWorld>(monitor: &mut Monitor, world: &mut W, i: usize) -> Result<
 /// Offers what waits on a link to the world once, and passes the result to the monitor.
 fn write_once<W: MonWorld>(monitor: &mut Monitor, world: &mut W, i: usize) -> Result<Written, Fault>
     ghost since: { Since W }
-    requires few { W.fault_count world.old < 2 ^ 64 - 1 }
+    requires ready { Ready W.fault_count W.did since world.old monitor.old }
     requires some { 0 < length (waiting_of i monitor.old.content.watches) }
-    requires watched { Watched since.first (W.did since.config since.start world.old) monitor.old.content None }
-    requires config { monitor.old.config ≡ since.config }
-    ensures err { OnErr result ((owed : Option ℕ)
-        × Watched since.first (W.did since.config since.start world.new) monitor.new.content owed) }
-    ensures ok { OnOk result (Watched since.first (W.did since.config since.start world.new) monitor.new.content None) }
+    ensures goes { Goes W.fault_count W.did since world.old result world.new monitor.new }
     ensures less { IfOk result (λ w. Less w i monitor.old.content.watches monitor.new.content.watches) }
     ensures settled { IfOk result (λ w. Settles w (W.late world.new) monitor.new.content.watches i) }
     ensures only { IfOk result (λ w. Unbroken w i monitor.old.content.watches monitor.new.content.watches) }
     ensures late { OnOk result (StaysLate (W.late world.old) (W.late world.new)) }
-    ensures counted { W.fault_count world.new ≡ (if is_ok result then W.fault_count world.old else W.fault_count world.old + 1) }
-    ensures config { monitor.new.config ≡ monitor.old.config }
 {
     match world.write(monitor, i, monitor.waiting(i))? {
         Written::Took(n) => {
@@ -295,17 +255,11 @@ fn write_once<W: MonWorld>(monitor: &mut Monitor, world: &mut W, i: usize) -> Re
 /// Hands each waiting notice to the world, the oldest first. No link changes.
 fn tell_all<W: MonWorld>(monitor: &mut Monitor, world: &mut W) -> Result<(), Fault>
     ghost since: { Since W }
-    requires few { W.fault_count world.old < 2 ^ 64 - 1 }
-    requires watched { Watched since.first (W.did since.config since.start world.old) monitor.old.content None }
-    requires config { monitor.old.config ≡ since.config }
-    ensures err { OnErr result ((owed : Option ℕ)
-        × Watched since.first (W.did since.config since.start world.new) monitor.new.content owed) }
-    ensures ok { OnOk result (Watched since.first (W.did since.config since.start world.new) monitor.new.content None) }
+    requires ready { Ready W.fault_count W.did since world.old monitor.old }
+    ensures goes { Goes W.fault_count W.did since world.old result world.new monitor.new }
     ensures told { OnOk result (monitor.new.content.notices ≡ []) }
     ensures watches { OnOk result (monitor.new.content.watches ≡ monitor.old.content.watches) }
     ensures late { OnOk result (KeepsLate (W.late world.old) (W.late world.new)) }
-    ensures counted { W.fault_count world.new ≡ (if is_ok result then W.fault_count world.old else W.fault_count world.old + 1) }
-    ensures config { monitor.new.config ≡ monitor.old.config }
 {
     while let Some(notice) = monitor.first_notice() {
         tell(monitor, world, notice)?;
@@ -316,18 +270,12 @@ fn tell_all<W: MonWorld>(monitor: &mut Monitor, world: &mut W) -> Result<(), Fau
 /// Hands the oldest notice to the world and removes it from the monitor.
 fn tell<W: MonWorld>(monitor: &mut Monitor, world: &mut W, notice: Notice) -> Result<(), Fault>
     ghost since: { Since W }
-    requires few { W.fault_count world.old < 2 ^ 64 - 1 }
+    requires ready { Ready W.fault_count W.did since world.old monitor.old }
     requires oldest { slice_get monitor.old.content.notices 0 ≡ Some notice }
-    requires watched { Watched since.first (W.did since.config since.start world.old) monitor.old.content None }
-    requires config { monitor.old.config ≡ since.config }
-    ensures err { OnErr result ((owed : Option ℕ)
-        × Watched since.first (W.did since.config since.start world.new) monitor.new.content owed) }
-    ensures ok { OnOk result (Watched since.first (W.did since.config since.start world.new) monitor.new.content None) }
+    ensures goes { Goes W.fault_count W.did since world.old result world.new monitor.new }
     ensures less { OnOk result (length monitor.new.content.notices < length monitor.old.content.notices) }
     ensures watches { OnOk result (monitor.new.content.watches ≡ monitor.old.content.watches) }
     ensures late { OnOk result (KeepsLate (W.late world.old) (W.late world.new)) }
-    ensures counted { W.fault_count world.new ≡ (if is_ok result then W.fault_count world.old else W.fault_count world.old + 1) }
-    ensures config { monitor.new.config ≡ monitor.old.config }
 {
     world.notice(monitor, notice)?;
     let _ = monitor.take_notice();
