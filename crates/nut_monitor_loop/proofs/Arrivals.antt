@@ -16,7 +16,7 @@ use Rattle.nut_monitor.specs.Events.{event_of}
 use Rattle.nut_monitor_loop.specs.Record.{Entry, Gave, WasClosed, event_given, given_by, giving}
 use Rattle.nut_monitor_loop.specs.declared.types.Next.{Next}
 use Rattle.nut_monitor_loop.specs.declared.types.Next.TheVariants as next
-use Rattle.nut_monitor_loop.specs.Watched.{history_of, entries_of, with_event, handed, sender, lost_of, lost_by, Watched, WatchedBefore}
+use Rattle.nut_monitor_loop.specs.Watched.{history_of, entries_of, with_event, handed, sender, lost_of, lost_by, Watched}
 use Rattle.nut_monitor_loop.proofs.Steps.{Grows, goes_on, IsQuiet, IsQuietIf, sent_on, notices_on}
 
 -- `next` never gives that bytes or a notice were taken
@@ -79,7 +79,7 @@ gave_event first D D' s s' e r watched more quiet silent answer moved =
 -- What `next` gave was told to the monitor as the event that it is. `sent` is the link on which it came, if it is a
 -- piece, and `lost` is that link if it is no longer up.
 pub gave_ending : (first : Configuration) (D' : List Entry → Type 0) (s s' : Content) (n : Next) (items : List ℕ) (found : Option Told) (told : Told) (r : Result (Unit {0}) MonitorFault) (sent lost known : Option ℕ)
-    → WatchedBefore first D' s n items → option_map event_of found ≡ event_given n items → found ≡ Some told → s.notices ≡ []
+    → Watched first (λ entries. D' (given_by n items ++ entries)) s None → option_map event_of found ≡ event_given n items → found ≡ Some told → s.notices ≡ []
     → IsAnswer s (event_of told) r → s' ≡ content_after r s (event_of told) → sent ≡ sender (event_of told) s → lost ≡ lost_of sent s' → lost ≡ known → Watched first D' s' known
 gave_ending first D' s s' n items found told r sent lost known before stands is silent answer moved came gone same =
     let e : Event = event_of told in

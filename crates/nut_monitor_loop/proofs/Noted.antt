@@ -1,7 +1,7 @@
 -- What a world over memory notes, and which events that leaves.
-use Rattle.std.proofs.Common.{◌≡◌, ℕ, List, [], ◌∷◌, ◌++◌, map, reverse, sym, ◌∙◌, ap}
+use Rattle.std.proofs.Common.{◌≡◌, ℕ, List, [], ◌∷◌, ◌++◌, map, reverse, sym, ◌∙◌, ap, subst, append-nil}
 use Rattle.std.proofs.lemmas.List.{reverse-append, map-append}
-use Rattle.nut_monitor_loop.specs.Record.{Entry, given_by, giving}
+use Rattle.nut_monitor_loop.specs.Record.{Entry, LeadsTo, given_by, giving}
 use Rattle.nut_monitor_loop.specs.Memory.{MemoryState, event_of, entry_of, log_of, given_in, GoesOn, Gives}
 use Rattle.nut_monitor_loop.specs.declared.types.Given.{Given}
 use Rattle.nut_monitor_loop.specs.declared.types.Note.{Note}
@@ -23,3 +23,10 @@ gave_more [] new n items gives =
     ap (map event_of) (sym gives.1) ∙ ap (λ m. given_in (given_by m items) ++ map event_of new) (sym gives.0)
 gave_more (given ∷ rest) new n items gives =
     ap (λ l. event_of given ∷ map event_of l) (sym gives.1) ∙ ap (λ a. given_in (giving a) ++ map event_of new) (sym gives.0)
+
+-- the log grew by what was given
+pub gave_leads : (a b : MemoryState) (n : Next) (items : List ℕ) → b.log ≡ given_by n items ++ a.log → Gives a.left b.left n items
+    → LeadsTo n items (GoesOn a b) (GoesOn a b) []
+gave_leads a b n items grown gives =
+    let goes : GoesOn a b (given_by n items) = record { grown = grown; each = gave_more a.left b.left n items gives } in
+    (λ some. subst (λ entries. GoesOn a b entries) (sym (append-nil (given_by n items))) goes, λ none. subst (λ entries. GoesOn a b entries) (ap giving none) goes)

@@ -1,5 +1,5 @@
 -- What is watched stays watched at each step of the loop.
-use Rattle.std.proofs.Common.{◌≡◌, ℕ, List, [], ◌∷◌, ◌++◌, Option, Some, None, Result, Ok, Err, OnErr, refl, sym, ◌∙◌, ap, subst}
+use Rattle.std.proofs.Common.{◌≡◌, ◌≢◌, ℕ, List, [], ◌∷◌, ◌++◌, Option, Some, None, Result, Ok, Err, OnErr, refl, sym, ◌∙◌, ap, subst, append-nil}
 use Rattle.nut_conf.specs.declared.upsmon.MonConfig.{MonConfig}
 use Rattle.nut_monitor_spec.specs.declared.MonitorFault.{MonitorFault}
 use Rattle.nut_monitor_spec.specs.declared.MonitorFault.TheVariants.{Memory}
@@ -12,8 +12,9 @@ use Rattle.nut_monitor_spec.specs.machine.Machine.{advance}
 use Rattle.nut_monitor_spec.specs.Outcome.{IsAnswer, IsRefusal, MayLack}
 use Rattle.nut_monitor_spec.specs.machine.MachineOutcome.{content_after}
 use Rattle.nut_monitor_spec.proofs.Answering.{answers-keep}
-use Rattle.nut_monitor_loop.specs.Record.{Entry}
-use Rattle.nut_monitor_loop.specs.Watched.{entries_of, history_of, with_event, Stands, taken, since_made, handed, Since, Watched}
+use Rattle.nut_monitor_loop.specs.Record.{Entry, Gave, event_given, giving, given_by, LeadsTo}
+use Rattle.nut_monitor_loop.specs.Watched.{entries_of, history_of, with_event, Stands, taken, since_made, handed, Since, Watched, WatchedBefore}
+use Rattle.nut_monitor_loop.specs.declared.types.Next.{Next}
 use Rattle.nut_monitor_loop.proofs.Sent.{sent-given}
 use Rattle.nut_monitor_loop.proofs.Handed.{handed-given}
 
@@ -59,6 +60,41 @@ stays first D D' s owed same watched =
       sent_is = watched.sent_is;
       notices_are = watched.notices_are;
     }
+
+-- what `next` leads to follows what was done since the start
+pub leads : {W : Type 0} (Did Awaits : MonConfig → W → W → List Entry → Type 0)
+    → ((config : MonConfig) (a b c : W) (xs ys : List Entry) → Did config a b xs → Did config b c ys → Did config a c (ys ++ xs))
+    → ((config : MonConfig) (a b c : W) (xs ys : List Entry) → Did config a b xs → Awaits config b c ys → Awaits config a c (ys ++ xs))
+    → (since : Since W) (old new : W) (config : MonConfig) (n : Next) (items : List ℕ) → config ≡ since.config
+    → LeadsTo n items (Awaits config old new) (Did config old new) []
+    → (entries : List Entry) → Did since.config since.start old entries
+    → LeadsTo n items (Awaits since.config since.start new) (Did since.config since.start new) entries
+leads Did Awaits did_on awaits_on since old new config n items same call entries before =
+    let here : LeadsTo n items (Awaits since.config old new) (Did since.config old new) [] =
+    subst (λ c. LeadsTo n items (Awaits c old new) (Did c old new) []) same call in (
+      λ some.
+          awaits_on since.config since.start old new entries (given_by n items) before
+          (subst (λ ys. Awaits since.config old new ys) (append-nil (given_by n items)) (here.0 some)),
+      λ none. did_on since.config since.start old new entries [] before (here.1 none),
+    )
+
+given_some : {E : Type 0} (given : Option E) (e : E) → given ≡ Some e → given ≢ None
+given_some given e some none = cc
+
+-- the world heard what became of the event that it gave
+pub heard : {W : Type 0} (Did Awaits : MonConfig → W → W → List Entry → Type 0) (since : Since W) (old new : W) (config : MonConfig) → config ≡ since.config
+    → (e : Event) → ((a : W) (before : List Entry) → Awaits config a old (Gave e ∷ before) → Did config a new (Gave e ∷ before))
+    → (n : Next) (items : List ℕ) → event_given n items ≡ Some e → (first : Configuration) (s : Content)
+    → WatchedBefore first (Awaits since.config since.start old) (Did since.config since.start old) s n items
+    → Watched first (λ entries. Did since.config since.start new (given_by n items ++ entries)) s None
+heard Did Awaits since old new config same e call n items given first s watched =
+    stays first _ _ s None (λ entries led.
+    subst (λ o. Did since.config since.start new (giving o ++ entries)) (sym given)
+    (subst (λ c. Did c since.start new (Gave e ∷ entries)) same
+    (call since.start entries
+    (subst (λ c. Awaits c since.start old (Gave e ∷ entries)) (sym same)
+    (subst (λ o. Awaits since.config since.start old (giving o ++ entries)) given (led.0 (given_some _ e given)))))))
+    watched
 
 -- what is watched at a fault, with or without a link to be closed
 pub at_err : {T E : Type 0} (r : Result T E) (first : Configuration) (D : List Entry → Type 0) (s : Content) (owed : Option ℕ) → Watched first D s owed

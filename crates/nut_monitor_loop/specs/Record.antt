@@ -1,5 +1,5 @@
 -- What a world states about itself: a list of entries, the newest first.
-use Rattle.std.specs.Prelude.{◌≡◌, ◌<◌, ℕ, Bool, true, List, [], ◌∷◌, length, take, Option, Some, None}
+use Rattle.std.specs.Prelude.{◌≡◌, ◌≢◌, ◌<◌, ℕ, Bool, true, List, [], ◌∷◌, ◌++◌, length, take, Option, Some, None}
 use Rattle.nut_monitor_spec.specs.declared.Notice.{Notice}
 use Rattle.nut_monitor_spec.specs.Event.{Event}
 use Rattle.nut_monitor_spec.specs.Event as event
@@ -40,6 +40,11 @@ giving (Some e) = Gave e ∷ []
 -- what `next` leaves in the record if it gave this value, with these bytes in the piece
 abbrev pub given_by : Next → List ℕ → List Entry
 given_by n piece = giving (event_given n piece)
+
+-- What `next` leads to, after these entries: the world waits to hear what became of the event that it gave, if it gave one.
+abbrev pub LeadsTo : Next → List ℕ → (List Entry → Type 0) → (List Entry → Type 0) → List Entry → Type 0
+LeadsTo n piece Awaits Did entries =
+    (event_given n piece ≢ None → Awaits (given_by n piece ++ entries)) × (event_given n piece ≡ None → Did entries)
 
 -- what a write of these bytes to link i leaves in the record
 abbrev pub written_by : Written → ℕ → List ℕ → Entry

@@ -9,7 +9,7 @@ use Rattle.nut_monitor_spec.specs.Trace.{trace, sent, notices, since_linked}
 use Rattle.nut_monitor_spec.specs.Content.{Content, content}
 use Rattle.nut_monitor_spec.specs.Acceptance.{refusal, is_linked, watch_at, Tells}
 use Rattle.nut_monitor_spec.specs.Outcome.{IsAnswer, after}
-use Rattle.nut_monitor_loop.specs.Record.{Entry, Gave, TookBytes, WasLate, WriteBroke, WasClosed, WasTold, given_by}
+use Rattle.nut_monitor_loop.specs.Record.{Entry, Gave, TookBytes, WasLate, WriteBroke, WasClosed, WasTold, LeadsTo}
 use Rattle.nut_monitor_loop.specs.declared.types.Next.{Next}
 
 -- An entry of the world's record, and the event of the monitor's history that stands for it, if one does.
@@ -100,9 +100,10 @@ pub record Watched (first : Configuration) (Did : List Entry → Type 0) (s : Co
   pub sent_is : (i : ℕ) → taken i steps ≡ sent first i (trace first (history_of steps))
   pub notices_are : handed (entries_of steps) ++ s.notices ≡ notices (trace first (history_of steps))
 
--- `Watched` held before the world gave this value, with these bytes in the piece, and no link had to be closed.
-abbrev pub WatchedBefore : Configuration → (List Entry → Type 0) → Content → Next → List ℕ → Type 0
-WatchedBefore first Did s n piece = Watched first (λ entries. Did (given_by n piece ++ entries)) s None
+-- `Watched` held before the world gave this value, with these bytes in the piece, and no link had to be closed. The world waits
+-- to hear what became of the event, if it gave one.
+abbrev pub WatchedBefore : Configuration → (List Entry → Type 0) → (List Entry → Type 0) → Content → Next → List ℕ → Type 0
+WatchedBefore first Awaits Did s n piece = Watched first (LeadsTo n piece Awaits Did) s None
 
 -- What is watched since `start`: the configuration, of the monitor and as it is defined, and the world as it was then.
 pub record Since (World : Type 0) : Type 0 where

@@ -2,14 +2,15 @@
 
 ghost use Rattle.std.specs.Prelude.{◌≡◌, ◌+◌, ◌-◌, ◌^◌, ◌<◌, ◌≤◌, ℕ, true, false, List, [], ◌∷◌, ◌++◌, length, map, reverse, Option, Some, None, Ok, IfOk, OnOk, OnErr, is_ok, if◌then◌else◌, vec_capacity, vec_len};
 ghost use Rattle.nut_io.specs.Writes.{IsWithin, late_after};
-ghost use Rattle.nut_monitor_loop.specs.Record.{event_given, given_by, written_by};
+ghost use Rattle.nut_monitor.specs.Events.{event_of as told_as};
+ghost use Rattle.nut_monitor_loop.specs.Record.{LeadsTo, event_given, given_by, written_by};
 ghost use Rattle.nut_monitor_loop.specs.Record as entry;
 ghost use Rattle.nut_monitor_loop.specs.Memory.{MemoryState, log_of, entry_of, event_of, Gives, GoesOn};
 ghost use Rattle.nut_monitor_loop.specs.inside.MemoryLaws.{goes_on_self, goes_on_twice};
 
 use crate::{Given, MonWorld, Next, Note};
 use nut_io::{Fault, Piece, Written};
-use nut_monitor::{Monitor, Notice};
+use nut_monitor::{Event, Monitor, Notice};
 use std::alloc::Global;
 use std::marker::Model;
 
@@ -54,6 +55,8 @@ impl MemoryMonWorld {
 impl MonWorld for MemoryMonWorld {
     ghost did = { λ config. GoesOn };
 
+    ghost awaits = { λ config. GoesOn };
+
     ghost late = { λ w i. false };
 
     ghost fault_count = { λ w. w.faults };
@@ -64,13 +67,15 @@ impl MonWorld for MemoryMonWorld {
 
     ghost did_on = { λ config. goes_on_twice };
 
+    ghost awaits_on = { λ config. goes_on_twice };
+
     fn faults(&self) -> u64 {
         self.faults
     }
 
     fn next(&mut self, monitor: &Monitor, piece: &mut Piece) -> Result<Next, Fault>
         requires { self.old.faults < 2 ^ 64 - 1 }
-        ensures ok { IfOk result (λ n. GoesOn self.old self.new (given_by n piece.new.items)) }
+        ensures ok { IfOk result (λ n. LeadsTo n piece.new.items (GoesOn self.old self.new) (GoesOn self.old self.new) []) }
         ensures err { OnErr result (GoesOn self.old self.new []) }
         ensures ended { result ≡ Ok Next.End → self.new.left ≡ [] }
         ensures none_late { (i : ℕ) → false ≡ false }
@@ -89,6 +94,12 @@ impl MonWorld for MemoryMonWorld {
             }
         }
     }
+
+    fn told(&mut self, _monitor: &Monitor, _event: Event<'_>)
+        ensures did { (a : MemoryState) (before : List entry.Entry) → GoesOn a self.old (entry.Gave (told_as _event.entry) ∷ before)
+            → GoesOn a self.new (entry.Gave (told_as _event.entry) ∷ before) }
+        ensures counted { self.new.faults ≡ self.old.faults }
+    {}
 
     fn write(&mut self, _monitor: &Monitor, i: usize, bytes: &[u8]) -> Result<Written, Fault>
         requires few { self.old.faults < 2 ^ 64 - 1 }

@@ -138,7 +138,8 @@ fn hand_on<W: MonWorld>(
     ghost since: { Since W }
     requires few { W.fault_count world.old < 2 ^ 64 - 1 }
     requires told { monitor.old.content.notices ≡ [] }
-    requires watched { WatchedBefore since.first (W.did since.config since.start world.old) monitor.old.content next.now piece.now.items }
+    requires watched { WatchedBefore since.first (W.awaits since.config since.start world.old) (W.did since.config since.start world.old)
+        monitor.old.content next.now piece.now.items }
     requires config { monitor.old.config ≡ since.config }
     ensures goes { Goes W.fault_count W.did since world.old result world.new monitor.new }
 {
@@ -147,6 +148,7 @@ fn hand_on<W: MonWorld>(
     };
     let sender = sender_of(monitor, event);
     let _ = monitor.step(event);
+    world.told(monitor, event);
     match lost_link(monitor, sender) {
         None => Ok(()),
         Some(i) => world.close(monitor, i),

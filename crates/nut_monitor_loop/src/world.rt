@@ -5,21 +5,25 @@ ghost use Rattle.nut_conf.specs.declared.upsmon.MonConfig.{MonConfig};
 ghost use Rattle.nut_monitor_spec.specs.Content.{phase_of};
 ghost use Rattle.nut_monitor_spec.specs.Decision.{is_halted};
 ghost use Rattle.nut_io.specs.Writes.{IsWithin, late_after};
-ghost use Rattle.nut_monitor_loop.specs.Record.{Entry, WasClosed, WasTold, given_by, written_by, NothingIsWithheld};
+ghost use Rattle.nut_monitor.specs.Events.{event_of};
+ghost use Rattle.nut_monitor_loop.specs.Record.{Entry, Gave, WasClosed, WasTold, LeadsTo, written_by, NothingIsWithheld};
 
 use crate::Next;
 use nut_io::{Fault, Piece, Written};
-use nut_monitor::{Monitor, Notice};
+use nut_monitor::{Event, Monitor, Notice};
 
 /// A world that gives events, takes bytes, closes links and is handed notices. A link has the number of its MONITOR
 /// line, from 0 on. Each call is shown the monitor, for example so that the world can report what the monitor has heard.
 ///
-/// Any call except `faults` may return a fault instead, if its input or output fails. It has then done nothing, and
+/// Any call except `faults` and `told` may return a fault instead, if its input or output fails. It has then done nothing, and
 /// the fault is counted. After `next`, also after its fault, no link is late.
 pub trait MonWorld {
     /// Calls that are shown monitors of this configuration may lead from the first state to the second. This, the newest
     /// first, is what the world gave, accepted, closed and was handed by them.
     ghost did: { MonConfig → Self → Self → List Entry → Type 0 };
+
+    /// The same, but the second state waits to hear what became of the last event.
+    ghost awaits: { MonConfig → Self → Self → List Entry → Type 0 };
 
     /// On which links a write was `Later` since the last `next`.
     ghost late: { Self → ℕ → Bool };
@@ -43,11 +47,20 @@ pub trait MonWorld {
         requires withheld { NothingIsWithheld (late self.old) monitor.now.content }
         requires told { monitor.now.content.notices ≡ [] }
         requires going { is_halted (phase_of monitor.now.content) ≡ false }
-        ensures ok { IfOk result (λ n. did monitor.now.config self.old self.new (given_by n piece.new.items)) }
+        ensures ok { IfOk result (λ n. LeadsTo n piece.new.items
+            (awaits monitor.now.config self.old self.new) (did monitor.now.config self.old self.new) []) }
         ensures err { OnErr result (did monitor.now.config self.old self.new []) }
         ensures ended { result ≡ Ok Next.End → has_ended self.new }
         ensures none_late { (i : ℕ) → late self.new i ≡ false }
         ensures counted { fault_count self.new ≡ (if is_ok result then fault_count self.old else fault_count self.old + 1) };
+
+    /// Hears that the monitor was given the event that `next` gave last. The monitor shows what became of it.
+    ///
+    /// The call comes once for each event, before anything is written, closed or handed over for it.
+    fn told(&mut self, monitor: &Monitor, event: Event<'_>)
+        ensures did { (a : Self) (before : List Entry) → awaits monitor.now.config a self.old (Gave (event_of event.entry) ∷ before)
+            → did monitor.now.config a self.new (Gave (event_of event.entry) ∷ before) }
+        ensures counted { fault_count self.new ≡ fault_count self.old };
 
     /// Offers at least one byte to the server of link i. Returns how many the server took, or that the write was late,
     /// or that it failed.
@@ -82,4 +95,8 @@ pub trait MonWorld {
     /// What is done by calls after calls.
     ghost did_on: { (config : MonConfig) (a b c : Self) (xs ys : List Entry) → did config a b xs → did config b c ys
         → did config a c (ys ++ xs) };
+
+    /// A world that waits to hear of an event does so whatever was done before.
+    ghost awaits_on: { (config : MonConfig) (a b c : Self) (xs ys : List Entry) → did config a b xs → awaits config b c ys
+        → awaits config a c (ys ++ xs) };
 }

@@ -6,7 +6,6 @@ use Rattle.nut_poll.proofs.TurnLemmas.{looks_go_on}
 use Rattle.nut_monitor_loop.specs.declared.types.Next.{Next}
 use Rattle.nut_monitor_loop.specs.declared.types.Next.TheVariants.{Moment, Linked, LinkBytes, LinkLost, Again, End}
 use Rattle.nut_monitor_sockets.specs.Turns.{ComesInTurn, IsGivenBy, IsOfLast}
-use Rattle.nut_monitor_sockets.specs.inside.Losses.{IsLoss}
 
 -- nobody came
 pub stays : (a b : Queue) → b ≡ a → Looks [] a b
@@ -32,10 +31,6 @@ in_turn n a b c first then = (first.0 ++ then.0, looks_go_on first.0 then.0 a b 
 -- links came to wait, and none was looked at
 pub none_looked : (a b : Queue) → Looks [] a b → ComesInTurn Again a b
 none_looked a b came = ([], came, tt)
-
--- a link was lost, and none was looked at
-pub lost_in_turn : (n : Next) (a b : Queue) → IsLoss n → b ≡ a → ComesInTurn n a b
-lost_in_turn n a b loss same = subst (λ m. ComesInTurn m a b) (sym loss.1) ([], stays a b same, tt)
 
 -- nothing came, others came to wait, and then this came
 pub waited : (n : Next) (a b c d : Queue) → ComesInTurn Again a b → Looks [] b c → ComesInTurn n c d → ComesInTurn n a d

@@ -1,2 +1,1 @@
 pub mod HandingLaws
-pub mod Losses

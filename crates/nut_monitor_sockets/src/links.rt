@@ -4,7 +4,6 @@ ghost use Rattle.std.specs.Prelude.{◌≡◌, ◌≢◌, ℕ, [], length, unwra
 ghost use Rattle.nut_io.specs.Writes.{IsWithin};
 ghost use Rattle.nut_monitor_loop.specs.declared.types.Next.TheVariants as next;
 ghost use Rattle.nut_monitor_sockets.specs.Turns.{ComesInTurn, IsGivenBy};
-ghost use Rattle.nut_monitor_sockets.specs.inside.Losses.{IsLoss};
 ghost use Rattle.nut_poll.specs.Queue.{Looks};
 
 use crate::dialler::Dialler;
@@ -97,8 +96,6 @@ pub struct Links {
     limits: Limits,
     /// Whether the shutdown has begun.
     is_ending: bool,
-    /// The link of the piece that was given to the monitor last, until what the monitor heard there is reported.
-    heard: Option<usize>,
 }
 
 impl Links {
@@ -114,7 +111,6 @@ impl Links {
             has_moved_on: false,
             limits: CALM,
             is_ending: false,
-            heard: None,
         })
     }
 
@@ -157,7 +153,6 @@ impl Links {
         self.has_moved_on = false;
         self.limits = CALM;
         self.is_ending = false;
-        self.heard = None;
     }
 
     /// Closes all links, and ends the look-ups. Nothing is reported.
@@ -176,7 +171,7 @@ impl Links {
     /// # Errors
     ///
     /// The error of the wait or of the clock.
-    #[tactic(auto, using(crate::proofs::InTurn::in_turn, crate::proofs::InTurn::lost_in_turn, crate::proofs::InTurn::waited))]
+    #[tactic(auto, using(crate::proofs::InTurn::in_turn, crate::proofs::InTurn::waited))]
     pub fn next<R: Net + Clock + Processes>(
         &mut self,
         services: &mut Services<'_, '_, R>,
@@ -187,9 +182,6 @@ impl Links {
         ensures turns { IfOk result (λ n. ComesInTurn n self.old.rounds.ready self.new.rounds.ready) }
     {
         self.follow(monitor, &mut services.look_ups);
-        if let Some(next) = self.follow_up(monitor, &mut services.reports) {
-            return Ok(next);
-        }
         if let Some(next) = self.look(monitor, piece, services.rt, &mut services.reports) {
             return Ok(next);
         }
@@ -208,79 +200,54 @@ impl Links {
         mem::take(&mut self.has_moved_on)
     }
 
-    /// Offers bytes to the server of a link. The monitor keeps a link that it writes to, so it has read the last piece.
-    pub fn offer(
-        &mut self,
-        monitor: &Monitor,
-        i: usize,
-        bytes: &[u8],
-        reports: &mut Reports<'_>,
-    ) -> Written
+    /// Offers bytes to the server of a link.
+    pub fn offer(&mut self, i: usize, bytes: &[u8]) -> Written
         ensures { IsWithin result (length bytes.now) }
     {
-        if self.heard == Some(i) {
-            self.tell_heard(monitor, reports);
-        }
         match self.upstreams.get_mut(i) {
             Some(upstream) => upstream.offer(bytes),
             None => Written::Failed,
         }
     }
 
-    /// Closes a link. If the monitor was just given a piece from it, that piece is the reason.
-    pub fn close(&mut self, monitor: &Monitor, i: usize, reports: &mut Reports<'_>)
+    /// Closes a link on which a write failed.
+    pub fn close(&mut self, i: usize, reports: &mut Reports<'_>)
         ensures { self.new.rounds.ready ≡ self.old.rounds.ready }
     {
-        if self.heard == Some(i) {
-            self.tell_heard(monitor, reports);
-            self.end(i, Loss::Unread, reports);
-        } else {
-            self.end(i, Loss::Closed, reports);
-        }
+        self.end(i, Loss::Closed, reports);
     }
 
-    /// Reports what the monitor heard in the piece that it was given last, if it has to be reported.
-    fn tell_heard(&mut self, monitor: &Monitor, reports: &mut Reports<'_>)
-        ensures heard { self.new.heard ≡ None }
-        ensures turns { self.new.rounds.ready ≡ self.old.rounds.ready }
+    /// Reports what the monitor heard in a piece of a link, if it has to be reported. Closes the link if the monitor dropped it at
+    /// that piece, or if its server still owes an answer, and has for too long. The monitor hears of the latter when the link is
+    /// looked at again.
+    #[tactic(auto, using(crate::proofs::InTurn::stays, crate::proofs::InTurn::comes_on))]
+    pub fn told(&mut self, monitor: &Monitor, i: usize, reports: &mut Reports<'_>)
+        ensures { Looks [] self.old.rounds.ready self.new.rounds.ready }
     {
-        let Some(i) = self.heard.take() else {
-            return;
-        };
         if let (Some(upstream), Some(answer)) = (self.upstreams.get_mut(i), monitor.last_answer(i))
             && upstream.note_answer(answer)
         {
             tell_answer(upstream, answer, monitor.linked(i), reports);
         }
-    }
-
-    /// Reports what the monitor heard in the piece that it was given last. If the server of that link still owes an answer,
-    /// and has for too long, the link is lost.
-    fn follow_up(&mut self, monitor: &Monitor, reports: &mut Reports<'_>) -> Option<Next>
-        ensures lost { IfSome result IsLoss }
-        ensures turns { self.new.rounds.ready ≡ self.old.rounds.ready }
-    {
-        let i = self.heard?;
-        self.tell_heard(monitor, reports);
-        self.lose_silent(monitor, i, reports)
-    }
-
-    /// Ends a link whose server owes an answer, and has for too long.
-    fn lose_silent(
-        &mut self,
-        monitor: &Monitor,
-        i: usize,
-        reports: &mut Reports<'_>,
-    ) -> Option<Next>
-        ensures lost { IfSome result IsLoss }
-        ensures turns { self.new.rounds.ready ≡ self.old.rounds.ready }
-    {
-        let query = outstanding(monitor, i)?;
-        if !self.upstreams.get(i)?.is_overdue(query, self.limits) {
-            return None;
+        if !monitor.linked(i) {
+            self.end(i, Loss::Unread, reports);
+        } else if self.end_silent(monitor, i, reports) {
+            self.rounds.ready.insert(Token(i));
         }
-        self.end(i, Loss::Silent(self.limits.answer), reports);
-        Some(Next::LinkLost(i))
+    }
+
+    /// Ends a link whose server owes an answer, and has for too long. Returns whether it did.
+    fn end_silent(&mut self, monitor: &Monitor, i: usize, reports: &mut Reports<'_>) -> bool
+        ensures { self.new.rounds.ready ≡ self.old.rounds.ready }
+    {
+        let (Some(query), Some(upstream)) = (outstanding(monitor, i), self.upstreams.get(i)) else {
+            return false;
+        };
+        let is_overdue = upstream.is_overdue(query, self.limits);
+        if is_overdue {
+            self.end(i, Loss::Silent(self.limits.answer), reports);
+        }
+        is_overdue
     }
 
     /// Closes a link and reports it: a server that has served is lost, and of any other it is reported once that there
@@ -365,7 +332,7 @@ impl Links {
             (false, false) => self.reach(monitor, i, net, reports),
             (false, true) => Some(Next::LinkLost(i)),
             (true, false) => {
-                self.close(monitor, i, reports);
+                self.close(i, reports);
                 None
             }
         }
@@ -391,26 +358,23 @@ impl Links {
             return Some(Next::LinkLost(i));
         }
         match heard {
-            Heard::All => Some(self.hand_on(i)),
+            Heard::All => Some(Next::LinkBytes(i)),
             Heard::Part => {
                 self.rounds.ready.insert(Token(i));
-                Some(self.hand_on(i))
+                Some(Next::LinkBytes(i))
             }
-            Heard::Nothing => self.lose_silent(monitor, i, reports),
+            Heard::Nothing => {
+                if self.end_silent(monitor, i, reports) {
+                    Some(Next::LinkLost(i))
+                } else {
+                    None
+                }
+            }
             Heard::End => {
                 self.end(i, Loss::Closed, reports);
                 Some(Next::LinkLost(i))
             }
         }
-    }
-
-    /// Gives a piece of a link to the monitor.
-    fn hand_on(&mut self, i: usize) -> Next
-        ensures next { result ≡ next.LinkBytes i }
-        ensures turns { self.new.rounds.ready ≡ self.old.rounds.ready }
-    {
-        self.heard = Some(i);
-        Next::LinkBytes(i)
     }
 
     /// Calls the server of a link, or continues the call. When the link is made, what the server has sent already is to

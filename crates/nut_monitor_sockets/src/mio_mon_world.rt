@@ -14,7 +14,7 @@ use crate::links::{Links, NewLinks, Services};
 use arrayvec::ArrayVec;
 use nut_conf::MONITORS_MAX;
 use nut_io::{Fault, Piece, Written};
-use nut_monitor::{Monitor, Notice};
+use nut_monitor::{Event, Monitor, Notice};
 use nut_monitor_loop::{MonWorld, Next};
 use nut_poll::{LookUps, Reports, note_written};
 use std::alloc::Global;
@@ -132,6 +132,8 @@ ghost use Rattle.std.specs.Prelude.{◌≢◌, ◌<◌, ◌≤◌, IfOk, IfSome,
 impl<'r, 'e, R: Net + Clock + Processes, H: Herald> MonWorld for MioMonWorld<'r, 'e, R, H> {
     ghost did = { λ config a b entries. HandsOn (H.told config a.herald b.herald) (handed entries) };
 
+    ghost awaits = { λ config a b entries. HandsOn (H.told config a.herald b.herald) (handed entries) };
+
     ghost late = { λ w i. is_noted w.late.items i };
 
     ghost fault_count = { λ w. w.faults };
@@ -142,6 +144,10 @@ impl<'r, 'e, R: Net + Clock + Processes, H: Herald> MonWorld for MioMonWorld<'r,
 
     ghost did_on = { λ config a b c xs ys first second. hands_on_twice (H.told config a.herald b.herald) (H.told config b.herald c.herald)
         (H.told config a.herald c.herald) (H.told_on config a.herald b.herald c.herald) xs ys first second };
+
+    ghost awaits_on = { λ config a b c xs ys first second.
+        hands_on_twice (H.told config a.herald b.herald) (H.told config b.herald c.herald) (H.told config a.herald c.herald)
+        (H.told_on config a.herald b.herald c.herald) xs ys first second };
 
     fn faults(&self) -> u64 {
         self.faults
@@ -169,30 +175,35 @@ impl<'r, 'e, R: Net + Clock + Processes, H: Herald> MonWorld for MioMonWorld<'r,
         }
     }
 
-    fn write(&mut self, monitor: &Monitor, i: usize, bytes: &[u8]) -> Result<Written, Fault>
+    fn told(&mut self, monitor: &Monitor, event: Event<'_>) {
+        if let Event::LinkBytes(i, _) = event {
+            self.links.told(monitor, i, &mut self.services.reports);
+        }
+    }
+
+    fn write(&mut self, _monitor: &Monitor, i: usize, bytes: &[u8]) -> Result<Written, Fault>
         requires { 0 < length bytes.now }
         ensures no_fault { IsOk result }
         ensures count { self.new.faults ≡ self.old.faults }
-        ensures ok { IfOk result (λ w. HandsOn (H.told monitor.now.config self.old.herald self.new.herald)
+        ensures ok { IfOk result (λ w. HandsOn (H.told _monitor.now.config self.old.herald self.new.herald)
             (handed (written_by w i bytes.now ∷ []))) }
-        ensures err { OnErr result (HandsOn (H.told monitor.now.config self.old.herald self.new.herald) []) }
+        ensures err { OnErr result (HandsOn (H.told _monitor.now.config self.old.herald self.new.herald) []) }
         ensures within { IfOk result (λ w. IsWithin w (length bytes.now)) }
         ensures late { IfOk result (λ w. (j : ℕ)
             → is_noted self.new.late.items j ≡ late_after w i (is_noted self.old.late.items) j) }
     {
-        let reports = &mut self.services.reports;
-        let written = self.links.offer(monitor, i, bytes, reports);
+        let written = self.links.offer(i, bytes);
         Ok(note_written(&mut self.late, i as u64, written))
     }
 
-    fn close(&mut self, monitor: &Monitor, i: usize) -> Result<(), Fault>
+    fn close(&mut self, _monitor: &Monitor, i: usize) -> Result<(), Fault>
         ensures no_fault { IsOk result }
         ensures count { self.new.faults ≡ self.old.faults }
-        ensures ok { OnOk result (HandsOn (H.told monitor.now.config self.old.herald self.new.herald) []) }
-        ensures err { OnErr result (HandsOn (H.told monitor.now.config self.old.herald self.new.herald) []) }
+        ensures ok { OnOk result (HandsOn (H.told _monitor.now.config self.old.herald self.new.herald) []) }
+        ensures err { OnErr result (HandsOn (H.told _monitor.now.config self.old.herald self.new.herald) []) }
         ensures late { (j : ℕ) → is_noted self.new.late.items j ≡ is_noted self.old.late.items j }
     {
-        self.links.close(monitor, i, &mut self.services.reports);
+        self.links.close(i, &mut self.services.reports);
         Ok(())
     }
 

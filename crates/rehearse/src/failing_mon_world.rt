@@ -7,7 +7,7 @@ use crate::deeds::{Kind, show_closed, show_written};
 use crate::device::{Calls, Device};
 use crate::watching::{show_given, show_notice};
 use nut_io::{Fault, Piece, Written};
-use nut_monitor::{Monitor, Notice};
+use nut_monitor::{Event, Monitor, Notice};
 use nut_monitor_loop::{Given, MonWorld, Next};
 
 /// A world that gives events and writes a line for what it does.
@@ -47,6 +47,8 @@ fn next_of(given: Given, piece: &mut Piece) -> Next {
 impl MonWorld for FailingMonWorld {
     ghost did = { λ config a b entries. Unit {0} };
 
+    ghost awaits = { λ config a b entries. Unit {0} };
+
     ghost late = { λ w i. w.is_late && nat_eq i 0 };
 
     ghost fault_count = { λ w. w.calls.faults };
@@ -56,6 +58,8 @@ impl MonWorld for FailingMonWorld {
     ghost did_self = { λ config w. tt };
 
     ghost did_on = { λ config a b c xs ys first second. tt };
+
+    ghost awaits_on = { λ config a b c xs ys first second. tt };
 
     fn faults(&self) -> u64 {
         self.calls.faults()
@@ -71,6 +75,8 @@ impl MonWorld for FailingMonWorld {
         }
         Ok(give(&mut self.events, piece, &mut self.deeds))
     }
+
+    fn told(&mut self, _monitor: &Monitor, _event: Event<'_>) {}
 
     fn write(&mut self, _monitor: &Monitor, i: usize, bytes: &[u8]) -> Result<Written, Fault> {
         self.calls.count()?;

@@ -1,4 +1,4 @@
-use Rattle.std.proofs.Common.{◌≡◌, sym, subst, ◌∙◌}
+use Rattle.std.proofs.Common.{sym, subst}
 use Rattle.nut_monitor_loop.specs.declared.types.Next.TheVariants.{Again}
 use Rattle.nut_monitor_sockets.specs.Turns.{ComesInTurn}
 use Rattle.nut_monitor_sockets.proofs.InTurn.{waited}
@@ -10,7 +10,6 @@ returns-clause-turns g c =
     let looked = c.look.new.self.rounds.ready in
     let came = c.wait.new.self.rounds.ready in
     let end = c.look-next.new.self.rounds.ready in
-    let same : c.follow_up.new.self.rounds.ready ≡ start = c.follow_up.ensures.turns ∙ c.follow.ensures in
-    let first : ComesInTurn Again start looked = subst (λ q. ComesInTurn Again q looked) same c.in_default-look.ensures.turns in
+    let first : ComesInTurn Again start looked = subst (λ q. ComesInTurn Again q looked) c.follow.ensures c.in_default.ensures.turns in
     let then : ComesInTurn c.unwrap_or.result came end = subst (λ n. ComesInTurn n came end) (sym c.unwrap_or.ensures) c.look-next.ensures.turns in
     waited c.unwrap_or.result start looked came end first c.in_ok-wait.ensures then

@@ -3,6 +3,9 @@ use Rattle.nut_monitor_sockets.specs.inside.HandingLaws.{hands_more, none_handed
 use Rattle.nut_monitor_sockets.proofs.mio_mon_world.MioMonWorldMonWorld.next.Goals.{then-has_moved_on, else-has_moved_on}
 use Rattle.nut_monitor_sockets.proofs.mio_mon_world.MioMonWorldMonWorld.next.Goals as goal
 
+either_way : {A P Q : Type 0} → A → (P → A) × (Q → A)
+either_way a = (λ p. a, λ q. a)
+
 pub returns-in-Err-clause-counted : goal.returns-in-Err-clause-counted
 returns-in-Err-clause-counted g c = refl
 
@@ -11,9 +14,9 @@ returns-then-self-clause-ok g c =
     elim c.if-has_moved_on.branch [
       | then-has_moved_on w ↦
           rw (w.self-is)
-          (hands_more _ _ _ (g.met.H.Herald.told_on c.args.monitor.now.config c.args.self.now.herald w.second.new.herald w.second-self.new.self) [] [] w.second.ensures
-          (none_handed _ w.second-self.ensures))
-      | else-has_moved_on w ↦ rw (w.self-is) (none_handed _ (g.met.H.Herald.told_self c.args.monitor.now.config c.args.self.now.herald))
+          (either_way (hands_more _ _ _ (g.met.H.Herald.told_on c.args.monitor.now.config c.args.self.now.herald w.second.new.herald w.second-self.new.self) [] [] w.second.ensures
+          (none_handed _ w.second-self.ensures)))
+      | else-has_moved_on w ↦ rw (w.self-is) (either_way (none_handed _ (g.met.H.Herald.told_self c.args.monitor.now.config c.args.self.now.herald)))
     ]
 
 pub returns-else-self-clause-ok : goal.returns-else-self-clause-ok
@@ -21,7 +24,7 @@ returns-else-self-clause-ok g c =
     elim c.if-has_moved_on.branch [
       | then-has_moved_on w ↦
           rw (w.self-is)
-          (hands_more _ _ _ (g.met.H.Herald.told_on c.args.monitor.now.config c.args.self.now.herald w.second.new.herald w.second-self.new.self) [] [] w.second.ensures
-          (none_handed _ w.second-self.ensures))
-      | else-has_moved_on w ↦ rw (w.self-is) (none_handed _ (g.met.H.Herald.told_self c.args.monitor.now.config c.args.self.now.herald))
+          (either_way (hands_more _ _ _ (g.met.H.Herald.told_on c.args.monitor.now.config c.args.self.now.herald w.second.new.herald w.second-self.new.self) [] [] w.second.ensures
+          (none_handed _ w.second-self.ensures)))
+      | else-has_moved_on w ↦ rw (w.self-is) (either_way (none_handed _ (g.met.H.Herald.told_self c.args.monitor.now.config c.args.self.now.herald)))
     ]
