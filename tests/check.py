@@ -53,7 +53,7 @@ TESTS = (
     ("programs.upsmon_reload", ("upsd", "dummy_ups", "upsc", "upsmon")),
     ("programs.upsmon_apart", ("upsd", "dummy_ups", "upsc", "upsmon")),
     ("programs.journal", ("upsd", "dummy_ups", "upsc", "upsmon")),
-    ("programs.nutsim", ("nutsim", "rehearse")),
+    ("programs.nutsim", ("nutsim",)),
     ("programs.nutroom", ("nutsim",)),
     ("programs.install", ("upsd", "dummy_ups", "upsc", "upsrw", "upscmd", "upsmon", "nutsim")),
     ("programs.from_nut", ("upsd", "dummy_ups", "upsc", "upsrw", "upscmd", "upsmon")),

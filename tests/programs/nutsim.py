@@ -1,12 +1,10 @@
 #!/usr/bin/env python3
-"""Plays schedules of rooms, and compares what their steps tell with the plain model in room_model.py: with `nutsim`, which
-reads files and plays a step at a time, and with `rehearse`, which plays calls of any length.
+"""Plays schedules of rooms with `nutsim`, and compares what their steps tell with the plain model in room_model.py.
 
-    python3 -m tests.programs.nutsim NUTSIM REHEARSE
+    python3 -m tests.programs.nutsim NUTSIM
 
 Schedules are made from fixed seeds, so that each run of this test plays the same. The last line is 'N passed, M failed'."""
 
-import collections
 import concurrent.futures
 import errno
 import os
@@ -17,23 +15,19 @@ import sys
 import tempfile
 import time
 
-from tests.support.harness import ROOT, VERSION_SHOWN, Failed, cannot_read, ensure, expect, fewer, needs_proved_build, patience, refusals, refusing, run_tests
+from tests.support.harness import ROOT, VERSION_SHOWN, Failed, Shimmed, cannot_read, ensure, expect, fewer, needs_proved_build, patience, refusals, refusing, run_tests
 from tests.support.model import Config, User, quoted
-from tests.support.player import conf_steps
 from tests.rehearsals.server import greatest_memory
-from tests.support.room_model import Room, Rules, Watched, line_of, rehearsed, shown
+from tests.support.room_model import Room, Rules, Watched, line_of, shown
 from tests.support.room_schedules import UPSES, RoomMaker
-from tests.support.stage import Stage
 from tests.support.terminal import run_on_terminal
 
 EXAMPLES = os.path.join(ROOT, "examples")
 SCHEDULES = os.path.join(EXAMPLES, "schedules")
 
-# how many random schedules are played by calls and by `nutsim`, how many of them use one room, and how many rooms one run
+# how many random schedules are played, and how many of them use one room
 RANDOM_SCHEDULES = fewer(10_000)
-RANDOM_FILES = fewer(400)
 SCHEDULES_A_ROOM = 20
-ROOMS_A_RUN = 25
 LONG_STEPS = 300_000
 # the largest configuration file, in bytes (docs/programs.md)
 FILE_MAX = 1_048_576
@@ -112,117 +106,10 @@ class RoomFiles:
             self.monitors.append(path)
 
 
-def room_steps(config, rules):
-    """Returns steps for `rehearse` that make a room."""
-    return [*conf_steps(config)[:-1], *(("room monitor", it.text()) for it in rules), ("room new",)]
-
-
-def call_steps(steps):
-    """Returns steps for `rehearse` that play a call."""
-    return [*(("room step", line_of(it)[:-1]) for it in steps), ("room play",)]
-
-
-def call_lines(told):
-    """Returns what `rehearse` prints about a call whose steps tell this."""
-    lines = [rehearsed(number, it).rstrip(b"\n") for number, news in enumerate(told, 1) for it in news]
-    return [*([b"ok"] * len(told)), *lines, b"ok"]
-
-
-class Script:
-    """A script of rooms for `rehearse`, and the lines that it has to print."""
-
-    def __init__(self):
-        self.steps, self.due = [], []
-
-    def add_room(self, config, rules):
-        made = room_steps(config, rules)
-        self.steps += made
-        self.due += [b"ok"] * len(made)
-
-    def add_call(self, steps, told):
-        self.steps += call_steps(steps)
-        self.due += call_lines(told)
-
-
 def played(config, rules, steps):
     """Returns what each step tells, by the model."""
     room = Room(config, rules)
     return [room.play(it) for it in steps]
-
-
-def random_script(seeds):
-    """Makes random schedules of random rooms, each played in calls of random lengths."""
-    script = Script()
-    for seed in seeds:
-        maker = RoomMaker(seed)
-        for _ in range(SCHEDULES_A_ROOM):
-            steps, told = maker.schedule(60)
-            size = maker.random.choice([1, 4, 30, len(steps)])
-            script.add_room(maker.config, maker.rules)
-            for at in range(0, len(steps), size):
-                script.add_call(steps[at : at + size], told[at : at + size])
-    return script
-
-
-def compare_by_calls(stage, seeds):
-    """Plays random schedules in calls. Returns how many steps they had."""
-    script = random_script(seeds)
-    lines = stage.play(script.steps)
-    for at, (found, due) in enumerate(zip(lines, script.due)):
-        if found != due:
-            raise Failed(f"rooms {seeds}, line {at}: found {found!r}, wanted {due!r}, behind {lines[max(at - 3, 0):at]}")
-    expect(len(lines), len(script.due), f"the lines of rooms {seeds}")
-    return sum(step[0] == "room step" for step in script.steps)
-
-
-class Refusals:
-    """A room for `rehearse` in which each step is repeated if memory was refused at it, and what runs with a refusal have to
-    print."""
-
-    def __init__(self, config, rules, calls):
-        self.groups = [([it], [b"ok"], []) for it in conf_steps(config)[:-1]]
-        self.groups += [([it], [b"ok"], [it]) for it in room_steps(config, rules)[3:-1]]
-        self.groups += [([("room new",)], [b"ok"], room_steps(config, rules)[3:])]
-        told = iter(played(config, rules, [step for call in calls for step in call]))
-        for call in calls:
-            steps = call_steps(call)
-            lines = call_lines([next(told) for _ in call])
-            self.groups += [([it], [b"ok"], [it]) for it in steps[:-1]]
-            self.groups.append((steps[-1:], lines[len(call) :], steps[-1:]))
-        self.longest = max(map(len, calls))
-
-    def steps(self):
-        return [it for first, _, again in self.groups for it in [*first, *((f"? {verb}", *rest) for verb, *rest in again)]]
-
-    def outcome(self, lines, at):
-        """Returns where a run met the refusal: `room` or `call` of a room, or None if its room met none. Fails if the run
-        printed anything else than it has to."""
-        left, outcome = list(lines), None
-        for first, due, again in self.groups:
-            if not left:
-                break
-            verb = first[0][0]
-            if verb == "room play" and outcome == "call":
-                # the room has failed
-                wanted = [b"Failed", b""]
-            elif self.is_lack(verb, left[0]):
-                ensure(outcome is None, f"allocation {at}: memory was refused twice")
-                outcome = {"room play": "call", "room new": "room"}.get(verb, "script")
-                wanted = [left[0], *([b"Failed"] if outcome == "call" else [b"ok"] * len(again))]
-            else:
-                wanted = [*due, *([b""] * len(again))]
-            found, left = left[: len(wanted)], left[len(wanted) :]
-            expect(found, wanted[: len(found)], f"allocation {at}, {first[0]}")
-        expect(left, [], f"allocation {at}: more lines")
-        return outcome
-
-    def is_lack(self, verb, line):
-        """Whether a line reports refused memory, at a step that was played."""
-        if verb == "room play":
-            at = re.fullmatch(rb"Memory\(([0-9]+)\)", line)
-            return at is not None and 0 < int(at[1]) <= self.longest
-        told = {"room new": rb"Memory\(0\)", "room monitor": rb"([0-9]+: )?Memory"}
-        return re.fullmatch(told.get(verb, rb"Memory"), line) is not None
 
 
 def unreadable(file, path, why):
@@ -230,15 +117,10 @@ def unreadable(file, path, why):
     return 1, b"", cannot_read("nutsim", file, path, why).encode()
 
 
-class Tests:
-    def __init__(self, program, rehearse, folder):
+class Tests(Shimmed):
+    def __init__(self, program, folder):
         self.program = program
         self.folder = folder
-        self.stage = Stage(rehearse, folder)
-
-    @property
-    def shim(self):
-        return self.stage.shim
 
     def room(self, name, config, rules):
         return RoomFiles(os.path.join(self.folder, name), config, rules)
@@ -289,66 +171,17 @@ class Tests:
             done = subprocess.run([self.program, *words.split()], cwd=os.path.dirname(EXAMPLES), capture_output=True, timeout=60)
             expect((done.returncode, done.stdout.decode(), done.stderr), (0, due, b""), words)
 
-    def test_rows_by_calls_of_any_length(self):
-        """The room continues from one call to the next as it does within a call."""
-        for config, rules, row in ((ALONE, [PRIMARY], ALONE_ROW), (ALONE, [PRIMARY, SECONDARY], PAIR_ROW)):
-            told = played(config, rules, row)
-            for size in range(1, len(row) + 1):
-                script = Script()
-                script.add_room(config, rules)
-                for at in range(0, len(row), size):
-                    script.add_call(row[at : at + size], told[at : at + size])
-                expect(self.stage.play(script.steps), script.due, f"calls of {size} steps")
-
     def test_the_model_plays_the_rows(self):
         for rules, row, due in (([PRIMARY], ALONE_ROW, ALONE_DUE), ([PRIMARY, SECONDARY], PAIR_ROW, PAIR_DUE)):
             told = played(ALONE, rules, row)
             expect(b"".join(shown(at, it) for at, news in enumerate(told, 1) for it in news), due, "the model")
 
-    def test_steps_that_may_not_be_played(self):
-        """The steps before them took effect, and the room continues."""
-        bad = [
-            ("up", 1), ("down", 1), ("driver", 1, b"x"), ("monitor", 1, 5), ("link", 1, 0), ("link", 0, 1), ("out", 0, 1, 5), ("reach", 1, 0, 5),
-            ("back", 0, 1, 5), ("land", 1, 0, 5), ("cut-server", 0, 1), ("cut-monitor", 1, 0),
-        ]
-        script = Script()
-        script.add_room(ALONE, [PRIMARY])
-        room = Room(ALONE, [PRIMARY])
-        for step in bad:
-            # the driver has disconnected before, so it cannot do so again
-            script.steps += call_steps([("up", 0), ("down", 0), step, ("server", 1)])
-            script.due += [b"ok"] * 4 + [b"BadStep(3)"]
-            expect([room.play(("up", 0)), room.play(("down", 0))], [[], []], "the model")
-            script.add_call([("down", 0)], [[("skipped",)]])
-        script.add_call(ALONE_ROW, [room.play(it) for it in ALONE_ROW])
-        expect(self.stage.play(script.steps), script.due, "steps that may not be played")
-
     def test_random_schedules(self):
         begun = time.monotonic()
-        rooms = RANDOM_SCHEDULES // SCHEDULES_A_ROOM
-        runs = [range(at, min(at + ROOMS_A_RUN, rooms)) for at in range(0, rooms, ROOMS_A_RUN)]
+        rooms = range(RANDOM_SCHEDULES // SCHEDULES_A_ROOM)
         with concurrent.futures.ProcessPoolExecutor() as pool:
-            steps = sum(pool.map(compare_by_calls, [self.stage] * len(runs), runs))
-        print(f"   {RANDOM_SCHEDULES} schedules of {rooms} rooms, {steps} steps; {time.monotonic() - begun:.1f} s")
-
-    def test_random_schedules_of_files(self):
-        begun = time.monotonic()
-        rooms = range(RANDOM_FILES // SCHEDULES_A_ROOM)
-        with concurrent.futures.ThreadPoolExecutor(max_workers=os.cpu_count() or 1) as pool:
             count = sum(pool.map(self.compare, rooms))
         print(f"   {count} schedules of {len(rooms)} rooms; {time.monotonic() - begun:.1f} s")
-
-    def test_a_room_in_which_each_allocation_is_refused_in_turn(self):
-        """If memory is refused when a room is made, there is none, and the next one replaces it. If it is refused in a call,
-        the call reports it, and the room fails every later call."""
-        calls = [PAIR_ROW[at : at + 7] for at in range(0, len(PAIR_ROW), 7)]
-        refused = Refusals(ALONE, [PRIMARY, SECONDARY], calls)
-        outcomes = collections.Counter()
-        for at, lines, is_whole in self.stage.refused_in_turn(refused.steps()):
-            outcome = refused.outcome(lines, at)
-            outcomes[outcome if is_whole else "program"] += 1
-        print(f"   refused: {', '.join(f'{count} of a {what}' for what, count in sorted(outcomes.items(), key=str))}")
-        ensure(outcomes["room"] > 0 and outcomes["call"] > 0, f"refused: {outcomes}")
 
     def test_lines_that_are_no_steps(self):
         room = self.room("lines", ALONE, [PRIMARY])
@@ -533,7 +366,7 @@ class Tests:
 
 def main():
     with tempfile.TemporaryDirectory() as folder:
-        return run_tests(Tests(*map(os.path.abspath, sys.argv[1:3]), folder), sys.argv[3:])
+        return run_tests(Tests(os.path.abspath(sys.argv[1]), folder), sys.argv[2:])
 
 
 if __name__ == "__main__":

@@ -438,22 +438,6 @@ def shown(number, told):
         rest = (m, kind, watch.line.target.decode()) if watch else (m, kind)
     elif verb == "phase":
         rest = rest[:2]
-    return line_shown(number, verb, rest)
-
-
-def rehearsed(number, told):
-    """Returns what `rehearse` prints for a step with this number."""
-    verb, *rest = told
-    if verb == "notice":
-        m, kind, watch = rest
-        rest = (m, kind, watch.number) if watch else (m, kind)
-    elif verb == "phase":
-        m, phase, flag = rest
-        rest = (m, f"{phase} {{ flag: {str(flag).lower()} }}" if phase == HALTED else phase)
-    return line_shown(number, verb, rest)
-
-
-def line_shown(number, verb, rest):
     if not rest:
         return f"{number}: {verb}\n".encode()
     m, *more = rest

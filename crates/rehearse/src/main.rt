@@ -1,5 +1,5 @@
-//! Plays a script on a server, dummy drivers, monitors, links and rooms, and prints the answer to each step. It is a
-//! tool of the tests.
+//! Plays a script on a server, dummy drivers, monitors and links, and prints the answer to each step. It is a tool of the
+//! tests.
 //!
 //! `rehearse` reads steps from standard input, a line each, and writes a line for each. It keeps no record, so a script
 //! of any length takes the same memory.
@@ -13,8 +13,8 @@
 //! carry N              server and driver of the first UPS take what waits for them, N bytes at a time, until none waits
 //! ```
 //!
-//! `server.rt` lists the other steps of a server. Steps that begin with `dummy`, `monitor`, `link`, `room` or `words` are in
-//! the file of that name. Those with `serve` are for the loop of a server (`serving.rt`), those with `watch` for the loop of a
+//! `server.rt` lists the other steps of a server. Steps that begin with `dummy`, `monitor`, `link` or `words` are in the file
+//! of that name. Those with `serve` are for the loop of a server (`serving.rt`), those with `watch` for the loop of a
 //! monitor (`watching.rt`).
 //!
 //! In texts `%XX` is the byte with these two hexadecimal digits; control characters, `%` and bytes past ASCII are
@@ -38,7 +38,6 @@ mod failure;
 mod link;
 mod monitor;
 mod playing;
-mod room;
 mod server;
 mod serving;
 mod stage;

@@ -1,11 +1,10 @@
 //! What a script has made so far.
 
 use crate::answer::Answer;
-use crate::room::Rooms;
 use crate::server::Texts;
 use crate::serving::Arrivals;
 use crate::text::{Text, decode};
-use crate::{carrying, dummy, link, monitor, room, server, serving, watching, words};
+use crate::{carrying, dummy, link, monitor, server, serving, watching, words};
 use nut_dummy::Dummy;
 use nut_link::Link;
 use nut_monitor::Monitor;
@@ -28,7 +27,6 @@ pub struct Stage {
     pub dummy: Option<Dummy>,
     pub monitor: Option<Monitor>,
     pub link: Link,
-    pub rooms: Rooms,
     pub cutter: LineCutter,
     /// The arrivals for the next server that serves.
     pub arrivals: Arrivals,
@@ -48,7 +46,6 @@ impl Stage {
             dummy: None,
             monitor: None,
             link: Link::new(alloc),
-            rooms: Rooms::new(alloc),
             cutter: LineCutter::new(),
             arrivals: Arrivals::new(alloc),
             events: Vec::new(alloc),
@@ -97,7 +94,6 @@ impl Stage {
             "dummy" => dummy::play(self, step),
             "monitor" => monitor::play(self, step),
             "link" => link::play(self, step),
-            "room" => room::play(self, step),
             "words" => words::play(self, step),
             "serve" => serving::play(rt, self, step),
             "watch" => watching::play(rt, self, step),
