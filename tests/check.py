@@ -1,8 +1,8 @@
 #!/usr/bin/env python3
 """Runs all tests: the layout of the crates' files, the toolchain's gate (every proof, an edit of some crates that must fail, the
 tests and the stored runs), then all wrong bodies, and beside them the tests in Python, most of which run the programs that the
-gate has built. It shows how much processor time each crate took, beside the times that were kept, and at the end repeats the
-lines that reported a failure or a test that was skipped.
+gate has built; some run a program that is built without proof, beside the proofs. It shows how much processor time each crate
+took, beside the times that were kept, and at the end repeats the lines that reported a failure or a test that was skipped.
 
 usage: python3 -m tests.check [--anew] | --tried FOLDER
 
@@ -22,6 +22,9 @@ from concurrent import futures
 from tests.gate import times as gate_times
 from tests.support.harness import ROOT, children_time
 
+# The program of the tests that tests/rehearse/build.py builds, and where it does that for programs that the gate has built.
+REHEARSE, TRIED = "rehearse", "bin/tried"
+
 # The tests that run beside the rounds of wrong bodies, or on programs without proof, and the built programs that each is given.
 TESTS = (
     ("gate.believe", ()),
@@ -32,13 +35,13 @@ TESTS = (
     ("gate.builders", ()),
     ("programs.upsd_stdio", ("upsd",)),
     ("programs.files", ("upsd", "upsmon")),
-    ("rehearsals.server", ("rehearse",)),
-    ("rehearsals.serving", ("rehearse",)),
-    ("rehearsals.dummy", ("rehearse",)),
-    ("rehearsals.monitor", ("rehearse",)),
-    ("rehearsals.links", ("rehearse",)),
-    ("rehearsals.words", ("rehearse",)),
-    ("rehearsals.examples", ("rehearse",)),
+    ("rehearsals.server", (REHEARSE,)),
+    ("rehearsals.serving", (REHEARSE,)),
+    ("rehearsals.dummy", (REHEARSE,)),
+    ("rehearsals.monitor", (REHEARSE,)),
+    ("rehearsals.links", (REHEARSE,)),
+    ("rehearsals.words", (REHEARSE,)),
+    ("rehearsals.examples", (REHEARSE,)),
     ("gate.borrows", ()),
     ("gate.upsmon_page", ()),
     ("programs.tools", ("upsc", "upsrw", "upscmd")),
@@ -126,11 +129,16 @@ def test_command(name, *words):
     return [sys.executable, "-m", f"tests.{name}", *words]
 
 
+def path_of(program, folder):
+    """Returns the path of a program that is built in a folder, or in the repository if that is ''."""
+    if program == REHEARSE:
+        folder = folder or TRIED
+    return os.path.join(folder, "crates", program, "out", program)
+
+
 def commands_of_tests(folder=""):
     """Returns the command of each test in Python, with the programs that are built in the repository or in a folder."""
-    return [
-        test_command(test, *[os.path.join(folder, "crates", program, "out", program) for program in programs]) for test, programs in TESTS
-    ]
+    return [test_command(test, *[path_of(program, folder) for program in programs]) for test, programs in TESTS]
 
 
 def run_programs(count):
@@ -140,6 +148,7 @@ def run_programs(count):
 
 def run_tried(count, folder):
     """Runs the tests on programs that were built without proof, one more at a time than there are processors, since most wait."""
+    count.run_test("rehearse.build", folder)
 
     def run(command):
         began, said = time.monotonic(), tempfile.TemporaryFile("w+", errors="replace")
@@ -169,8 +178,9 @@ def run_all(count, words):
     if not takes_from_earlier_runs():
         words, count.is_whole = [], True
     if count.failed == 0:
-        # this test needs nothing that the toolchain's gate makes, which at first has work for one processor only
-        count.run_beside(lambda: count.run(["rt", "ci", *words]), test_command("gate.wrong_bodies_test"))
+        # these two need nothing that the toolchain's gate makes, which at first has work for one processor only
+        with_build = lambda: count.run_beside(lambda: count.run(["rt", "ci", *words]), test_command("rehearse.build", TRIED))
+        count.run_beside(with_build, test_command("gate.wrong_bodies_test"))
     if count.failed == 0:
         # these tests mostly wait, and the rounds use the processors meanwhile
         count.run_beside(lambda: run_programs(count), test_command("gate.wrong_bodies", "--after-gate", *words))

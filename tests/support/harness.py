@@ -61,8 +61,8 @@ class Missing(Exception):
 
 @functools.lru_cache(maxsize=None)
 def built_without_proof():
-    """Whether tools/tried has built the programs that this test was given. They hold AddressSanitizer, which has an allocator of
-    its own and takes most of the address space, and are some ten times slower than proved ones."""
+    """Whether tools/tried has built the programs that this test was given. They hold AddressSanitizer, which takes most of the
+    address space, and are some ten times slower than proved ones."""
     return any(map(holds_sanitizer, filter(os.path.isfile, sys.argv[1:])))
 
 
@@ -162,7 +162,6 @@ class Shimmed:
 
     def refusing_memory(self, file):
         """Returns the environment of a program for which no allocation succeeds while this file is there."""
-        needs_proved_build("refused allocations")
         return {**os.environ, "LD_PRELOAD": self.shim, "REFUSE": "memory", "REFUSE_ONCE": file}
 
 
@@ -205,8 +204,6 @@ def was_reached(count, at):
 
 def refusal(shim, kind, at):
     """Returns the environment of a run in which a call fails, given by its kind and its number from 1 on."""
-    if kind == "allocation":
-        needs_proved_build("refused allocations")
     return {"LD_PRELOAD": shim, "REFUSE": kind, "REFUSE_AT": str(at)}
 
 
