@@ -15,9 +15,8 @@ import sys
 import tempfile
 import time
 
-from tests.support.harness import ROOT, VERSION_SHOWN, Failed, Shimmed, cannot_read, ensure, expect, fewer, needs_proved_build, patience, refusals, refusing, run_tests
+from tests.support.harness import ROOT, VERSION_SHOWN, Failed, Shimmed, cannot_read, ensure, expect, fewer, has_read_all, needs_proved_build, patience, refusals, refusing, run_tests, status_of
 from tests.support.model import Config, User, quoted
-from tests.rehearsals.server import greatest_memory
 from tests.support.room_model import Room, Rules, Watched, line_of, shown
 from tests.support.room_schedules import UPSES, RoomMaker
 from tests.support.terminal import run_on_terminal
@@ -115,6 +114,13 @@ def played(config, rules, steps):
 def unreadable(file, path, why):
     """The result of a run that can't read this file."""
     return 1, b"", cannot_read("nutsim", file, path, why).encode()
+
+
+def greatest_memory(process):
+    """Returns the greatest memory, in KiB, of a process that has read all of its input, which is still open. It is the memory
+    that the process was given (VmPeak), which the system counts exactly; of the memory in use (VmHWM) each processor keeps
+    a count of its own, and together they may be wrong by hundreds of KiB."""
+    return int(status_of(process.pid)["VmPeak"].split()[0]) if has_read_all(process) else 0
 
 
 class Tests(Shimmed):

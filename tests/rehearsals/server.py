@@ -17,8 +17,9 @@ import sys
 import tempfile
 import time
 import urllib.parse
+from unittest import mock
 
-from tests.support.harness import Failed, ensure, expect, fewer, needs_proved_build, patience, refusals, run_tests, unread
+from tests.support.harness import Failed, ensure, expect, fewer, has_read_all, patience, refusals, run_tests
 from tests.support.model import OPENED_MAX, Config
 from tests.support.player import Player, conf_steps, escaped, line_of, places, reload_steps
 from tests.support.reload_rows import RELOADS
@@ -28,7 +29,7 @@ from tests.support.schedules import UPSES, USERS, ScheduleMaker, shifted, varian
 from tests.support.stage import Stage
 from tests.support.table_rows import NOTHING_NEW, TABLES
 
-# how much more memory a schedule may take if it is played ten times over: far less than a record of it
+# how much more memory may be in use if a schedule is played twice as often: less than a record of it takes
 GROWTH_MAX_KIB = 256
 # how many steps make a server
 HEAD = 4
@@ -95,17 +96,12 @@ def answered(name, config, steps, out):
     return told
 
 
-def greatest_memory(process):
-    """Returns the greatest memory, in KiB, of a process that has read all of its input, which is still open. It is the memory
-    that the process was given (VmPeak), which the system counts exactly; of the memory in use (VmHWM) each processor keeps
-    a count of its own, and together they may be wrong by hundreds of KiB."""
-    while process.poll() is None:
-        with open(f"/proc/{process.pid}/status") as file:
-            status = dict(line.split(":", 1) for line in file if ":" in line)
-        if unread(process.stdin) == 0 and status["State"].split()[0] == "S":
-            return int(status["VmPeak"].split()[0])
-        time.sleep(0.001)
-    return 0
+def memory_in_use(process):
+    """Returns the memory in use, in KiB, of a process that has read all of its input, which is still open."""
+    if not has_read_all(process):
+        return 0
+    with open(f"/proc/{process.pid}/smaps_rollup") as file:
+        return next(int(line.split()[1]) for line in file if line.startswith("Anonymous:"))
 
 
 class Tests:
@@ -119,8 +115,8 @@ class Tests:
         return self.stage.shim
 
     def run(self, path, env=None):
-        """Plays a schedule. Returns the status, what is printed, what is written about a failure, and the greatest memory in
-        KiB."""
+        """Plays a schedule. Returns the status, what is printed, what is written about a failure, and the memory in use at its
+        end, in KiB."""
         out_path, err_path = (os.path.join(self.folder, it) for it in ("out", "err"))
         with open(path, "rb") as schedule, open(out_path, "wb") as out, open(err_path, "wb") as err:
             streams = {"stdin": subprocess.PIPE, "stdout": out, "stderr": err}
@@ -130,7 +126,7 @@ class Tests:
             with contextlib.suppress(BrokenPipeError):
                 shutil.copyfileobj(schedule, process.stdin)
                 process.stdin.flush()
-                memory = greatest_memory(process)
+                memory = memory_in_use(process)
             with contextlib.suppress(BrokenPipeError):
                 process.stdin.close()
             status = process.wait(timeout=patience(60))
@@ -160,7 +156,7 @@ class Tests:
             expect(out, due[: len(out)], f"{name}, allocation {at}, up to the refusal")
 
     def rehearse(self, config, steps):
-        """Plays a schedule, and compares it with the model. Returns the schedule and the memory taken."""
+        """Plays a schedule, and compares it with the model. Returns the schedule and the memory in use at its end."""
         schedule = Schedule(os.path.join(self.folder, "schedule"), config, steps)
         status, out, err, memory = self.run(schedule.path)
         if (status, err) != (0, b""):
@@ -201,19 +197,20 @@ class Tests:
         expect([server.open(b"a"), server.opened, server.open(b"b"), server.opened], [None, OPENED_MAX, "Full", OPENED_MAX], "the last two numbers")
 
     def test_memory_does_not_grow(self):
-        needs_proved_build("how much memory is taken")
         config = Config(UPSES, USERS)
         maker = ScheduleMaker(9, config, others=variants(9, config))
-        steps = [*maker.steps(10_000), *(("close", c) for c in maker.server.connections)]
+        steps = [*maker.steps(1_000), *(("close", c) for c in maker.server.connections)]
         # behind a configuration without UPSes, each turn begins alike
         steps += [*reload_steps(Config([], {})), *reload_steps(config)]
         opened, now = maker.server.opened, maker.server.now
-        _, once = self.rehearse(config, steps)
-        again = (shifted(step, turn * opened, turn * now) for turn in range(10) for step in steps)
-        _, ten_times = self.rehearse(config, again)
-        print(f"   {once} KiB for {len(steps)} arrivals, {ten_times} KiB for ten times as many")
-        if not 0 < ten_times <= once + GROWTH_MAX_KIB:
-            raise Failed(f"{once} KiB for {len(steps)} arrivals, {ten_times} KiB for ten times as many")
+        memory = []
+        for count in (10, 20):
+            again = (shifted(step, turn * opened, turn * now) for turn in range(count) for step in steps)
+            # freed memory is used again at once
+            with mock.patch.dict(os.environ, ASAN_OPTIONS="quarantine_size_mb=0:thread_local_quarantine_size_kb=0"):
+                memory.append(self.rehearse(config, again)[1])
+        print(f"   {memory[0]} KiB for {10 * len(steps)} arrivals, {memory[1]} KiB for twice as many")
+        ensure(0 < memory[1] <= memory[0] + GROWTH_MAX_KIB, f"{memory} KiB")
 
     def test_other_configurations(self):
         for seed, upses, max_age, max_conn in (

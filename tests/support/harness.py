@@ -15,6 +15,7 @@ import subprocess
 import sys
 import termios
 import threading
+import time
 import traceback
 from concurrent import futures
 
@@ -45,6 +46,22 @@ def unread(pipe):
     count = array.array("i", [0])
     fcntl.ioctl(pipe, termios.FIONREAD, count)
     return count[0]
+
+
+def status_of(pid):
+    """Returns what the system says about a process, by its names."""
+    with open(f"/proc/{pid}/status") as file:
+        return dict(line.split(":", 1) for line in file if ":" in line)
+
+
+def has_read_all(process):
+    """Waits until a process has read all of its input, which is still open. Returns False if it ended."""
+    while process.poll() is None:
+        status = status_of(process.pid)
+        if unread(process.stdin) == 0 and status["State"].split()[0] == "S":
+            return True
+        time.sleep(0.001)
+    return False
 
 
 # the last line of what a program of NUT's name writes if it doesn't know a word of its command line
