@@ -1,73 +1,81 @@
 #!/usr/bin/env python3
-"""Lets servers serve on the program `rehearse`, over worlds that are slow, late or broken, and compares what those took and
-closed with worked scenes.
+"""Lets servers serve arrivals in memory on the program `rehearse`, and compares what was taken and closed with worked scenes.
 
     python3 -m tests.rehearsals.serving REHEARSE
 
-The last line is 'N passed, M failed'."""
+That the loop does so in every world, also one that is slow, late or broken, is proved of `serve`. The last line is
+'N passed, M failed'."""
 
 import os
 import sys
 import tempfile
 
 from tests.support.harness import expect, run_tests
-from tests.support.player import broken, joined
-from tests.support.serving_rows import RELOADS, SCENES, TROUBLES
 from tests.support.stage import Stage
 
-# two clients and a driver
-PAIR = SCENES[0]
+UPSES = '[su700]\ndesc = "Server room"\n'
+USERS = "[admin]\npassword = pw\nactions = SET\ninstcmds = all\n[mon]\npassword = m1\nupsmon primary\n"
+
+
+class Scene:
+    """A scene of a new server: a line for each thing that its world does, as `rehearse` prints it but with `\\n` for a line
+    feed. A line that begins with '>' is an arrival that is given. One with '-' is an arrival that is queued there and can't come
+    yet, or never; one with '+' is given there and was queued before."""
+
+    def __init__(self, title, text):
+        self.title = title
+        lines = [line.replace("\\n", "%0A") for line in text.strip().splitlines()]
+        files = [("ups", UPSES.encode()), ("users", USERS.encode()), ("upsd", b"MAXCONN 2")]
+        self.steps = [*files, *((f"serve {line[2:]}",) for line in lines if line[0] in ">-"), ("serve run",)]
+        self.wanted = [">" + line[1:] if line[0] == "+" else line for line in lines if line[0] != "-"]
+
+
+SCENES = [
+    Scene(
+        "Two clients, and a driver that says nothing",
+        r"""
+> open a
+> open b
+> up 0
+driver 0 takes DUMPALL\n
+> bytes 1 VER\nFOO\n
+connection 1 takes Network UPS Tools upsd profile 1.3\nERR UNKNOWN-COMMAND\n
+> bytes 2 VER\nLOGOUT\nVER\n
+connection 2 takes Network UPS Tools upsd profile 1.3\nOK Goodbye\n
+connection 2 is closed
+= 0 0
+""",
+    ),
+    Scene(
+        "Bytes wait until their connection is open",
+        r"""
+- bytes 2 LIST UPS\nLO
+> open a
+> bytes 1 VER\n
+connection 1 takes Network UPS Tools upsd profile 1.3\n
+> open b
++ bytes 2 LIST UPS\nLO
+connection 2 takes BEGIN LIST UPS\nUPS su700 "Server room"\nEND LIST UPS\n
+> open no room
+> bytes 2 GOUT\n
+connection 2 takes OK Goodbye\n
+connection 2 is closed
+> close 1
+- bytes 1 VER\n
+= 0 0
+""",
+    ),
+]
 
 
 class Tests:
     def __init__(self, program, folder):
         self.stage = Stage(program, folder)
 
-    def found(self, scene, *run):
-        return scene.printed(self.stage.play(scene.steps(*run)))
-
-    def failing(self, scene, client, driver, call=0):
-        return self.found(scene, "serve failing", client, driver, call)
-
-    def broken(self, device, behind):
-        """Returns what has to happen in the scene of two clients if each write to a device fails behind this many bytes."""
-        return broken(PAIR.wanted, f"{device} takes ", behind, [f"{device} breaks", f"{device} is closed"])
-
-    # From here on, each method whose name begins with 'test_' is a test.
-
-    def test_all_is_taken_at_once(self):
+    def test_scenes(self):
         for scene in SCENES:
-            expect(self.found(scene, "serve run"), scene.wanted, scene.title)
-
-    def test_all_is_taken_by_slow_devices(self):
-        """What is taken and closed doesn't depend on how many bytes a device takes at a time."""
-        for scene in SCENES + RELOADS:
-            for trouble in ("sound", "slow", "reluctant"):
-                expect(joined(self.failing(scene, trouble, trouble)), scene.wanted, f"{scene.title}, {trouble}")
-
-    def test_troubles(self):
-        for client, driver, scene in TROUBLES:
-            expect(joined(self.failing(scene, client, driver)), scene.wanted, scene.title)
-
-    def test_each_write_fails(self):
-        for behind in range(60):
-            expect(joined(self.failing(PAIR, behind, "sound")), self.broken("connection 1", behind), f"behind {behind} bytes")
-
-    def test_each_write_to_a_driver_fails(self):
-        for behind in range(12):
-            expect(joined(self.failing(PAIR, "slow", behind)), self.broken("driver 0", behind), f"behind {behind} bytes")
-
-    def test_each_call_is_a_fault(self):
-        """The loop ends behind the calls before, and what wasn't taken waits."""
-        whole = self.failing(PAIR, "slow", "slow")
-        # the last line stands for the call that gives the end: five arrivals, 8 and 55 bytes, one write, and one close
-        expect(len(whole), 5 + 8 + 55 + 1 + 1 + 1, "calls")
-        for call in range(1, len(whole) + 1):
-            done = whole[: call - 1]
-            client = 55 * any(line.startswith("> bytes 1 ") for line in done) - sum(line.startswith("connection 1 takes ") for line in done)
-            driver = 8 * ("> up 0" in done) - sum(line.startswith("driver 0 takes ") for line in done)
-            expect(self.failing(PAIR, "slow", "slow", call), [*done, f"fault {client} {driver}"], f"call {call}")
-        expect(self.failing(PAIR, "slow", "slow", len(whole) + 1), whole, "no call")
+            found = self.stage.play(scene.steps)
+            expect([line.decode() for line in found[len(scene.steps) - 1 :]], scene.wanted, scene.title)
 
 
 def main():

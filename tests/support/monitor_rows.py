@@ -592,21 +592,21 @@ SCENES = [
         """\
 > moment 0
 > linked 0
-link 0 is asked USERNAME mon
+link 0 takes USERNAME mon
 > bytes 0 OK
-link 0 is asked PASSWORD m1
+link 0 takes PASSWORD m1
 > bytes 0 OK
-link 0 is asked LOGIN su700
+link 0 takes LOGIN su700
 > bytes 0 OK
-link 0 is asked PRIMARY su700
+link 0 takes PRIMARY su700
 > bytes 0 OK
-link 0 is asked GET VAR su700 ups.status
+link 0 takes GET VAR su700 ups.status
 > bytes 0 VAR su700 ups.status "OB LB"
-link 0 is asked FSD su700
+link 0 takes FSD su700
 told Onbatt 0 UPS su700@localhost on battery
 told Lowbatt 0 UPS su700@localhost battery is low
 > bytes 0 OK FSD-SET
-link 0 is asked GET NUMLOGINS su700
+link 0 takes GET NUMLOGINS su700
 > bytes 0 NUMLOGINS su700 1
 told Shutdown - Auto logout and shutdown proceeding
 > moment 4
@@ -617,227 +617,40 @@ told Shutdown - Auto logout and shutdown proceeding
 """,
     ),
     Scene(
-        "A secondary waits",
-        SECONDARY,
-        """\
-> moment 0
-> linked 0
-link 0 is asked USERNAME mon
-> bytes 0 OK
-link 0 is asked PASSWORD m1
-> bytes 0 OK
-link 0 is asked LOGIN su700
-> bytes 0 OK
-link 0 is asked GET VAR su700 ups.status
-> bytes 0 VAR su700 ups.status "OL"
-> moment 5
-link 0 is asked GET VAR su700 ups.status
-> bytes 0 VAR su700 ups.status "OB LB"
-told Onbatt 0 UPS su700@localhost on battery
-told Lowbatt 0 UPS su700@localhost battery is low
-> moment 10
-link 0 is asked GET VAR su700 ups.status
-> bytes 0 VAR su700 ups.status "OB LB"
-> moment 15
-link 0 is asked GET VAR su700 ups.status
-> bytes 0 VAR su700 ups.status "OB LB"
-> moment 16
-told Shutdown - Auto logout and shutdown proceeding
-> moment 20
-> moment 21
-= Halted { flag: false }
-- moment 22
-- lost 0
-""",
-    ),
-    Scene(
-        "Communication comes and goes",
-        SECONDARY,
-        """\
-> linked 0
-link 0 is asked USERNAME mon
-> bytes 0 OK
-link 0 is asked PASSWORD m1
-> bytes 0 OK
-link 0 is asked LOGIN su700
-> bytes 0 OK
-link 0 is asked GET VAR su700 ups.status
-> bytes 0 VAR su700 ups.status "OL"
-> moment 5
-link 0 is asked GET VAR su700 ups.status
-> bytes 0 ERR DATA-STALE
-told Commbad 0 Communications with UPS su700@localhost lost
-> moment 10
-link 0 is asked GET VAR su700 ups.status
-> bytes 0 VAR su700 ups.status "OL"
-told Commok 0 Communications with UPS su700@localhost established
-> lost 0
-told Commbad 0 Communications with UPS su700@localhost lost
-> moment 11
-> linked 0
-link 0 is asked USERNAME mon
-> bytes 0 OK
-link 0 is asked PASSWORD m1
-> bytes 0 OK
-link 0 is asked LOGIN su700
-> bytes 0 OK
-link 0 is asked GET VAR su700 ups.status
-> bytes 0 VAR su700 ups.status "OL"
-told Commok 0 Communications with UPS su700@localhost established
-> moment 16
-link 0 is asked GET VAR su700 ups.status
-> bytes 0 VAR su700 ups.status "OB LB"
-told Onbatt 0 UPS su700@localhost on battery
-told Lowbatt 0 UPS su700@localhost battery is low
-= Watching
-""",
-    ),
-    Scene(
-        "A link is never made",
-        SECONDARY,
-        """\
-> moment 300
-> moment 301
-told Nocomm 0 UPS su700@localhost is unavailable
-> moment 601
-> moment 602
-told Nocomm 0 UPS su700@localhost is unavailable
-= Watching
-""",
-    ),
-    Scene(
         "Two UPSes",
         TWO,
         """\
 > linked 0
-link 0 is asked USERNAME mon
+link 0 takes USERNAME mon
 > linked 1
-link 1 is asked USERNAME mon
+link 1 takes USERNAME mon
 > bytes 0 OK
-link 0 is asked PASSWORD m1
+link 0 takes PASSWORD m1
 > bytes 1 OK
-link 1 is asked PASSWORD m1
+link 1 takes PASSWORD m1
 > bytes 0 OK
-link 0 is asked LOGIN a
+link 0 takes LOGIN a
 > bytes 1 OK
-link 1 is asked LOGIN b
+link 1 takes LOGIN b
 > bytes 0 OK
-link 0 is asked GET VAR a ups.status
+link 0 takes GET VAR a ups.status
 > bytes 1 OK
-link 1 is asked PRIMARY b
+link 1 takes PRIMARY b
 > bytes 0 VAR a ups.status "OB"
 told Onbatt 0 UPS a@localhost on battery
 > bytes 1 OK
-link 1 is asked GET VAR b ups.status
+link 1 takes GET VAR b ups.status
 > bytes 1 VAR b ups.status "OL RB"
 told Replbatt 1 UPS b@localhost battery needs to be replaced
 > bytes 1 VAR b ups.status "OL"
 link 1 is closed
 told Commbad 1 Communications with UPS b@localhost lost
 > moment 5
-link 0 is asked GET VAR a ups.status
+link 0 takes GET VAR a ups.status
 > bytes 0 VAR a ups.status "OB LB FSD"
 told Lowbatt 0 UPS a@localhost battery is low
 told Fsd 0 UPS a@localhost: forced shutdown in progress
 = Watching
 """,
     ),
-    Scene(
-        "A calibration",
-        PRIMARY,
-        """\
-> moment 0
-> linked 0
-link 0 is asked USERNAME mon
-> bytes 0 OK
-link 0 is asked PASSWORD m1
-> bytes 0 OK
-link 0 is asked LOGIN su700
-> bytes 0 OK
-link 0 is asked PRIMARY su700
-> bytes 0 OK
-link 0 is asked GET VAR su700 ups.status
-> bytes 0 VAR su700 ups.status "OB LB CAL"
-told Onbatt 0 UPS su700@localhost on battery
-told Lowbatt 0 UPS su700@localhost battery is low
-> moment 4
-> moment 5
-link 0 is asked GET VAR su700 ups.status
-= Watching
-""",
-    ),
-    Scene(
-        "A line that answers no query, and links that are lost",
-        SECONDARY,
-        """\
-> moment 0
-> linked 0
-link 0 is asked USERNAME mon
-> bytes 0 NOT AN ANSWER
-link 0 is closed
-told Commbad 0 Communications with UPS su700@localhost lost
-> bytes 0 OK
-> linked 0
-link 0 is asked USERNAME mon
-> lost 0
-> lost 0
-= Watching
-""",
-    ),
 ]
-
-# the first UPS is on line, and the second on battery
-SECONDARIES = b"MONITOR a@localhost 1 mon m1 secondary\nMONITOR b@localhost 1 mon m1 secondary\n"
-ON_BATTERY = Scene(
-    "All is taken of both links",
-    SECONDARIES,
-    """\
-> moment 0
-> linked 0
-link 0 is asked USERNAME mon
-> linked 1
-link 1 is asked USERNAME mon
-> bytes 0 OK
-link 0 is asked PASSWORD m1
-> bytes 1 OK
-link 1 is asked PASSWORD m1
-> bytes 0 OK
-link 0 is asked LOGIN a
-> bytes 1 OK
-link 1 is asked LOGIN b
-> bytes 0 OK
-link 0 is asked GET VAR a ups.status
-> bytes 1 OK
-link 1 is asked GET VAR b ups.status
-> bytes 0 VAR a ups.status "OL"
-> bytes 1 VAR b ups.status "OB"
-told Onbatt 1 UPS b@localhost on battery
-= Watching
-""",
-)
-# an answer to bytes that were never taken loses the link
-NEVER_TAKEN = Scene(
-    "The server of the first link takes nothing",
-    SECONDARIES,
-    """\
-> moment 0
-> linked 0
-> linked 1
-link 1 is asked USERNAME mon
-> bytes 0 OK
-link 0 is closed
-told Commbad 0 Communications with UPS a@localhost lost
-> bytes 1 OK
-link 1 is asked PASSWORD m1
-> bytes 0 OK
-> bytes 1 OK
-link 1 is asked LOGIN b
-> bytes 0 OK
-> bytes 1 OK
-link 1 is asked GET VAR b ups.status
-> bytes 0 VAR a ups.status "OL"
-> bytes 1 VAR b ups.status "OB"
-told Onbatt 1 UPS b@localhost on battery
-= Watching
-""",
-)

@@ -6,9 +6,6 @@ import re
 from tests.support import model
 from tests.support.harness import built_without_proof
 
-# what a line of a loop begins with that tells of bytes that a device took
-WRITE = re.compile(r"(connection|driver) [0-9]+ takes |link [0-9]+ is asked ")
-
 
 def escaped(data):
     return re.sub(rb"[\x00-\x1f%\x7f-\xff]", lambda byte: b"%%%02X" % byte[0][0], data)
@@ -19,36 +16,6 @@ def line_of(step):
     verb, *words = step
     parts = (escaped(it) if isinstance(it, bytes) else str(it).encode() for it in words if not isinstance(it, model.Config))
     return b" ".join([verb.encode(), *parts]) + b"\n"
-
-
-def joined(lines):
-    """Returns what a world did that may have put writes off: without those, and with each write joined to the one before it if
-    the same device took both."""
-    found = []
-    for line in lines:
-        write = WRITE.match(line)
-        if line == "again" or line.endswith(" is late"):
-            continue
-        if write and found and found[-1].startswith(write[0]):
-            found[-1] += line.removeprefix(write[0])
-        else:
-            found.append(line)
-    return found
-
-
-def broken(lines, front, behind, loss):
-    """Returns what has to happen in place of this if a device, whose writes begin so, breaks behind this many bytes: it takes no
-    more, and the loss comes."""
-    found, left = [], behind
-    for line in lines:
-        if not line.startswith(front):
-            found.append(line)
-        elif left is not None:
-            text = line.removeprefix(front).replace("%0A", "\n")
-            found += [front + text[:left].replace("\n", "%0A")] * (left > 0)
-            found += loss * (len(text) > left)
-            left = left - len(text) if len(text) <= left else None
-    return found
 
 
 def places(piece):
