@@ -74,49 +74,41 @@ SHORTER_FORMS = [(b"instcmd Su700 load.Off", b"INSTCMD Su700 load.Off"), (b"get 
 
 # lines of no form, and the refusal of each
 NO_FORMS = [
-    (b"LIST LOG", "INVALID-ARGUMENT"),
-    (b"GET ENUM u v", "INVALID-ARGUMENT"),
-    (b"LIST DESC u v", "INVALID-ARGUMENT"),
-    (b"SET RW u v x", "INVALID-ARGUMENT"),
-    (b"SET", "INVALID-ARGUMENT"),
-    (b"SET TRACKING YES", "INVALID-ARGUMENT"),
-    (b"GET TRACKING 0", "INVALID-ARGUMENT"),
-    (b"GET TRACKING 01", "INVALID-ARGUMENT"),
-    (b"GET TRACKING 1234567890", "INVALID-ARGUMENT"),
-    (b"GET TRACKING x", "INVALID-ARGUMENT"),
-    (b"FOO", "UNKNOWN-COMMAND"),
-    (b'"" GET', "UNKNOWN-COMMAND"),
-    (b"NUMLOGINS u", "UNKNOWN-COMMAND"),
-    (b"GETS u", "UNKNOWN-COMMAND"),
-    (b"MASTER u", "UNKNOWN-COMMAND"),
+    *((line, "INVALID-ARGUMENT") for line in (b"LIST LOG", b"GET ENUM u v", b"LIST DESC u v", b"SET RW u v x", b"SET")),
+    *((line, "INVALID-ARGUMENT") for line in (b"SET TRACKING YES", b"GET TRACKING 0", b"GET TRACKING 01")),
+    *((line, "INVALID-ARGUMENT") for line in (b"GET TRACKING 1234567890", b"GET TRACKING x")),
+    *((line, "UNKNOWN-COMMAND") for line in (b"FOO", b'"" GET', b"NUMLOGINS u", b"GETS u", b"MASTER u")),
 ]
+
+
+def failing(fault, query, *answers):
+    """Returns a row for each of these answers to a query, all of which fail the link."""
+    return [(query, answer, "none", fault) for answer in answers]
+
 
 # worked rows of a link: a query as it is typed, the lines that its server sends, the answer that is taken out then, and the
 # fault, if a line fails the link; words of an answer are followed by `|`, and rows of a list by `;`
 LINK_ROWS = [
     *(it.link_row() for it in QUERIES),
     (b"get var su700 ups.mfr", b'VAR su700 ups.mfr "a \\"b\\" \\\\c"\r\n', 'said a "b" \\c|', None),
-    (b"GET VAR su700 ups.status", b'VAR su700 ups.status "OL" x\n', "none", "NotMine"),
-    (b"GET VAR su700 ups.status", b"VAR su700 ups.status\n", "none", "NotMine"),
-    (b"GET VAR su700 ups.status", b'VAR su700 ups.Status "OL"\n', "none", "NotMine"),
-    (b"GET VAR su700 ups.status", b'var su700 ups.status "OL"\n', "none", "NotMine"),
-    (b"GET VAR su700 ups.status", b"OK\n", "none", "NotMine"),
+    *failing(
+        "NotMine", b"GET VAR su700 ups.status",
+        b'VAR su700 ups.status "OL" x\n', b"VAR su700 ups.status\n", b'VAR su700 ups.Status "OL"\n',
+        b'var su700 ups.status "OL"\n', b"OK\n",
+    ),
     (b"GET VAR su700 ups.status", b"ERR DATA-STALE x\n", "refused DATA-STALE", None),
-    (b"GET VAR su700 ups.status", b"ERR\n", "none", "NotMine"),
-    (b"GET VAR su700 ups.status", b"\n", "none", "BadLine"),
-    (b"GET VAR su700 ups.status", b'VAR su700 "ups.status\n', "none", "BadLine"),
-    (b"GET NUMLOGINS su700", b"NUMLOGINS su700 1234567890\n", "none", "NotMine"),
-    (b"GET NUMLOGINS su700", b"NUMLOGINS su700 -1\n", "none", "NotMine"),
-    (b"GET TYPE su700 ups.id", b"TYPE su700 ups.id\n", "none", "NotMine"),
+    *failing("NotMine", b"GET VAR su700 ups.status", b"ERR\n"),
+    *failing("BadLine", b"GET VAR su700 ups.status", b"\n", b'VAR su700 "ups.status\n'),
+    *failing("NotMine", b"GET NUMLOGINS su700", b"NUMLOGINS su700 1234567890\n", b"NUMLOGINS su700 -1\n"),
+    *failing("NotMine", b"GET TYPE su700 ups.id", b"TYPE su700 ups.id\n"),
     (b"LIST VAR u", b'BEGIN LIST VAR u\nVAR u a "1"\nVAR u b "2"\nEND LIST VAR u\n', "list a|1|;b|2|;", None),
     (b"LIST VAR u", b"BEGIN LIST VAR u\nEND LIST VAR u\n", "list ", None),
     (b"LIST VAR u", b'BEGIN LIST VAR u\nVAR u a "1"\n', "none", None),
-    (b"LIST VAR u", b'BEGIN LIST VAR u\nVAR v a "1"\n', "none", "NotMine"),
-    (b"LIST VAR u", b"BEGIN LIST VAR u\nVAR u a\n", "none", "NotMine"),
-    (b"LIST VAR u", b"BEGIN LIST VAR u\nERR DATA-STALE\n", "none", "NotMine"),
-    (b"LIST VAR u", b"BEGIN LIST VAR u\nEND LIST VAR v\n", "none", "NotMine"),
-    (b"LIST VAR u", b"BEGIN LIST RW u\n", "none", "NotMine"),
-    (b"LIST VAR u", b'VAR u a "1"\n', "none", "NotMine"),
+    *failing(
+        "NotMine", b"LIST VAR u",
+        b'BEGIN LIST VAR u\nVAR v a "1"\n', b"BEGIN LIST VAR u\nVAR u a\n", b"BEGIN LIST VAR u\nERR DATA-STALE\n",
+        b"BEGIN LIST VAR u\nEND LIST VAR v\n", b"BEGIN LIST RW u\n", b'VAR u a "1"\n',
+    ),
     (b"LIST VAR u", b"ERR UNKNOWN-UPS\n", "refused UNKNOWN-UPS", None),
     (b"LOGIN su700", b"OK\n", "done", None),
     (b"FSD su700", b"OK FSD-SET\n", "done", None),
@@ -138,10 +130,8 @@ LINK_ROWS = [
     (b"VER", b"BEGIN VAR\n", "said BEGIN|VAR|", None),
     (b"VER", b"END\n", "said END|", None),
     (b"VER", b"end LIST UPS\n", "said end|LIST|UPS|", None),
-    (b"VER", b"BEGIN LIST\n", "none", "NotMine"),
-    (b"VER", b"END LIST CMD u\n", "none", "NotMine"),
-    (b"VER", b" \t# OK\n", "none", "BadLine"),
-    (b"VER", b"\xff\n", "none", "BadLine"),
+    *failing("NotMine", b"VER", b"BEGIN LIST\n", b"END LIST CMD u\n"),
+    *failing("BadLine", b"VER", b" \t# OK\n", b"\xff\n"),
     (b"STARTTLS", b"ERR FEATURE-NOT-CONFIGURED\n", "refused FEATURE-NOT-CONFIGURED", None),
     (b"STARTTLS", b"OK\n", "none", "NotMine"),
     (b"LOGIN su700", b"OK\nOK\n", "done", "OutOfOrder"),
