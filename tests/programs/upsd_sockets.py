@@ -5,22 +5,21 @@
 
 The last line is 'N passed, M failed'."""
 
+import contextlib
 import errno
 import os
 import resource
 import signal
 import socket
-import subprocess
 import sys
-import tempfile
 import time
 from concurrent import futures
 
-from tests.support.harness import NUTS_OPTIONS, Failed, Missing, apart, built_without_proof, cannot_listen, cannot_read, ensure, expect
-from tests.support.harness import patience, processor_time, run_tests
-from tests.support.room import Client, DEVICE, Lines, NOT_CONNECTED, ONLINE, Room, NO_PINGS, SOON, STATUS, VERSION
-from tests.support.room import accepted, connected, family_of, first_lines, free_port, give_address, has_ipv6, heed_modes, raise_loopback
-from tests.support.room import said, stopped, until
+from tests.support.harness import NUTS_OPTIONS, Failed, Missing, apart, built_without_proof, cannot_listen, cannot_read, ended, ensure, expect
+from tests.support.harness import expect_rest, play
+from tests.support.room import Client, DEVICE, Lines, NOT_CONNECTED, ONLINE, NO_PINGS, RoomTests, SOON, STATUS, VERSION
+from tests.support.room import accepted, connected, family_of, first_lines, free_port, give_address, has_ipv6, heed_modes, play_driver
+from tests.support.room import raise_loopback, said, stopped, until
 
 # the setting of a network that keeps IPv4 out of a socket of IPv6
 ONLY_IPV6 = "/proc/sys/net/ipv6/bindv6only"
@@ -30,6 +29,33 @@ AS_ROOT = "upsd: running as root, which only a port below 1024 needs"
 # why dummy-ups can't listen where a file is of value, or where another one listens
 NOT_A_SOCKET = "the file exists and is not a socket"
 IN_USE = "another driver listens there"
+# what a driver tells of a UPS that is on line
+ON_LINE = b'SETINFO ups.status "OL"'
+
+# LISTEN lines, where upsd listens then, and where clients are served: hosts, at another port than the room's if OTHER stands behind
+LISTENERS_OF_IPV4 = (
+    (["0.0.0.0"], ["0.0.0.0"], ["127.0.0.1", "127.0.0.2"]),
+    (["127.0.0.1", "127.0.0.2 OTHER"], ["127.0.0.1", "127.0.0.2 OTHER"], ["127.0.0.1", "127.0.0.2 OTHER"]),
+    # the same host at two ports
+    (["127.0.0.1 OTHER", "0.0.0.0"], ["0.0.0.0", "127.0.0.1 OTHER"], ["127.0.0.1 OTHER", "127.0.0.1"]),
+    # lines that add nothing: the same line twice, and one address beside every address, in either order
+    (["127.0.0.1", "127.0.0.1"], ["127.0.0.1"], ["127.0.0.1"]),
+    (["0.0.0.0", "0.0.0.0"], ["0.0.0.0"], ["127.0.0.1", "127.0.0.2"]),
+    (["0.0.0.0", "127.0.0.1"], ["0.0.0.0"], ["127.0.0.1", "127.0.0.2"]),
+    (["127.0.0.1", "0.0.0.0"], ["0.0.0.0"], ["127.0.0.1", "127.0.0.2"]),
+    (["127.0.0.2", "127.0.0.1", "0.0.0.0", "127.0.0.2"], ["0.0.0.0"], ["127.0.0.1", "127.0.0.2"]),
+)
+# a listener at every address of IPv6 also serves those of IPv4, so lines for these beside it change nothing
+LISTENERS_OF_IPV6 = (
+    (["127.0.0.1", "::1"], ["127.0.0.1", "::1"], ["127.0.0.1", "::1"]),
+    (["::1", "0.0.0.0"], ["0.0.0.0", "::1"], ["127.0.0.1", "::1"]),
+    (["::1", "::1"], ["::1"], ["::1"]),
+    (["::", "::"], ["::"], ["127.0.0.1", "::1"]),
+    (["0.0.0.0", "::"], ["::"], ["127.0.0.1", "::1"]),
+    (["::", "0.0.0.0"], ["::"], ["127.0.0.1", "::1"]),
+    (["127.0.0.1", "::"], ["::"], ["127.0.0.1", "::1"]),
+    (["127.0.0.1", "0.0.0.0", "::1", "0:0:0:0:0:0:0:0"], ["::"], ["127.0.0.1", "::1"]),
+)
 
 
 def with_hosts(path):
@@ -57,41 +83,35 @@ def without_listener(host, port, reason):
     return 1, b"", cannot_listen("upsd", f"{host}:{port}", reason).encode()
 
 
-def logged_in(room):
-    """Returns a new client that is logged in."""
-    client = room.client()
-    client.log_in(b"mon", b"m1")
-    expect(client.ask(b"LOGIN su700\n"), b"OK\n", "LOGIN")
-    return client
+def shown(host):
+    """Returns an address as it stands before a port."""
+    return f"[{host}]" if ":" in host else host
 
 
-def put_listeners(room, hosts):
+def needs_ipv6():
+    if not has_ipv6():
+        raise Missing("this machine has no IPv6")
+
+
+def put_listeners(room, *hosts):
     """Has a room's upsd listen at these hosts alone, at the room's port."""
-    with open(room.path("upsd.conf"), "w") as file:
-        file.writelines(f"LISTEN {host} {room.port}\n" for host in hosts)
+    room.write("upsd.conf", b"".join(b"LISTEN %b %d\n" % (host.encode(), room.port) for host in hosts))
 
 
-class Tests:
-    def __init__(self, upsd, dummy, upsrw, upscmd, folder):
-        self.all_programs = (upsd, dummy, upsrw, upscmd)
-        self.programs = (upsd, dummy)
-        self.upsrw, self.upscmd = upsrw, upscmd
-        self.folder = folder
+def expect_served(*places):
+    """Expects that a client is answered at each of these addresses."""
+    for place in places:
+        with until(lambda place=place: connected(place), f"upsd listens at {place}") as client:
+            client.sendall(b"VER\n")
+            expect(client.recv(100), VERSION, f"at {place}")
 
-    def room(self, **texts):
-        return Room(self.programs, self.folder, **texts)
 
-    def run(self, *words):
-        done = subprocess.run(words, stdin=subprocess.DEVNULL, capture_output=True, timeout=60)
-        return done.returncode, done.stdout, done.stderr
-
-    # From here on, each method whose name begins with 'test_' is a test.
+class Tests(RoomTests):
+    # Each method whose name begins with 'test_' is a test.
 
     def test_values(self):
         with self.room() as room:
-            room.dummy()
-            room.upsd()
-            room.until(STATUS, ONLINE)
+            room.online()
             with room.client() as client:
                 expect(client.ask(b"VER\n"), VERSION, "version")
                 expect(client.ask(b"GET VAR su700 battery.charge\n"), b'VAR su700 battery.charge "100"\n', "a value")
@@ -106,9 +126,7 @@ class Tests:
 
     def test_set_and_command(self):
         with self.room() as room:
-            room.dummy()
-            room.upsd()
-            room.until(STATUS, ONLINE)
+            room.online()
             with room.client() as client:
                 client.log_in()
                 expect(client.ask(b'SET VAR su700 ups.id "new"\n'), b"OK\n", "SET")
@@ -125,50 +143,26 @@ class Tests:
                 room.until(STATUS, ONLINE)
                 room.until(STATUS, b'VAR su700 ups.status "OB LB"\n')
 
-    def test_silent_client(self):
-        with self.room() as room:
-            room.upsd()
-            with room.client(), room.client() as client:
-                expect(client.ask(b"VER\n"), VERSION, "beside a silent client")
-
     def test_client_that_never_reads(self):
         names = b"".join(b"ambient.%d.status: %s\n" % (i, b"x" * 100) for i in range(200))
         with self.room() as room:
-            room.dummy(DEVICE + names)
-            upsd = room.upsd()
-            room.until(STATUS, ONLINE)
+            _, upsd = room.online(device=DEVICE + names)
             with room.client() as stuck, room.client() as client:
-                stuck.socket.setblocking(False)
-                request = b"LIST VAR su700\n" * 100
-                for _ in range(50_000):
-                    try:
-                        stuck.socket.send(request)
-                    except BlockingIOError:
-                        break
-                else:
-                    raise Failed("requests of a client that never reads are read without end")
+                stuck.flood(b"LIST VAR su700\n" * 100)
                 begun = time.monotonic()
-                used = processor_time(upsd.pid)
                 for _ in range(200):
                     expect(client.ask(STATUS), ONLINE, "beside a client that never reads")
                 took = time.monotonic() - begun
-                if took > SOON and not built_without_proof():
-                    raise Failed(f"200 requests took {took:.2f} s beside a client that never reads")
-                time.sleep(1)
-                used = processor_time(upsd.pid) - used
-                if used > patience(0.5):
-                    raise Failed(f"{used:.2f} s of processor time were used beside a client that never reads")
+                ensure(took <= SOON or built_without_proof(), f"200 requests took {took:.2f} s beside a client that never reads")
+                expect_rest(upsd, 1, 0.5, "beside a client that never reads")
                 # once the client reads, it is answered
-                stuck.socket.settimeout(SOON)
                 lists = 0
                 while lists < 3:
                     lists += stuck.line() == b"END LIST VAR su700\n"
 
     def test_client_byte_by_byte(self):
         with self.room() as room:
-            room.dummy()
-            room.upsd()
-            room.until(STATUS, ONLINE)
+            room.online()
             with room.client() as slow, room.client() as client:
                 slow.socket.setsockopt(socket.IPPROTO_TCP, socket.TCP_NODELAY, 1)
                 for i in range(len(STATUS)):
@@ -190,10 +184,7 @@ class Tests:
             with accepted(listener) as first:
                 expect(first.recv(100), b"DUMPALL\n", "a driver is asked")
                 first.sendall(b'SETINFO ups.status "OL"\nSETINFO ups.id "a')
-            with accepted(listener) as second:
-                expect(second.recv(100), b"DUMPALL\n", "a driver is asked again")
-                second.sendall(b'SETINFO ups.status "OL"\n')
-                second.sendall(b'b"\nDATAOK\nDUMPDONE\n')
+            with play_driver(listener, ON_LINE, b'b"') as second:
                 room.until(STATUS, ONLINE)
                 expect(room.ask(b"GET VAR su700 ups.id\n"), b"ERR VAR-NOT-SUPPORTED\n", "half a line")
                 # a line that arrives byte by byte
@@ -204,9 +195,7 @@ class Tests:
 
     def test_requests_are_tracked(self):
         with self.room() as room:
-            driver = room.dummy()
-            room.upsd()
-            room.until(STATUS, ONLINE)
+            driver, _ = room.online()
             with room.client() as client:
                 client.log_in()
                 client.track()
@@ -224,28 +213,26 @@ class Tests:
 
     def test_tools_that_wait(self):
         with self.room() as room:
-            driver = room.dummy()
-            room.upsd()
-            room.until(STATUS, ONLINE)
+            driver, _ = room.online()
+            *_, upsrw, upscmd = self.all_programs
             login = ["-u", "admin", "-p", "pw", f"su700@{room.host}:{room.port}"]
-            expect(self.run(self.upsrw, "-w", "-s", "ups.id=new", *login), (0, b"SUCCESS\n", b""), "upsrw -w")
+            expect(ended([upsrw, "-w", "-s", "ups.id=new", *login]), (0, b"SUCCESS\n", b""), "upsrw -w")
             expect(room.ask(b"GET VAR su700 ups.id\n"), b'VAR su700 ups.id "new"\n', "what upsrw -w set")
-            expect(self.run(self.upscmd, "-w", *login, "load.off", "now"), (0, b"SUCCESS\n", b""), "upscmd -w")
-            expect(self.run(self.upscmd, *login, "load.off"), (0, b"OK\n", b""), "upscmd")
+            expect(ended([upscmd, "-w", *login, "load.off", "now"]), (0, b"SUCCESS\n", b""), "upscmd -w")
+            expect(ended([upscmd, *login, "load.off"]), (0, b"OK\n", b""), "upscmd")
             with stopped(driver), futures.ThreadPoolExecutor(1) as pool:
-                found = pool.submit(self.run, self.upscmd, "-w", *login, "load.on")
+                found = pool.submit(ended, [upscmd, "-w", *login, "load.on"])
                 # the third that is tracked
                 room.until(b"GET TRACKING 3\n", b"TRACKING 3 PENDING\n")
                 driver.kill()
                 expect(found.result(), (1, b"", b"Error: FAILED\n"), "a driver that is killed")
             refused = (1, b"", b"Error: DRIVER-NOT-CONNECTED\n")
-            expect(self.run(self.upscmd, "-w", *login, "load.on"), refused, "a request without a driver")
+            expect(ended([upscmd, "-w", *login, "load.on"]), refused, "a request without a driver")
 
     def test_driver_that_says_how_requests_ended(self):
         with self.room() as room, room.driver() as listener:
             room.upsd()
-            with accepted(listener) as driver, room.client() as client, driver.makefile("rb") as asked:
-                driver.sendall(b'SETINFO ups.status "OL"\nADDCMD load.off\nDATAOK\nDUMPDONE\n')
+            with play_driver(listener, ON_LINE, b"ADDCMD load.off") as driver, room.client() as client, driver.makefile("rb") as asked:
                 room.until(STATUS, ONLINE)
                 client.log_in()
                 client.track()
@@ -258,9 +245,7 @@ class Tests:
 
     def test_driver_that_is_killed(self):
         with self.room() as room:
-            driver = room.dummy()
-            room.upsd()
-            room.until(STATUS, ONLINE)
+            driver, _ = room.online()
             driver.kill()
             driver.wait()
             room.until(STATUS, NOT_CONNECTED)
@@ -272,24 +257,20 @@ class Tests:
         # the driver says nothing more, and its data must not become stale meanwhile
         with self.room(conf=NO_PINGS) as room, room.driver() as listener:
             upsd = room.upsd()
-            with accepted(listener) as driver, room.client() as client:
-                driver.sendall(b'SETINFO ups.id "x"\nSETFLAGS ups.id RW STRING\nSETAUX ups.id 128\nDATAOK\nDUMPDONE\n')
+            settable = b'SETINFO ups.id "x"', b"SETFLAGS ups.id RW STRING", b"SETAUX ups.id 128"
+            with play_driver(listener, *settable), room.client() as client:
                 room.until(b"GET VAR su700 ups.id\n", b'VAR su700 ups.id "x"\n')
                 client.log_in()
                 request = b"SET VAR su700 ups.id " + b"y" * 128 + b"\n"
                 until(lambda: client.ask(request) == b"ERR SET-FAILED\n", "a full queue", 60, pause=0)
-                used = processor_time(upsd.pid)
                 expect(room.ask(b"VER\n"), VERSION, "beside a driver that never reads")
-                time.sleep(1)
-                if processor_time(upsd.pid) - used > patience(0.5):
-                    raise Failed("processor time is used beside a driver that never reads")
+                expect_rest(upsd, 1, 0.5, "beside a driver that never reads")
 
     def test_driver_that_passes_descriptors(self):
         """Each message with a descriptor ends a read, and no event tells of the next one."""
         with self.room(conf=NO_PINGS) as room, room.driver() as listener, open(os.devnull) as passed:
             upsd = room.upsd()
-            with accepted(listener) as driver:
-                driver.sendall(b'SETINFO ups.status "OL"\nDATAOK\nDUMPDONE\n')
+            with play_driver(listener, ON_LINE) as driver:
                 room.until(STATUS, ONLINE)
                 with stopped(upsd):
                     for i in range(50):
@@ -308,8 +289,7 @@ class Tests:
     def test_file_in_the_way_of_a_socket(self):
         with self.room() as room:
             path = room.path("dummy-ups-su700")
-            with open(path, "w") as file:
-                file.write("not a socket")
+            room.write("dummy-ups-su700", b"not a socket")
             room.upsd()
             expect(room.ask(STATUS), NOT_CONNECTED, "a file in place of a socket")
             driver = room.dummy()
@@ -323,9 +303,8 @@ class Tests:
         """A plain file with a byte, a directory, a link and a pipe stay, whatever has the name of the socket."""
         with self.room() as room:
             script, other = room.path("su700.dev"), room.path("other.dev")
-            for path, text in ((script, DEVICE), (other, DEVICE), (room.path("empty"), b"")):
-                with open(path, "wb") as file:
-                    file.write(text)
+            for name, text in (("su700.dev", DEVICE), ("other.dev", DEVICE), ("empty", b"")):
+                room.write(name, text)
             os.mkdir(room.path("folder"))
             os.mkfifo(room.path("pipe"))
             room.listener("socket").close()
@@ -336,7 +315,7 @@ class Tests:
             for name in ("su700.dev", "other.dev", "folder", "pipe", *links):
                 path = room.path(name)
                 there = cannot_listen("dummy-ups", path, NOT_A_SOCKET).encode()
-                expect(self.run(self.programs[1], script, path), (1, b"", there), name)
+                expect(ended([room.dummy_program, script, path]), (1, b"", there), name)
             after = {it.name: it.stat(follow_symlinks=False).st_ino for it in os.scandir(room.folder)}
             expect(after, before, "what lies there")
             for path in (script, other):
@@ -345,57 +324,50 @@ class Tests:
             # a socket that was left is replaced, and so is an empty file, but no socket at which a driver listens
             for name in ("socket", "empty"):
                 path = room.path(name)
-                driver = room.start([self.programs[1], script, path])
+                driver = room.start([room.dummy_program, script, path])
                 with Client(path) as server:
                     expect(server.ask(b"PING\n"), b"PONG\n", f"a driver at the place of {name}")
                     in_use = cannot_listen("dummy-ups", path, IN_USE).encode()
-                    expect(self.run(self.programs[1], other, path), (1, b"", in_use), "another driver")
+                    expect(ended([room.dummy_program, other, path]), (1, b"", in_use), "another driver")
                     expect((driver.poll(), server.ask(b"PING\n")), (None, b"PONG\n"), "the first driver")
 
+    def refuses(self, hosts, missing, error, taken=None):
+        """upsd doesn't start with LISTEN lines for these hosts, of which it names one, with an error. Another program listens at the
+        room's port of the address `taken`."""
+        with self.room() as room, contextlib.ExitStack() as closing:
+            if taken:
+                closing.enter_context(socket.create_server((taken, room.port)))
+            put_listeners(room, *hosts)
+            expect(ended(room.command()), without_listener(missing, room.port, error), f"{hosts}, with a program at {taken}")
+
     def test_port_in_use(self):
-        with self.room() as room, socket.socket() as other:
-            other.bind(("127.0.0.1", room.port))
-            other.listen()
-            found = self.run(self.programs[0], "--conf", room.folder, "-s", room.folder)
-            expect(found, without_listener("127.0.0.1", room.port, errno.EADDRINUSE), "a port in use")
+        """A listener at another address doesn't stand for the one that is in use."""
+        for hosts in (["127.0.0.1"], ["127.0.0.2", "127.0.0.1"], ["127.0.0.1", "0.0.0.0"]):
+            self.refuses(hosts, hosts[-1], errno.EADDRINUSE, taken="127.0.0.1")
 
     def test_warning_before_a_fault(self):
         """That everybody can read the passwords comes before the fault."""
-        with self.room() as room, socket.socket() as other:
-            other.bind(("127.0.0.1", room.port))
-            other.listen()
+        with self.room() as room, socket.create_server(("127.0.0.1", room.port)):
             os.chmod(room.path("upsd.users"), 0o644)
-            status, out, err = self.run(self.programs[0], "--conf", room.folder, "-s", room.folder)
+            status, out, err = ended(room.command())
             warning, fault, *_ = err.decode().splitlines()
             expect((status, out), (1, b""), "a port in use")
-            expect(warning.startswith("upsd: upsd.users holds passwords"), True, f"it comes first: {warning}")
-            expect(fault.startswith(f"upsd: cannot listen on 127.0.0.1:{room.port}"), True, f"it comes then: {fault}")
-
-    def test_port_in_use_beside_a_listener(self):
-        """A listener at another address doesn't stand for the one that is in use."""
-        with self.room() as room, socket.socket() as other:
-            other.bind(("127.0.0.1", room.port))
-            other.listen()
-            for hosts, taken in ((("127.0.0.2", "127.0.0.1"), "127.0.0.1"), (("127.0.0.1", "0.0.0.0"), "0.0.0.0")):
-                put_listeners(room, hosts)
-                found = self.run(self.programs[0], "--conf", room.folder, "-s", room.folder)
-                expect(found, without_listener(taken, room.port, errno.EADDRINUSE), f"{hosts}")
+            ensure(warning.startswith("upsd: upsd.users holds passwords"), f"it comes first: {warning}")
+            ensure(fault.startswith(f"upsd: cannot listen on 127.0.0.1:{room.port}"), f"it comes then: {fault}")
 
     def each_in_use(self, name, addresses, words=()):
         """Has another program at each address of a name in turn. If it is the first, upsd ends: at the next one it would serve
         beside that program. The others don't matter."""
         for taken in addresses:
             with self.room() as room, socket.create_server((taken, room.port), family=family_of(taken)):
-                with open(room.path("upsd.conf"), "w") as file:
-                    file.write(f"LISTEN {name} {room.port}\n")
-                upsd = [*words, self.programs[0], "--conf", room.folder, "-s", room.folder]
+                put_listeners(room, name)
+                upsd = [*words, *room.command()]
                 if taken == addresses[0]:
                     wanted = without_listener(name, room.port, errno.EADDRINUSE)
-                    expect(self.run(*upsd), wanted, f"{taken} in use, the first of {addresses}")
+                    expect(ended(upsd), wanted, f"{taken} in use, the first of {addresses}")
                 else:
-                    said = first_lines(room.start(upsd), 1)
-                    expect(said[0].startswith("upsd: listening on "), True, f"{taken} in use, of {addresses}: {said}")
-                    expect(said[0].split()[-1].rpartition(":")[0].strip("[]"), addresses[0], "where it listens")
+                    wanted = [f"upsd: listening on {shown(addresses[0])}:{room.port}"]
+                    expect(first_lines(room.start(upsd), 1), wanted, f"{taken} in use, of {addresses}")
 
     def test_localhost_in_use(self):
         found = [it[4][0] for it in socket.getaddrinfo("localhost", None, type=socket.SOCK_STREAM)]
@@ -406,37 +378,27 @@ class Tests:
         with open(hosts, "w") as file:
             file.write("127.0.0.2 twofold\n127.0.0.3 twofold\n")
         words = with_hosts(hosts)
-        _, found, _ = self.run(*words, "getent", "ahostsv4", "twofold")
+        _, found, _ = ended([*words, "getent", "ahostsv4", "twofold"])
         addresses = list(dict.fromkeys(line.split()[0] for line in found.decode().splitlines()))
         expect(sorted(addresses), ["127.0.0.2", "127.0.0.3"], "the addresses of the name")
         self.each_in_use("twofold", addresses, words)
         # a listener of its own has the first address
         with self.room() as room:
-            put_listeners(room, ("twofold", addresses[0]))
-            upsd = room.start([*words, self.programs[0], "--conf", room.folder, "-s", room.folder])
-            listener, other = first_lines(upsd, 2)
+            put_listeners(room, "twofold", addresses[0])
+            listener, other = first_lines(room.start([*words, *room.command()]), 2)
             expect(listener, f"upsd: listening on {addresses[0]}:{room.port}", "where it listens")
             expect(other.startswith("upsd: UPS su700, driver at "), True, "no other listener")
 
     def test_host_that_is_not_here(self):
-        with self.room(conf=b"LISTEN 192.0.2.1 3493\n") as room:
-            found = self.run(self.programs[0], "--conf", room.folder, "-s", room.folder)
-            expect(found, without_listener("192.0.2.1", 3493, errno.EADDRNOTAVAIL), "an address of another machine")
-            put_listeners(room, ("198.51.100.1", "192.0.2.1"))
-            found = self.run(self.programs[0], "--conf", room.folder, "-s", room.folder)
-            expect(found, without_listener("198.51.100.1", room.port, errno.EADDRNOTAVAIL), "two addresses of other machines")
-            with socket.create_server(("127.0.0.1", room.port)):
-                put_listeners(room, ("198.51.100.1", "127.0.0.1"))
-                found = self.run(self.programs[0], "--conf", room.folder, "-s", room.folder)
-                wanted = without_listener("127.0.0.1", room.port, errno.EADDRINUSE)
-                expect(found, wanted, "an address of another machine, and one that is in use")
+        self.refuses(["192.0.2.1"], "192.0.2.1", errno.EADDRNOTAVAIL)
+        self.refuses(["198.51.100.1", "192.0.2.1"], "198.51.100.1", errno.EADDRNOTAVAIL)
+        self.refuses(["198.51.100.1", "127.0.0.1"], "127.0.0.1", errno.EADDRINUSE, taken="127.0.0.1")
 
     def play_inside(self, name):
         """Plays a test of `Inside` in a network of its own."""
         inside = [sys.executable, "-m", "tests.programs.upsd_sockets", "--inside", name, self.folder, *self.all_programs]
-        status, out, err = self.run(*apart("--net"), *inside)
-        if status:
-            raise Failed((out + err).decode().strip())
+        status, out, err = ended([*apart("--net"), *inside])
+        ensure(status == 0, (out + err).decode().strip())
 
     def test_address_that_comes_late(self):
         self.play_inside("play_late_address")
@@ -449,10 +411,10 @@ class Tests:
         words = with_hosts_alone(self.folder)
         unknown = "failed to lookup address information: Name or service not known"
         with self.room() as room:
-            upsd = [*words, self.programs[0], "--conf", room.folder, "-s", room.folder, "-q"]
-            put_listeners(room, ("late.example", "192.0.2.1"))
-            expect(self.run(*upsd), without_listener("late.example", room.port, unknown), "no address at all")
-            put_listeners(room, ("late.example", "127.0.0.1"))
+            upsd = [*words, *room.command("-q")]
+            put_listeners(room, "late.example", "192.0.2.1")
+            expect(ended(upsd), without_listener("late.example", room.port, unknown), "no address at all")
+            put_listeners(room, "late.example", "127.0.0.1")
             lines = Lines(room.start(upsd))
             told = f"upsd: cannot listen on late.example:{room.port} yet: {unknown}"
             expect(lines.next("upsd: cannot listen"), told, "what is told of it")
@@ -463,154 +425,76 @@ class Tests:
                 expect(client.ask(b"VER\n"), VERSION, "a client that was there before")
                 with open(os.path.join(self.folder, "hosts"), "w") as file:
                     file.write("127.0.0.2 late.example\n")
-                with until(lambda: connected(("127.0.0.2", room.port)), "upsd listens at the name") as other:
-                    other.sendall(b"VER\n")
-                    expect(other.recv(100), VERSION, "at the name")
+                expect_served(("127.0.0.2", room.port))
                 expect(client.ask(b"VER\n"), VERSION, "the client that was there before")
             expect(lines.count("upsd: cannot listen"), 1, "how often it is told")
 
-    def test_several_listeners(self):
-        port = free_port()
-        with self.room(conf=b"") as room:
-            with open(room.path("upsd.conf"), "ab") as file:
-                file.write(b"LISTEN 127.0.0.2 %d\nLISTEN localhost %d\n" % (port, port))
-            room.upsd()
-            for host in ("127.0.0.2", "localhost"):
-                with Client((host, port)) as client:
-                    expect(client.ask(b"VER\n"), VERSION, host)
-
-    def listening(self, room, *lines):
-        """Starts upsd with these LISTEN lines. Returns it, with the addresses at which it says that it listens."""
-        with open(room.path("upsd.conf"), "w") as file:
-            file.writelines(f"LISTEN {line}\n" for line in lines)
-        upsd = room.start([self.programs[0], "--conf", room.folder, "-s", room.folder])
-        said = first_lines(upsd, len(lines))
-        if upsd.poll() is not None or not all(it.startswith("upsd: listening on ") for it in said):
-            raise Failed(f"LISTEN {lines}: {said}")
-        return [it.split()[-1].rpartition(":")[0].strip("[]") for it in said]
-
-    def test_every_address_of_ipv4(self):
+    def listens(self, lines, at, clients):
+        """Starts upsd with a row's LISTEN lines. It says where it listens, and serves clients."""
         with self.room() as room:
-            expect(self.listening(room, f"0.0.0.0 {room.port}"), ["0.0.0.0"], "where it listens")
-            for host in ("127.0.0.1", "127.0.0.2"):
-                with Client((host, room.port)) as client:
-                    expect(client.ask(b"VER\n"), VERSION, host)
+            ports = {"": room.port, "OTHER": free_port()}
 
-    def test_loopback_of_both_kinds(self):
-        if not has_ipv6():
-            raise Missing("this machine has no IPv6")
-        with self.room() as room:
-            hosts = ["127.0.0.1", "::1"]
-            expect(self.listening(room, *(f"{host} {room.port}" for host in hosts)), hosts, "where it listens")
-            for host in hosts:
-                with Client((host, room.port)) as client:
-                    expect(client.ask(b"VER\n"), VERSION, host)
+            def place(it):
+                host, _, port = it.partition(" ")
+                return host, ports[port]
+
+            room.write("upsd.conf", b"".join(b"LISTEN %b %d\n" % (host.encode(), port) for host, port in map(place, lines)))
+            *listeners, other = first_lines(room.start(room.command()), len(at) + 1)
+            expect(listeners, [f"upsd: listening on {shown(host)}:{port}" for host, port in map(place, at)], f"LISTEN {lines}")
+            ensure(other.startswith("upsd: UPS su700, driver at "), f"LISTEN {lines}: no other listener than {listeners}")
+            expect_served(*map(place, clients))
+
+    def test_listeners_of_ipv4(self):
+        for row in LISTENERS_OF_IPV4:
+            self.listens(*row)
+
+    def test_listeners_of_ipv6(self):
+        needs_ipv6()
+        for row in LISTENERS_OF_IPV6:
+            self.listens(*row)
 
     def test_host_by_its_name(self):
         """A name means the first of its addresses."""
-        with self.room() as room:
-            found = self.listening(room, f"localhost {room.port}")
-            first = socket.getaddrinfo("localhost", room.port, type=socket.SOCK_STREAM)[0][4][0]
-            expect(found, [first], "where it listens")
-            with Client((first, room.port)) as client:
-                expect(client.ask(b"VER\n"), VERSION, first)
-
-    def one_listener(self, lines, at, clients):
-        """Starts upsd with LISTEN lines for these hosts. It listens at one address alone, and serves clients at others."""
-        with self.room() as room:
-            put_listeners(room, lines)
-            upsd = room.start([self.programs[0], "--conf", room.folder, "-s", room.folder])
-            listener, other = first_lines(upsd, 2)
-            expect(listener, f"upsd: listening on {at}:{room.port}", f"{lines}")
-            expect(other.startswith("upsd: UPS su700, driver at "), True, f"{lines}: no other listener")
-            for host in clients:
-                with Client((host, room.port)) as client:
-                    expect(client.ask(b"VER\n"), VERSION, f"{host}, by {lines}")
-
-    def test_lines_of_ipv4_that_add_nothing(self):
-        """The same line twice, and one address beside every address, in either order."""
-        local = ["127.0.0.1", "127.0.0.2"]
-        self.one_listener(["127.0.0.1", "127.0.0.1"], "127.0.0.1", ["127.0.0.1"])
-        self.one_listener(["0.0.0.0", "0.0.0.0"], "0.0.0.0", local)
-        self.one_listener(["0.0.0.0", "127.0.0.1"], "0.0.0.0", local)
-        self.one_listener(["127.0.0.1", "0.0.0.0"], "0.0.0.0", local)
-        self.one_listener(["127.0.0.2", "127.0.0.1", "0.0.0.0", "127.0.0.2"], "0.0.0.0", local)
-
-    def test_lines_of_ipv6_that_add_nothing(self):
-        """A listener at every address by IPv6 also serves those of IPv4, so lines for these beside it change nothing."""
-        if not has_ipv6():
-            raise Missing("this machine has no IPv6")
-        both = ["127.0.0.1", "::1"]
-        self.one_listener(["::1", "::1"], "[::1]", ["::1"])
-        self.one_listener(["::", "::"], "[::]", both)
-        self.one_listener(["0.0.0.0", "::"], "[::]", both)
-        self.one_listener(["::", "0.0.0.0"], "[::]", both)
-        self.one_listener(["127.0.0.1", "::"], "[::]", both)
-        self.one_listener(["127.0.0.1", "0.0.0.0", "::1", "0:0:0:0:0:0:0:0"], "[::]", both)
-
-    def test_every_address_of_ipv4_beside_one_of_ipv6(self):
-        if not has_ipv6():
-            raise Missing("this machine has no IPv6")
-        with self.room() as room:
-            found = self.listening(room, f"::1 {room.port}", f"0.0.0.0 {room.port}")
-            expect(found, ["0.0.0.0", "::1"], "where it listens")
-            for host in ("127.0.0.1", "::1"):
-                with Client((host, room.port)) as client:
-                    expect(client.ask(b"VER\n"), VERSION, host)
+        first = socket.getaddrinfo("localhost", None, type=socket.SOCK_STREAM)[0][4][0]
+        self.listens(["localhost"], [first], [first])
+        self.listens(["127.0.0.2", "localhost OTHER"], ["127.0.0.2", f"{first} OTHER"], ["127.0.0.2", f"{first} OTHER"])
 
     def test_listeners_of_ipv6_alone(self):
         """This program plays the test again in a network of its own, where a socket of IPv6 takes no clients of IPv4."""
-        if not has_ipv6():
-            raise Missing("this machine has no IPv6")
-        status, _, err = self.run(*apart("--net"), "sh", "-c", f"echo 1 >{ONLY_IPV6}")
+        needs_ipv6()
+        status, _, err = ended([*apart("--net"), "sh", "-c", f"echo 1 >{ONLY_IPV6}"])
         if status:
             raise Missing(f"the network can't be set up: {err.decode().strip()}")
         self.play_inside("play_ipv6_alone")
-
-    def test_same_host_at_two_ports(self):
-        port = free_port()
-        with self.room() as room:
-            found = self.listening(room, f"127.0.0.1 {port}", f"0.0.0.0 {room.port}")
-            expect(found, ["0.0.0.0", "127.0.0.1"], "where it listens")
-            for at in (port, room.port):
-                with Client(("127.0.0.1", at)) as client:
-                    expect(client.ask(b"VER\n"), VERSION, f"at port {at}")
 
     def test_addresses_of_clients(self):
         self.list_clients("127.0.0.1", ["127.0.0.1"])
 
     def test_addresses_of_clients_by_ipv6(self):
-        if not has_ipv6():
-            raise Missing("this machine has no IPv6")
+        needs_ipv6()
         self.list_clients("::1", ["::1"])
         # clients of either kind, each by its own address
         self.list_clients("::", ["::1", "127.0.0.1"])
 
     def list_clients(self, listen, hosts):
         """Has clients log in from these hosts where upsd listens at one address, and compares LIST CLIENT."""
-        with self.room() as room:
-            put_listeners(room, [listen])
+        with self.room() as room, contextlib.ExitStack() as closing:
+            put_listeners(room, listen)
             room.host = hosts[0]
-            room.dummy()
-            room.upsd()
-            room.until(STATUS, ONLINE)
-            clients = [Client((host, room.port)) for host in hosts]
-            for client in clients:
-                client.log_in(b"mon", b"m1")
-                expect(client.ask(b"LOGIN su700\n"), b"OK\n", "LOGIN")
-            found = clients[0].list(b"LIST CLIENT su700\n")[1:-1]
+            room.online()
+            for room.host in hosts:
+                client = closing.enter_context(room.logged_in())
+            found = client.list(b"LIST CLIENT su700\n")[1:-1]
             expect(found, [b"CLIENT su700 %s\n" % host.encode() for host in hosts], f"addresses at {listen}")
-            for client in clients:
-                client.close()
 
     def test_too_many_connections(self):
         with self.room(conf=b"MAXCONN 2\n") as room:
             upsd = room.upsd("-q")
             until(room.serves, "the first connection has gone")
             # no client that is logged in makes way for another
-            with logged_in(room) as first:
+            with room.logged_in() as first:
                 expect(first.ask(b"VER\n"), VERSION, "the first")
-                with logged_in(room) as second:
+                with room.logged_in() as second:
                     expect(second.ask(b"VER\n"), VERSION, "the second")
                     for _ in range(5):
                         with room.client() as third:
@@ -619,7 +503,7 @@ class Tests:
                 expect(first.ask(b"VER\n"), VERSION, "the first again")
                 # what is told is told at most once a second
                 time.sleep(1.5)
-                with logged_in(room) as second:
+                with room.logged_in() as second:
                     expect(second.ask(b"VER\n"), VERSION, "the second again")
                     for _ in range(5):
                         with room.client() as third:
@@ -630,10 +514,8 @@ class Tests:
     def test_256_connections(self):
         with self.room() as room:
             upsd = room.upsd("-q")
-            clients = []
-            try:
-                for _ in range(256):
-                    clients.append(logged_in(room))
+            with contextlib.ExitStack() as closing:
+                clients = [closing.enter_context(room.logged_in()) for _ in range(256)]
                 for client in clients:
                     expect(client.ask(b"VER\n"), VERSION, "one of 256")
                 with room.client() as more:
@@ -642,31 +524,19 @@ class Tests:
                     client.send(b"VER\n" * 3)
                 for client in reversed(clients):
                     expect([client.line() for _ in range(3)], [VERSION] * 3, "one of 256 again")
-            finally:
-                for client in clients:
-                    client.close()
             expect(said(upsd), ["upsd: client refused: MAXCONN 256 is reached, and all clients are logged in"], "what is told of the 257th")
 
     def test_want_of_descriptors(self):
-        def few():
-            resource.setrlimit(resource.RLIMIT_NOFILE, (16, 16))
-
         with self.room() as room:
-            upsd = room.upsd("-q", preexec_fn=few)
-            clients = [room.client() for _ in range(24)]
-            try:
+            upsd = room.upsd("-q", preexec_fn=lambda: resource.setrlimit(resource.RLIMIT_NOFILE, (16, 16)))
+            with contextlib.ExitStack() as closing:
+                clients = [closing.enter_context(room.client()) for _ in range(24)]
                 expect(clients[0].ask(b"VER\n"), VERSION, "the first client")
-                used = processor_time(upsd.pid)
-                time.sleep(3.5)
+                expect_rest(upsd, 3.5, 0.5, "while descriptors are wanting")
                 expect(clients[0].ask(b"VER\n"), VERSION, "the first client later")
-                if processor_time(upsd.pid) - used > patience(0.5):
-                    raise Failed("processor time is used while descriptors are wanting")
                 for client in clients[:20]:
                     client.close()
                 expect(clients[-1].ask(b"VER\n"), VERSION, "the last client, once others have gone")
-            finally:
-                for client in clients:
-                    client.close()
             # once for those that wait, and perhaps once more after the first of them was let in
             told = said(upsd)
             wanted = f"upsd: cannot accept a client: {why(errno.EMFILE)}"
@@ -683,16 +553,13 @@ class Tests:
             upsd = room.upsd()
             with room.client() as client:
                 expect(client.ask(b"VER\n"), VERSION, "a client")
-                used = processor_time(upsd.pid)
-                time.sleep(2)
-                if processor_time(upsd.pid) - used > patience(0.1):
-                    raise Failed("an idle server uses processor time")
+                expect_rest(upsd, 2, 0.1, "by an idle server")
 
     def test_notices(self):
         with self.room() as room:
             driver = room.dummy()
             Client(room.path("dummy-ups-su700")).close()
-            told = Lines(room.upsd())
+            told = room.serve()
             room.until(STATUS, ONLINE)
             driver.kill()
             told.next("upsd: UPS su700: cannot connect to its driver: ")
@@ -713,7 +580,7 @@ class Tests:
         missed = "upsd: UPS su700: cannot connect to its driver: "
         with self.room() as room:
             path = room.path("dummy-ups-su700")
-            lines = Lines(room.upsd(preexec_fn=heed_modes))
+            lines = room.serve(preexec_fn=heed_modes)
             lines.next(missed + why(errno.ENOENT))
             with open(path, "w"):
                 lines.next(missed + why(errno.ECONNREFUSED))
@@ -734,7 +601,7 @@ class Tests:
     def test_stale_data_is_told(self):
         stale, fresh = (f"upsd: UPS su700: data is {what}" for what in ("stale", "no longer stale"))
         with self.room(conf=b"MAXAGE 2\n") as room, room.driver() as listener:
-            lines = Lines(room.upsd())
+            lines = room.serve()
             with accepted(listener) as driver:
 
                 def is_heard():
@@ -760,11 +627,9 @@ class Tests:
     def test_a_forced_shutdown_is_told(self):
         forced = "upsd: UPS su700: shutdown is forced (FSD) by mon@127.0.0.1"
         with self.room() as room:
-            lines = Lines(room.upsd("-q"))
-            driver = room.dummy()
-            room.until(STATUS, ONLINE)
-            with room.client() as client:
-                client.log_in(b"mon", b"m1")
+            driver, _ = room.online("-q")
+            lines = room.lines
+            with room.logged_in() as client:
                 expect(client.ask(b"FSD su700\n"), b"OK FSD-SET\n", "FSD")
                 lines.next(forced)
                 # another FSD is no news
@@ -780,7 +645,7 @@ class Tests:
 
     def test_a_shutdown_that_nobody_hears_of_is_told(self):
         with self.room() as room:
-            lines = Lines(room.upsd("-q"))
+            lines = room.serve("-q")
             with room.client() as client:
                 client.log_in(b"mon", b"m1")
                 expect(client.ask(b"FSD su700\n"), b"OK FSD-SET\n", "FSD")
@@ -791,36 +656,24 @@ class Tests:
 
     def test_quiet(self):
         with self.room() as room:
-            upsd = room.upsd("-q")
-            driver = room.dummy()
-            room.until(STATUS, ONLINE)
+            driver, _ = room.online("-q")
             driver.kill()
             room.until(STATUS, NOT_CONNECTED)
-            upsd.kill()
-            expect(upsd.stderr.read(), b"", "nothing is told")
+            expect(room.lines.lines, [], "nothing is told")
 
     def test_command_lines(self):
         upsd, dummy = self.programs
         conf = ["--conf", self.folder]
         sockets = ["-s", self.folder]
         for words in (
-            [upsd],
-            [upsd, *conf],
-            [upsd, *sockets],
-            [upsd, "--stdio", *sockets],
-            [upsd, "--stdio", *conf, *sockets],
-            [upsd, "--stdio", "-q"],
-            [upsd, *conf, *sockets, "--ups", "a=b"],
-            [upsd, *sockets, "--ups", "a=b"],
-            [upsd, *conf, *sockets, "-c", "reload"],
-            [dummy],
-            [dummy, "a.dev"],
-            [dummy, "a.dev", "b", "c"],
+            [upsd], [upsd, *conf], [upsd, *sockets], [upsd, "--stdio", *sockets], [upsd, "--stdio", *conf, *sockets],
+            [upsd, "--stdio", "-q"], [upsd, *conf, *sockets, "--ups", "a=b"], [upsd, *sockets, "--ups", "a=b"],
+            [upsd, *conf, *sockets, "-c", "reload"], [dummy], [dummy, "a.dev"], [dummy, "a.dev", "b", "c"],
         ):
-            status, out, err = self.run(*words)
+            status, out, err = ended(words)
             expect((status, out, err != b""), (2, b"", True), f"{words}")
         for program, word in ((upsd, b"SOCKDIR"), (dummy, b"SOCKET")):
-            status, out, err = self.run(program, "--help")
+            status, out, err = ended([program, "--help"])
             expect((status, word in out, err), (0, True, b""), "help")
 
     def test_options_of_nut(self):
@@ -848,7 +701,7 @@ class Tests:
             (dummy, ["-k", "-a", "su700"], "-k is not supported: use upscmd NAME load.off"),
             (dummy, ["-q"], None),
         ):
-            status, out, err = self.run(program, *words)
+            status, out, err = ended([program, *words])
             name = "upsd" if program == upsd else "dummy-ups"
             said = f"{name}: {way}\n" if way else ""
             expect((status, out), (2, b""), f"{name} {words}")
@@ -871,16 +724,9 @@ class Tests:
         told = {model: b'DESC su700 ups.model "the \\"model\\""\n'}
         for descriptions, texts in ((None, {**own, **none}), (b"", {**own, **none}), (file, {**own, **none, **told})):
             with self.room(descriptions=descriptions) as room:
-                room.dummy(DEVICE + b"ups.model: S\nups.mfr: M\n")
-                room.upsd()
-                room.until(STATUS, ONLINE)
+                room.online(device=DEVICE + b"ups.model: S\nups.mfr: M\n")
                 for asked, answer in texts.items():
                     expect(room.ask(asked), answer, f"{asked} with {descriptions}")
-
-    def test_faults_of_files(self):
-        with self.room(ups=b"[a]\n[a]\n") as room:
-            found = self.run(self.programs[0], "--conf", room.folder, "-s", room.folder)
-            expect(found, (1, b"", b"upsd: ups.conf:2: Repeated\nupsd: [a]: a line before has it\n"), "a fault of a file")
 
     def test_faults_of_scripts(self):
         dummy = self.programs[1]
@@ -899,7 +745,7 @@ class Tests:
                 with open(path, "wb") as file:
                     file.write(text)
             between = ":" if said[0].isdigit() else ": "
-            found = self.run(dummy, path, at)
+            found = ended([dummy, path, at])
             told = f"dummy-ups: {path}{between}{said}\n"
             if said == "cannot read":
                 told = cannot_read("dummy-ups", path, path, errno.ENOENT)
@@ -916,7 +762,7 @@ class Tests:
             ("x" * 200, "path must be shorter than SUN_LEN"),
             ("", "invalid input parameter"),
         ):
-            found = self.run(dummy, path, at)
+            found = ended([dummy, path, at])
             expect(found, (1, b"", cannot_listen("dummy-ups", at, cause).encode()), f"socket {at!r}")
 
     def test_dummy_and_its_servers(self):
@@ -940,10 +786,7 @@ class Tests:
                 expect(second.line(), b'SETINFO ups.status "OFF"\n', "the second server")
                 while second.line() != b"DUMPDONE\n":
                     pass
-                used = processor_time(driver.pid)
-                time.sleep(1.5)
-                if processor_time(driver.pid) - used > patience(0.1):
-                    raise Failed("an idle driver uses processor time")
+                expect_rest(driver, 1.5, 0.1, "by an idle driver")
 
     def test_dummy_and_a_server_that_passes_descriptors(self):
         with self.room() as room, open(os.devnull) as passed:
@@ -961,19 +804,8 @@ class Tests:
             driver = room.dummy()
             path = room.path("dummy-ups-su700")
             with Client(path) as server:
-                server.socket.setblocking(False)
-                for _ in range(100_000):
-                    try:
-                        server.socket.send(b"DUMPALL\n" * 50)
-                    except BlockingIOError:
-                        break
-                else:
-                    raise Failed("requests of a server that never reads are read without end")
-                used = processor_time(driver.pid)
-                time.sleep(1.5)
-                if processor_time(driver.pid) - used > patience(0.1):
-                    raise Failed("a driver uses processor time while its server doesn't read")
-                server.socket.settimeout(SOON)
+                server.flood(b"DUMPALL\n" * 50)
+                expect_rest(driver, 1.5, 0.1, "by a driver whose server doesn't read")
                 dumps = 0
                 while dumps < 100:
                     dumps += server.line() == b"DUMPDONE\n"
@@ -986,8 +818,8 @@ class Inside(Tests):
 
     def starts_without(self, room):
         """Starts upsd, which can listen at one address, and not yet at another. Returns its lines."""
-        put_listeners(room, ("192.0.2.1", "127.0.0.1"))
-        lines = Lines(room.upsd("-q"))
+        put_listeners(room, "192.0.2.1", "127.0.0.1")
+        lines = room.serve("-q")
         told = lines.next("upsd: cannot listen")
         expect(told, f"upsd: cannot listen on 192.0.2.1:{room.port} yet: {why(errno.EADDRNOTAVAIL)}", "what is told of it")
         expect(room.ask(b"VER\n"), VERSION, "at the other address")
@@ -1002,15 +834,12 @@ class Inside(Tests):
                 time.sleep(3)
                 expect(lines.count("upsd: cannot listen"), 1, "how often it is told")
                 give_address("192.0.2.1")
-                for host in ("192.0.2.1", "127.0.0.1"):
-                    with until(lambda host=host: connected((host, room.port)), f"upsd listens at {host}") as other:
-                        other.sendall(b"VER\n")
-                        expect(other.recv(100), VERSION, f"at {host}")
+                expect_served(("192.0.2.1", room.port), ("127.0.0.1", room.port))
                 expect(client.ask(b"VER\n"), VERSION, "a client that was there before")
         with self.room() as room:
             # without -q each is told when it comes
-            put_listeners(room, ("127.0.0.1", "198.51.100.1"))
-            lines = Lines(room.upsd())
+            put_listeners(room, "127.0.0.1", "198.51.100.1")
+            lines = room.serve()
             missing = f"upsd: cannot listen on 198.51.100.1:{room.port} yet: {why(errno.EADDRNOTAVAIL)}"
             until(lambda: len(lines.lines) > 2, "it begins to serve")
             expect(lines.lines[:2], [f"upsd: listening on 127.0.0.1:{room.port}", missing], "what is told at the start")
@@ -1030,35 +859,19 @@ class Inside(Tests):
             told = lines.next("upsd: cannot listen")
             expect(told, f"upsd: cannot listen on 192.0.2.1:{room.port} yet: {why(errno.EADDRINUSE)}", "what is told of it")
             other.close()
-            with until(lambda: connected(("192.0.2.1", room.port)), "upsd listens there") as client:
-                client.sendall(b"VER\n")
-                expect(client.recv(100), VERSION, "once the other program is gone")
+            expect_served(("192.0.2.1", room.port))
 
     def play_ipv6_alone(self):
         """A socket of IPv6 takes no clients of IPv4."""
         raise_loopback()
         with open(ONLY_IPV6, "w") as file:
             file.write("1")
-        self.one_listener(["::", "::"], "[::]", ["::1"])
+        self.listens(["::", "::"], ["::"], ["::1"])
         for other in ("127.0.0.1", "0.0.0.0"):
-            self.play_beside(other)
-            self.play_in_use(other)
-
-    def play_beside(self, other):
-        """Listens at every address of IPv6, and at this one of IPv4 or at all of them."""
-        with self.room() as room:
-            found = self.listening(room, f"{other} {room.port}", f":: {room.port}")
-            expect(found, ["::", other], "where it listens")
-            for host in ("127.0.0.1", "::1"):
-                with Client((host, room.port)) as client:
-                    expect(client.ask(b"VER\n"), VERSION, f"{host}, beside {other}")
-
-    def play_in_use(self, other):
-        """Another program listens by IPv4. A listener of IPv6 doesn't stand for the one that is missing."""
-        with self.room() as room, socket.create_server(("127.0.0.1", room.port)):
-            put_listeners(room, ("::", other))
-            found = self.run(self.programs[0], "--conf", room.folder, "-s", room.folder)
-            expect(found, without_listener(other, room.port, errno.EADDRINUSE), f"{other} in use beside ::")
+            # it listens at every address of IPv6, and at this one of IPv4 or at all of them
+            self.listens([other, "::"], ["::", other], ["127.0.0.1", "::1"])
+            # a listener of IPv6 doesn't stand for one of IPv4 that another program keeps from it
+            self.refuses(["::", other], other, errno.EADDRINUSE, taken="127.0.0.1")
 
 
 def main():
@@ -1066,13 +879,10 @@ def main():
         name, folder, *programs = sys.argv[2:]
         getattr(Inside(*programs, folder), name)()
         return 0
-    programs, names = map(os.path.abspath, sys.argv[1:5]), sys.argv[5:]
     # 256 clients, and what else is open
     resource.setrlimit(resource.RLIMIT_NOFILE, (1024, resource.getrlimit(resource.RLIMIT_NOFILE)[1]))
     signal.signal(signal.SIGPIPE, signal.SIG_IGN)
-    with tempfile.TemporaryDirectory() as folder:
-        tests = Tests(*programs, folder)
-        return run_tests(tests, names, "a machine with IPv6 runs them")
+    return play(Tests, 4, "a machine with IPv6 runs them")
 
 
 if __name__ == "__main__":

@@ -13,6 +13,7 @@ import resource
 import shutil
 import subprocess
 import sys
+import tempfile
 import termios
 import threading
 import time
@@ -33,6 +34,23 @@ def processor_time(pid):
     with open(f"/proc/{pid}/stat") as file:
         fields = file.read().rsplit(")", 1)[1].split()
     return (int(fields[11]) + int(fields[12])) / os.sysconf("SC_CLK_TCK")
+
+
+def expect_rest(process, seconds, most, what):
+    """Expects that a process uses no more than so many seconds of processor time in this time."""
+    used = processor_time(process.pid)
+    time.sleep(seconds)
+    used = processor_time(process.pid) - used
+    ensure(used <= patience(most), f"{used:.2f} s of processor time are used: {what}")
+
+
+def ended(words, **options):
+    """Runs a program to its end. Returns its status, and what it writes to standard output and to standard error."""
+    streams = {"stdout": subprocess.PIPE, "stderr": subprocess.PIPE, "timeout": 60}
+    if "input" not in options:
+        streams["stdin"] = subprocess.DEVNULL
+    done = subprocess.run(words, **{**streams, **options})
+    return done.returncode, done.stdout, done.stderr
 
 
 def children_time():
@@ -273,3 +291,11 @@ def run_tests(tests, names=(), install="", at_once=1):
         print(f"{counts['skipped']} skipped: {install}")
     print(f"{counts['passed']} passed, {counts['failed']} failed")
     return 1 if counts["failed"] else 0
+
+
+def play(tests, programs, install="", at_once=1):
+    """Runs tests of this class, which is made of the paths of so many programs and of a folder. The words of the command line are
+    the programs, and then parts of the names of the wanted tests, as for `run_tests`."""
+    paths, names = map(os.path.abspath, sys.argv[1 : programs + 1]), sys.argv[programs + 1 :]
+    with tempfile.TemporaryDirectory() as folder:
+        return run_tests(tests(*paths, folder), names, install, at_once)

@@ -14,7 +14,7 @@ import tempfile
 import threading
 import time
 
-from tests.support.harness import Failed, expect
+from tests.support.harness import Failed, Shimmed, expect
 
 DEVICE = b"ups.status: OL\nups.id: x\nbattery.charge: 100\n"
 USERS = b'[admin]\npassword = pw\nactions = SET\ninstcmds = ALL\n[mon]\npassword = m1\nupsmon primary\n'
@@ -198,6 +198,17 @@ class Client:
             lines.append(self.line())
         return lines
 
+    def flood(self, request, most=100_000):
+        """Sends a request again and again, until the other end takes no more of them."""
+        self.socket.setblocking(False)
+        try:
+            for _ in range(most):
+                self.socket.send(request)
+        except BlockingIOError:
+            self.socket.settimeout(SOON)
+            return
+        raise Failed("requests of one who never reads are read without end")
+
     def is_closed(self):
         """Whether the other end closes without sending anything."""
         try:
@@ -212,6 +223,14 @@ class Client:
     def track(self):
         """Has the server track this client's requests from now on."""
         expect(self.ask(b"SET TRACKING ON\n"), b"OK\n", "SET TRACKING")
+
+
+def play_driver(listener, *lines):
+    """Accepts upsd at the socket of a driver, and tells these lines, and that its data is whole and fresh. Returns the link."""
+    link = accepted(listener)
+    expect(link.recv(100), b"DUMPALL\n", "a driver is asked")
+    link.sendall(b"\n".join([*lines, b"DATAOK", b"DUMPDONE", b""]))
+    return link
 
 
 class Lines:
@@ -261,6 +280,9 @@ def first_lines(process, count):
 class Room:
     """A folder with a configuration, and the programs that run with it."""
 
+    # the password of the user `mon`
+    mon = b"m1"
+
     def __init__(self, programs, folder, conf=b"", ups=b'[su700]\ndesc = "Server room"\n', descriptions=None):
         self.upsd_program, self.dummy_program = programs
         self.folder = tempfile.mkdtemp(dir=folder)
@@ -293,11 +315,33 @@ class Room:
         self.running.append(process)
         return process
 
+    def write(self, name, text):
+        with open(self.path(name), "wb") as file:
+            file.write(text)
+
+    def command(self, *words):
+        """Returns the words that start upsd with this folder."""
+        return [self.upsd_program, "--conf", self.folder, "-s", self.folder, *words]
+
     def upsd(self, *words, **options):
         """Starts upsd, and waits until it serves."""
-        process = self.start([self.upsd_program, "--conf", self.folder, "-s", self.folder, *words], **options)
+        process = self.start(self.command(*words), **options)
         until(lambda: self.can_connect(process), "upsd listens")
         return process
+
+    def serve(self, *words, **options):
+        """Starts upsd, and waits until it serves. Returns the lines that it writes, which `lines` has from now on."""
+        self.server = self.upsd(*words, **options)
+        self.lines = Lines(self.server)
+        return self.lines
+
+    def online(self, *words, device=DEVICE, **options):
+        """Starts a dummy driver of su700, and upsd as `serve` does, and waits until upsd shows that the UPS is on line. Returns both
+        processes."""
+        driver = self.dummy(device)
+        self.serve(*words, **options)
+        self.until(STATUS, ONLINE)
+        return driver, self.server
 
     def can_connect(self, process):
         if process.poll() is not None:
@@ -317,6 +361,13 @@ class Room:
 
     def client(self):
         return Client((self.host, self.port))
+
+    def logged_in(self, ups=b"su700"):
+        """Returns a new client that is logged in to a UPS as a primary."""
+        client = self.client()
+        client.send(b"USERNAME mon\nPASSWORD %b\nLOGIN %b\n" % (self.mon, ups))
+        expect([client.line() for _ in range(3)], [b"OK\n"] * 3, "a login")
+        return client
 
     def ask(self, request):
         """Returns the reply to a new client's only request."""
@@ -346,3 +397,16 @@ class Room:
     def driver(self):
         """Returns a listener at the place where upsd looks for the driver of su700."""
         return self.listener("dummy-ups-su700")
+
+
+class RoomTests(Shimmed):
+    """Tests in rooms of their own, with these programs, of which upsd and dummy-ups are the first."""
+
+    kind = Room
+
+    def __init__(self, *programs_and_folder):
+        *self.all_programs, self.folder = programs_and_folder
+        self.programs = self.all_programs[:2]
+
+    def room(self, **texts):
+        return self.kind(self.programs, self.folder, **texts)
