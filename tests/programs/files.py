@@ -7,12 +7,11 @@ just past it, and what is said to be meant.
 The last line is 'N passed, M failed'."""
 
 import os
-import subprocess
 import sys
 import tempfile
 
 from tests.support import manual
-from tests.support.harness import ensure, expect, run_tests
+from tests.support.harness import ended, ensure, expect, play
 
 
 def numbered(line, count):
@@ -20,311 +19,24 @@ def numbered(line, count):
     return line[:0].join(line % number for number in range(count))
 
 
-# For each file texts of it with the line and the kind of their fault, which is None if they have none.
-FILES = {
-    "ups.conf": [
-        (b"", None),
-        (b"[a]\n[a]\n", "2: Repeated"),
-        (b'[a]\ndesc = "x', "2: Unreadable"),
-        (b"desc = x\n", "1: OutsideSection"),
-        (b"[a]\ndesc =\n", "2: BadForm"),
-        (b"[a]\nfoo = x\n", "2: UnknownDirective"),
-        # words that cannot be read
-        (b'[a] "', "1: Unreadable"),
-        (b'[a]\ndesc = x\\', "2: Unreadable"),
-        (b"[a]\ndesc = \xc3\xa9\n", "2: Unreadable"),
-        (b"# caf\xc3\xa9\n", "1: Unreadable"),
-        (b'[a]\ndesc = "x"y\n', "2: Unreadable"),
-        (b"[a]\n\x00\n", "2: Unreadable"),
-        # section lines
-        (b"[]\n", "1: BadName"),
-        (b"[a/b]\n", "1: BadName"),
-        (b'"[a b]"\n', "1: BadName"),
-        (b'"[a]"\n[a]\n', "2: Repeated"),
-        (b"[A.b_c-9]\n[a.b_c-9]\n", None),
-        (b"[a] x\n", "1: OutsideSection"),
-        (b"[a]\n[b] x\n", "2: UnknownDirective"),
-        (b"[a]\n[b\n", "2: UnknownDirective"),
-        (b"[a]\nb]\n", "2: UnknownDirective"),
-        (b"[a]\n[\n", "2: UnknownDirective"),
-        # before the first section only this is tested
-        (b"foo\n", "1: OutsideSection"),
-        (b"desc\n", "1: OutsideSection"),
-        # directives, byte for byte
-        (b"[a]\nDesc = x\n", "2: UnknownDirective"),
-        (b"[a]\ndesc2 = x\n", "2: UnknownDirective"),
-        (b"[a]\nfoo\n", "2: UnknownDirective"),
-        # form
-        (b"[a]\ndesc x\n", "2: BadForm"),
-        (b"[a]\ndesc = x y\n", "2: BadForm"),
-        (b"[a]\ndesc == x\n", "2: BadForm"),
-        (b"[a]\ndesc\n", "2: BadForm"),
-        (b"[a]\ndesc = =\n", None),
-        # form is tested before values, and values before repetition
-        (b"[a]\ndriver = a/ b\n", "2: BadForm"),
-        (b"[a]\ndesc = x\ndesc =\n", "3: BadForm"),
-        (b"[a]\ndriver = x\ndriver = a/\n", "3: BadName"),
-        (b'[a]\ndriver = x\ndriver = ""\n', "3: BadName"),
-        (b"[a]\ndriver = x\nport = x\ndesc = x\ndriver = x\n", "5: Repeated"),
-        (b"[a]\ndesc = x\n\n# c\ndesc = y\n", "5: Repeated"),
-        (b"[a]\ndriver = a/b\n", "2: BadName"),
-        # carriage returns are blanks
-        (b"[a]\r\ndesc = x\r\n\r\n[a]\r\n", "4: Repeated"),
-        # each section is tested on its own; the first faulty line is reported
-        (b"[a]\ndesc = x\n[b]\ndesc = x\n", None),
-        (b"[a]\nfoo = x\n[a]\n", "2: UnknownDirective"),
-        (b"[a]\r\n\r\n \t# c\r\ndesc=x\r\nport=y", None),
-        # limits, at each of them and just past it
-        (b"\n" * 1_048_576, None),
-        (b"\n" * 1_048_577, "0: PastLimit"),
-        (b"x" * 1_048_577, "0: PastLimit"),
-        (b"x" * 1_048_576, "1: PastLimit"),
-        (b"#" * 512 + b"\n[a]", None),
-        (b"#" * 513 + b"\n[a]", "1: PastLimit"),
-        (b"#" * 511 + b"\r\n", None),
-        (b"#" * 512 + b"\r\n", "1: PastLimit"),
-        (b'"' * 513, "1: PastLimit"),
-        (b"a " * 32, "1: OutsideSection"),
-        (b"a " * 33, "1: Unreadable"),
-        (b"[" + b"a" * 32 + b"]", None),
-        (b"[" + b"a" * 33 + b"]", "1: PastLimit"),
-        (b"[" + b"a" * 33 + b"/]", "1: BadName"),
-        (b"[a]\ndriver=" + b"d" * 32, None),
-        (b"[a]\ndriver=" + b"d" * 33, "2: PastLimit"),
-        (b"[a]\ndriver=" + b"d" * 33 + b"/", "2: BadName"),
-        (b"[a]\nport=" + b"d" * 128, None),
-        (b"[a]\nport=" + b"d" * 129, "2: PastLimit"),
-        (b"[a]\ndesc=" + b"d" * 128, None),
-        (b"[a]\ndesc=" + b"d" * 129, "2: PastLimit"),
-        (b"[a]\ndesc=x\ndesc=" + b"d" * 129, "3: PastLimit"),
-        (numbered(b"[s%d]\n", 32), None),
-        (numbered(b"[s%d]\n", 33), "33: PastLimit"),
-        (numbered(b"[s%d]\n", 32) + b"[s0]", "33: Repeated"),
-        (numbered(b"[s%d]\n", 32) + b"[s/]", "33: BadName"),
-        (numbered(b"[s%d]\n", 32) + b"desc = x", None),
-    ],
-    "upsd.users": [
-        (b"[mon]\nupsmon tertiary\n", "2: UnknownWord"),
-        (b"[mon]\nupsmon primary\nupsmon secondary\n", "3: Repeated"),
-        (b"[mon]\nupsmon primary\nupsmon x\n", "3: UnknownWord"),
-        (b"[mon]\nupsmon = primary\n", "2: BadForm"),
-        (b"[mon]\nupsmon\n", "2: BadForm"),
-        (b"[mon]\nupsmon Primary\n", "2: UnknownWord"),
-        (b'[a]\npassword = ""\n', "2: PastLimit"),
-        (b'[a]\npassword = x\npassword = ""\n', "3: PastLimit"),
-        (b"[a]\npassword = x\npassword = y\n", "3: Repeated"),
-        (b"[a]\npassword x\n", "2: BadForm"),
-        (b"[a]\nactions = SET\nactions = SET\nactions = FSD\n", None),
-        (b"[a]\nactions = set\n", "2: UnknownWord"),
-        (b"[a]\nactions = ALL\n", "2: UnknownWord"),
-        (b"[a]\nactions = SET FSD\n", "2: BadForm"),
-        (b"[a]\ninstcmds = all\ninstcmds = ALL\ninstcmds = aLl\n", None),
-        (b"[a]\ninstcmds = load.off\ninstcmds = load.off\n", None),
-        (b"[a]\ninstcmds = a/b\n", "2: BadName"),
-        (b'[a]\ninstcmds = ""\n', "2: BadName"),
-        (b"[a]\ninstcmds = a b\n", "2: BadForm"),
-        (b"[a]\ndesc = x\n", "2: UnknownDirective"),
-        (b"password = x\n", "1: OutsideSection"),
-        (b"[a]\n[b]\n[a]\n", "3: Repeated"),
-        (b"[a]\nSET\n", "2: UnknownDirective"),
-        # limits, at each of them and just past it
-        (b"[a]\npassword=" + b"d" * 128, None),
-        (b"[a]\npassword=" + b"d" * 129, "2: PastLimit"),
-        (b"[a]\ninstcmds=" + b"d" * 64, None),
-        (b"[a]\ninstcmds=" + b"d" * 65, "2: PastLimit"),
-        (b"[a]\n" + b"instcmds=x\n" * 128, None),
-        (b"[a]\n" + b"instcmds=x\n" * 129, "130: PastLimit"),
-        (b"[a]\n" + b"instcmds=x\n" * 128 + b"instcmds=/", "130: BadName"),
-        (b"[a]\n" + b"instcmds=ALL\n" * 129, "130: PastLimit"),
-        (b"[a]\n" + b"actions=SET\n" * 1000, None),
-        (numbered(b"[s%d]\n", 64), None),
-        (numbered(b"[s%d]\n", 65), "65: PastLimit"),
-        (numbered(b"[s%d]\n", 64) + b"[s63]", "65: Repeated"),
-        (numbered(b"[s%d]\n", 64) + b"[]", "65: BadName"),
-    ],
-    "upsd.conf": [
-        (b"", None),
-        (b"MAXAGE 15\nMAXAGE 16\n", "2: Repeated"),
-        (b"MAXAGE = 5\n", "1: BadForm"),
-        (b"MAXAGE 0 0\n", "1: BadForm"),
-        (b"MAXAGE 1x\n", "1: BadNumber"),
-        (b'MAXAGE ""\n', "1: BadNumber"),
-        (b"MAXAGE -1\n", "1: BadNumber"),
-        (b"MAXAGE +1\n", "1: BadNumber"),
-        (b"maxage 5\n", "1: UnknownDirective"),
-        (b"[a]\n", "1: UnknownDirective"),
-        (b"LISTEN\n", "1: BadForm"),
-        (b"LISTEN a 1 2\n", "1: BadForm"),
-        (b"LISTEN a_b 1 2\n", "1: BadForm"),
-        (b"LISTEN a_b 0\n", "1: BadName"),
-        (b'LISTEN ""\n', "1: BadName"),
-        (b"LISTEN a 0\n", "1: BadNumber"),
-        (b"LISTEN ::1\nLISTEN ::1\nLISTEN 0.0.0.0 1\n", None),
-        (b"LISTEN = 1\n", "1: BadName"),
-        (b"CERTFILE x\n", "1: UnknownDirective"),
-        # numbers
-        (b"LISTEN a 1\nLISTEN a 65535", None),
-        (b"LISTEN a 65536", "1: BadNumber"),
-        (b"MAXAGE 000000015", None),
-        (b"MAXAGE 0000000015", "1: BadNumber"),
-        # limits, at each of them and just past it
-        (b"LISTEN " + b"a" * 64, None),
-        (b"LISTEN " + b"a" * 65, "1: BadName"),
-        (b"LISTEN a\n" * 16, None),
-        (b"LISTEN a\n" * 17, "17: PastLimit"),
-        (b"LISTEN a\n" * 16 + b"LISTEN a 0", "17: BadNumber"),
-    ],
-    "upsmon.conf": [
-        (b"", "0: PastLimit"),
-        (b"MINSUPPLIES 0\n", None),
-        (b"MONITOR u@h 1 mon m1 primary\n", None),
-        (b"MONITOR u@h 0 mon m1 primary\n", "0: PastLimit"),
-        (b"MONITOR u@h 1 mon m1 primary\nMINSUPPLIES 2\n", "0: PastLimit"),
-        (b"MINSUPPLIES 2\nMONITOR u@h 1 m p primary\nMONITOR v@h 1 m p secondary\n", None),
-        # a faulty line is reported before the sum
-        (b"MINSUPPLIES 2\nFOO\n", "2: UnknownDirective"),
-        # targets
-        (b"MONITOR u 1 m p primary\n", "1: BadName"),
-        (b"MONITOR @h 1 m p primary\n", "1: BadName"),
-        (b"MONITOR u@ 1 m p primary\n", "1: BadName"),
-        (b"MONITOR u@h: 1 m p primary\n", "1: BadName"),
-        (b"MONITOR u@h:0 1 m p primary\n", "1: BadName"),
-        (b"MONITOR u@h:65536 1 m p primary\n", "1: BadName"),
-        (b"MONITOR u@h_ 1 m p primary\n", "1: BadName"),
-        (b'MONITOR "" 1 m p primary\n', "1: BadName"),
-        (b'MONITOR "a b@h" 1 m p primary\n', "1: BadName"),
-        (b"MONITOR u:5@h 1 m p primary\n", "1: BadName"),
-        (b"MONITOR u/@h 1 m p primary\n", "1: BadName"),
-        (b"MONITOR u@:1 1 m p primary\n", "1: BadName"),
-        (b"MONITOR u@h:1:2 1 m p primary\n", "1: BadName"),
-        (b"MONITOR u@h:x 1 m p primary\n", "1: BadName"),
-        (b"MONITOR u@h:+1 1 m p primary\n", "1: BadName"),
-        (b"MONITOR u@::1 1 m p primary\n", "1: BadName"),
-        (b"MONITOR u@h:0000000001 1 m p primary\n", "1: BadName"),
-        (b"MONITOR u@h:000000001 1 m p primary\nMONITOR u@h:1 1 m p primary\n", "2: Repeated"),
-        (b"MONITOR u@h:65535 1 m p primary\nMONITOR u@127.0.0.1:34930 1 m p primary\n", None),
-        (b"MONITOR A.b_c-9@D.e-8 1 m p primary\n", None),
-        (b"MONITOR u@h@i 1 m p primary\n", "1: BadName"),
-        (b"MONITOR u@h 1 m p primary\nMONITOR u@h 2 n q secondary\n", "2: Repeated"),
-        (b"MONITOR u@h 1 m p primary\nMONITOR u@h:3493 1 m p primary\n", "2: Repeated"),
-        (b"MONITOR u@h:03493 1 m p primary\nMONITOR u@h 1 m p primary\n", "2: Repeated"),
-        (b"MONITOR u@h 1 m p primary\nMONITOR u@h:1 1 m p primary\n", None),
-        (b"MONITOR u@h 1 m p primary\nMONITOR u@H 1 m p primary\n", None),
-        (b"MONITOR u@h 1 m p primary\nMONITOR U@h 1 m p primary\n", None),
-        # values are tested from left to right
-        (b"MONITOR u 1 m p\n", "1: BadForm"),
-        (b"MONITOR u@h 1 m p primary x\n", "1: BadForm"),
-        (b"MONITOR u x m p primary\n", "1: BadName"),
-        (b"MONITOR u@h x m/ p primary\n", "1: BadNumber"),
-        (b'MONITOR u@h 1 m/ "" primary\n', "1: BadName"),
-        (b'MONITOR u@h 1 m "" master\n', "1: PastLimit"),
-        (b"MONITOR u@h 1 m p master\n", "1: UnknownWord"),
-        (b"MONITOR u@h 1 m p primary\nMONITOR u@h 1 m p x\n", "2: UnknownWord"),
-        # commands
-        (b'MINSUPPLIES 0\nSHUTDOWNCMD ""\n', "2: PastLimit"),
-        (b"MINSUPPLIES 0\nSHUTDOWNCMD a b\n", "2: BadForm"),
-        (b'MINSUPPLIES 0\nSHUTDOWNCMD a\nSHUTDOWNCMD ""\n', "3: PastLimit"),
-        (b"MINSUPPLIES 0\nSHUTDOWNCMD a\nSHUTDOWNCMD b\n", "3: Repeated"),
-        (b"MINSUPPLIES 0\nNOTIFYCMD a\nPOWERDOWNFLAG a\nNOTIFYCMD a\n", "4: Repeated"),
-        (b"MINSUPPLIES 0\nPOWERDOWNFLAG a\nPOWERDOWNFLAG a\n", "3: Repeated"),
-        (b"MINSUPPLIES 0\nMINSUPPLIES x\n", "2: BadNumber"),
-        # notices
-        (b"MINSUPPLIES 0\nNOTIFYMSG ONLINE x\nNOTIFYMSG ONBATT x\n", None),
-        (b"MINSUPPLIES 0\nNOTIFYMSG ONLINE x\nNOTIFYMSG ONLINE y\n", "3: Repeated"),
-        (b"MINSUPPLIES 0\nNOTIFYMSG ONLINE x\nNOTIFYMSG ONLINE\n", "3: BadForm"),
-        (b"MINSUPPLIES 0\nNOTIFYMSG online x\n", "2: UnknownWord"),
-        (b"MINSUPPLIES 0\nNOTIFYMSG NOPARENT x\n", "2: UnknownWord"),
-        (b'MINSUPPLIES 0\nNOTIFYMSG FSD ""\n', None),
-        (b"MINSUPPLIES 0\nNOTIFYMSG x y z\n", "2: BadForm"),
-        (b"MINSUPPLIES 0\nNOTIFYFLAG ONLINE SYSLOG\nNOTIFYMSG ONLINE x\n", None),
-        (b"MINSUPPLIES 0\nNOTIFYFLAG ONLINE SYSLOG+WALL+EXEC+IGNORE\n", None),
-        (b"MINSUPPLIES 0\nNOTIFYFLAG ONLINE EXEC+EXEC\n", None),
-        (b"MINSUPPLIES 0\nNOTIFYFLAG ONLINE EXEC\nNOTIFYFLAG ONLINE EXEC\n", "3: Repeated"),
-        (b'MINSUPPLIES 0\nNOTIFYFLAG ONLINE ""\n', "2: UnknownWord"),
-        (b"MINSUPPLIES 0\nNOTIFYFLAG ONLINE EXEC+\n", "2: UnknownWord"),
-        (b"MINSUPPLIES 0\nNOTIFYFLAG ONLINE +EXEC\n", "2: UnknownWord"),
-        (b"MINSUPPLIES 0\nNOTIFYFLAG ONLINE EXEC+MAIL\n", "2: UnknownWord"),
-        (b"MINSUPPLIES 0\nNOTIFYFLAG ONLINE exec\n", "2: UnknownWord"),
-        (b"MINSUPPLIES 0\nNOTIFYFLAG ONLINE EXEC + WALL\n", "2: BadForm"),
-        (b"MINSUPPLIES 0\nNOTIFYFLAG TEST EXEC\n", "2: UnknownWord"),
-        # numbers
-        (b"MONITOR u@h 1000 m p primary", None),
-        (b"MONITOR u@h 1001 m p primary", "1: BadNumber"),
-        (b"MINSUPPLIES 32000", "0: PastLimit"),
-        # limits, at each of them and just past it
-        (b"MONITOR " + b"u" * 33 + b"@h 1 m p primary", "1: BadName"),
-        (b"MONITOR " + b"u" * 32 + b"@" + b"h" * 64 + b" 1 m p primary", None),
-        (b"MONITOR u@" + b"h" * 65 + b" 1 m p primary", "1: BadName"),
-        (b"MONITOR u@h 1 " + b"m" * 32 + b" p primary", None),
-        (b"MONITOR u@h 1 " + b"m" * 33 + b" p primary", "1: PastLimit"),
-        (b"MONITOR u@h 1 m " + b"p" * 128 + b" primary", None),
-        (b"MONITOR u@h 1 m " + b"p" * 129 + b" primary", "1: PastLimit"),
-        (b"MINSUPPLIES 0\nSHUTDOWNCMD " + b"c" * 256, None),
-        (b"MINSUPPLIES 0\nSHUTDOWNCMD " + b"c" * 257, "2: PastLimit"),
-        (b"MINSUPPLIES 0\nNOTIFYCMD " + b"c" * 257, "2: PastLimit"),
-        (b"MINSUPPLIES 0\nPOWERDOWNFLAG " + b"c" * 257, "2: PastLimit"),
-        (b"MINSUPPLIES 0\nNOTIFYMSG FSD " + b"c" * 128, None),
-        (b"MINSUPPLIES 0\nNOTIFYMSG FSD " + b"c" * 129, "2: PastLimit"),
-        (b"MINSUPPLIES 0\nNOTIFYMSG X " + b"c" * 129, "2: UnknownWord"),
-        (numbered(b"MONITOR u%d@h 1000 m p primary\n", 32) + b"MINSUPPLIES 32000", None),
-        (numbered(b"MONITOR u%d@h 1000 m p primary\n", 31) + b"MINSUPPLIES 31001", "0: PastLimit"),
-        (numbered(b"MONITOR u%d@h 1000 m p primary\n", 33), "33: PastLimit"),
-        (numbered(b"MONITOR u%d@h 1000 m p primary\n", 32) + b"MONITOR u31@h 1 m p primary", "33: Repeated"),
-        (numbered(b"MONITOR u%d@h 1000 m p primary\n", 32) + b"MONITOR v@h 1 m p x", "33: UnknownWord"),
-    ],
-    "cmdvartab": [
-        (b"", None),
-        (b"# a comment\n\n \t\r\n", None),
-        (b'VARDESC ups.model "UPS model"\n', None),
-        (b'CMDDESC load.cycle "Turn off, then on"', None),
-        (b"VARDESC ups.model UPS\n", None),
-        (b'VARDESC ups.model ""\n', None),
-        (b'VARDESC Ups_a-9.b "x" # a comment\n', None),
-        (b"VARDESC a =\n", None),
-        (b"VARDESC a = x\n", "1: BadForm"),
-        # a variable and a command may share a name, and the case of letters counts
-        (b"VARDESC a x\nCMDDESC a x\n", None),
-        (b"VARDESC a x\nVARDESC A x\n", None),
-        (b"VARDESC a x\nVARDESC b x\n\nVARDESC a y\n", "4: Repeated"),
-        (b"CMDDESC a x\nVARDESC a x\nCMDDESC a x\n", "3: Repeated"),
-        # words that don't read
-        (b'VARDESC a "x\n', "1: Unreadable"),
-        (b'VARDESC a x\\', "1: Unreadable"),
-        (b'VARDESC a "caf\xc3\xa9"\n', "1: Unreadable"),
-        (b'VARDESC a "x\ty"\n', "1: Unreadable"),
-        # directives, byte for byte
-        (b"vardesc a x\n", "1: UnknownDirective"),
-        (b"VARDESCR a x\n", "1: UnknownDirective"),
-        (b"DESC a x\n", "1: UnknownDirective"),
-        (b"[a]\n", "1: UnknownDirective"),
-        (b'""\n', "1: UnknownDirective"),
-        # form
-        (b"VARDESC\n", "1: BadForm"),
-        (b"VARDESC a\n", "1: BadForm"),
-        (b"CMDDESC a\n", "1: BadForm"),
-        (b"VARDESC a UPS model\n", "1: BadForm"),
-        (b"CMDDESC a b c\n", "1: BadForm"),
-        # form before the name, the name before the text, values before a repetition
-        (b"VARDESC a/b\n", "1: BadForm"),
-        (b"VARDESC a/b x\n", "1: BadName"),
-        (b'CMDDESC "" x\n', "1: BadName"),
-        (b'CMDDESC "a b" x\n', "1: BadName"),
-        (b"VARDESC a x\nVARDESC a/ x\n", "2: BadName"),
-        (b"VARDESC a x\nVARDESC a\n", "2: BadForm"),
-        # the first faulty line is named
-        (b"\n# x\nVARDESC a x\nFOO\nVARDESC a y\n", "4: UnknownDirective"),
-        # limits, at each of them and just past it
-        (b"VARDESC " + b"a" * 64 + b" x", None),
-        (b"VARDESC " + b"a" * 65 + b" x", "1: PastLimit"),
-        (b"VARDESC " + b"a" * 65 + b"/ x", "1: BadName"),
-        (b"CMDDESC a " + b"x" * 128, None),
-        (b"CMDDESC a " + b"x" * 129, "1: PastLimit"),
-        # a text that is too long comes before a repetition
-        (b"CMDDESC a x\nCMDDESC a " + b"x" * 129, "2: PastLimit"),
-        (b"CMDDESC a x\n" + numbered(b"VARDESC v%d x\n", 1024), None),
-        (b"CMDDESC a x\n" + numbered(b"VARDESC v%d x\n", 1025), "1026: PastLimit"),
-    ],
-}
+def monitor(*targets):
+    """Returns an upsmon.conf that monitors these."""
+    return b"".join(b"MONITOR %b 1 m p primary\n" % it for it in targets)
+
+
+def fine(*texts):
+    """Returns a row for each of these texts, which have no fault."""
+    return [(text, None) for text in texts]
+
+
+def faulty(fault, *texts):
+    """Returns a row for each of these texts, which have the same fault."""
+    return [(text, fault) for text in texts]
+
+
+def limit(form, part, most, *fault):
+    """Returns a row of a text at a limit, which has this part so many times, and one of the text just past it."""
+    return [(form.replace(b"%b", part * most), None), (form.replace(b"%b", part * (most + 1)), *fault)]
 
 
 def named(most):
@@ -347,123 +59,276 @@ LONG = "a line has at most 512 bytes"
 # a password, which nothing ever shows
 SECRET = b"ge/heim"
 
-# For each file texts with a fault, the kind of the fault, and what is said to be meant.
-MEANT = {
+# For each file rows: a text of it, the line and the kind of its fault, or None if it has none, and for some what is said to be
+# expected in that place.
+FILES = {
     "ups.conf": [
-        (b"[a]\n[a]\n", "Repeated", "[a]: a line before has it"),
-        (b"[a]\nport = x\nport = y\n", "Repeated", "port: a line before has it"),
-        (b"[a/b]\n", "BadName", f"[a/b]: {named(32)}"),
-        (b"[]\n", "BadName", f"[]: {named(32)}"),
-        (b"[a]\ndriver = a/\n", "BadName", f"a/: {named(32)}"),
-        (b'[a]\ndriver = ""\n', "BadName", f"NAME: {named(32)}"),
-        (b"[a]\ndriver = x y\n", "BadForm", "driver = NAME is meant"),
-        (b"[a]\nport /dev/x\n", "BadForm", 'port = "TEXT" is meant'),
-        (b"[a]\ndesc = two words\n", "BadForm", 'desc = "TEXT" is meant'),
-        (b"port = x\n", "OutsideSection", "port: a line [NAME] has to come before it"),
-        (b"maxretry = 3\n", "OutsideSection", "maxretry isn't taken here: see from-nut(7)"),
-        (b"[a]\nvendorid = 3\n", "UnknownDirective", "vendorid isn't taken here: see from-nut(7)"),
-        (b"[a]\nport=" + b"d" * 129, "PastLimit", "TEXT: 0 to 128 bytes are meant"),
-        (b"[a]\ndesc=" + b"d" * 129, "PastLimit", "TEXT: 0 to 128 bytes are meant"),
-        (b"[a]\n#" + b"#" * 512, "PastLimit", LONG),
-        (b"\n" * 1_048_577, "PastLimit", "a file has at most 1048576 bytes"),
-        (numbered(b"[s%d]\n", 33), "PastLimit", "ups.conf has at most 32 sections, and upsd.users 64"),
-        # bytes, by the column of the first one
-        (b"# Ger\xe4t\n", "Unreadable", f"byte 0xe4 at column 6: {MENDED}"),
-        (b"[a] # Ger\xe4t\n", "Unreadable", f"byte 0xe4 at column 10: {ASCII}"),
-        (b"[a]\ndesc = \xc2\xa0\n", "Unreadable", f"byte 0xc2 at column 8: {ASCII}"),
-        (b'[a]\ndesc = "a\tb"\n', "Unreadable", f"byte 0x09 at column 10: {ASCII}"),
-        (b"[a]\n\x00\n", "Unreadable", f"byte 0x00 at column 1: {ASCII}"),
-        (b'[a]\ndesc = "a\n', "Unreadable", f"{UNREAD}a quote is not closed"),
-        (b"[a]\ndesc = a\\\n", "Unreadable", f"{UNREAD}a backslash stands at the end"),
-        (b'[a]\ndesc = a"b"\n', "Unreadable", f"{UNREAD}a quote inside a word"),
-        (b'[a]\ndesc = "a"b\n', "Unreadable", f"{UNREAD}a byte right after a closing quote"),
-        (b"a " * 33, "Unreadable", f"{UNREAD}more than 32 words"),
+        *fine(b"", b"[A.b_c-9]\n[a.b_c-9]\n", b"[a]\ndesc = =\n"),
+        # words that cannot be read, by the column of the first byte
+        (b"# Ger\xe4t\n", "1: Unreadable", f"byte 0xe4 at column 6: {MENDED}"),
+        (b"[a] # Ger\xe4t\n", "1: Unreadable", f"byte 0xe4 at column 10: {ASCII}"),
+        (b"[a]\ndesc = \xc2\xa0\n", "2: Unreadable", f"byte 0xc2 at column 8: {ASCII}"),
+        (b'[a]\ndesc = "a\tb"\n', "2: Unreadable", f"byte 0x09 at column 10: {ASCII}"),
+        (b"[a]\n\x00\n", "2: Unreadable", f"byte 0x00 at column 1: {ASCII}"),
+        (b'[a]\ndesc = "a\n', "2: Unreadable", f"{UNREAD}a quote is not closed"),
+        (b"[a]\ndesc = a\\\n", "2: Unreadable", f"{UNREAD}a backslash stands at the end"),
+        (b'[a]\ndesc = a"b"\n', "2: Unreadable", f"{UNREAD}a quote inside a word"),
+        (b'[a]\ndesc = "a"b\n', "2: Unreadable", f"{UNREAD}a byte right after a closing quote"),
+        (b'[a] "', "1: Unreadable"),
+        *faulty("2: Unreadable", b'[a]\ndesc = "x', b"[a]\ndesc = x\\"),
+        # section lines
+        (b"[]\n", "1: BadName", f"[]: {named(32)}"),
+        (b"[a/b]\n", "1: BadName", f"[a/b]: {named(32)}"),
+        (b'"[a b]"\n', "1: BadName"),
+        (b"[a]\n[a]\n", "2: Repeated", "[a]: a line before has it"),
+        (b'"[a]"\n[a]\n', "2: Repeated"),
+        (b"[a] x\n", "1: OutsideSection"),
+        *faulty("2: UnknownDirective", b"[a]\n[b] x\n", b"[a]\n[b\n", b"[a]\nb]\n", b"[a]\n[\n"),
+        # before the first section only this is tested
+        (b"port = x\n", "1: OutsideSection", "port: a line [NAME] has to come before it"),
+        (b"maxretry = 3\n", "1: OutsideSection", "maxretry isn't taken here: see from-nut(7)"),
+        (b"# ours\n\n  pollinterval=2", "3: OutsideSection", "pollinterval isn't taken here: see from-nut(7)"),
+        *faulty("1: OutsideSection", b"foo\n", b"desc\n"),
+        # directives, byte for byte
+        (b"[a]\nvendorid = 3\n", "2: UnknownDirective", "vendorid isn't taken here: see from-nut(7)"),
+        *faulty("2: UnknownDirective", b"[a]\nDesc = x\n", b"[a]\ndesc2 = x\n", b"[a]\nfoo\n"),
+        # as the reader reads it: without quotes and backslashes
+        (b'[a]\n"a b" = 1\n', "2: UnknownDirective", "a b isn't taken here: see from-nut(7)"),
+        (b"[a]\nv\\en\\dor = 1\n", "2: UnknownDirective", "vendor isn't taken here: see from-nut(7)"),
+        (b'[a]\n"" = 1\n', "2: UnknownDirective", "a directive of ups.conf is meant"),
+        # form
+        (b"[a]\ndriver = x y\n", "2: BadForm", "driver = NAME is meant"),
+        (b"[a]\nport /dev/x\n", "2: BadForm", 'port = "TEXT" is meant'),
+        (b"[a]\ndesc = two words\n", "2: BadForm", 'desc = "TEXT" is meant'),
+        *faulty("2: BadForm", b"[a]\ndesc x\n", b"[a]\ndesc =\n", b"[a]\ndesc == x\n", b"[a]\ndesc\n"),
+        # form is tested before values, and values before repetition
+        (b"[a]\ndriver = a/ b\n", "2: BadForm"),
+        (b"[a]\ndesc = x\ndesc =\n", "3: BadForm"),
+        (b"[a]\ndriver = a/\n", "2: BadName", f"a/: {named(32)}"),
+        (b'[a]\ndriver = ""\n', "2: BadName", f"NAME: {named(32)}"),
+        *faulty("3: BadName", b"[a]\ndriver = x\ndriver = a/\n", b'[a]\ndriver = x\ndriver = ""\n'),
+        (b"[a]\nport = x\nport = y\n", "3: Repeated", "port: a line before has it"),
+        *faulty("5: Repeated", b"[a]\ndriver = x\nport = x\ndesc = x\ndriver = x\n", b"[a]\ndesc = x\n\n# c\ndesc = y\n"),
+        # carriage returns are blanks
+        (b"[a]\r\ndesc = x\r\n\r\n[a]\r\n", "4: Repeated"),
+        (b"[a]\r\n\r\n \t# c\r\ndesc=x\r\nport=y", None),
+        # each section is tested on its own; the first faulty line is reported
+        (b"[a]\ndesc = x\n[b]\ndesc = x\n", None),
+        (b"[a]\nfoo = x\n[a]\n", "2: UnknownDirective"),
+        # limits, at each of them and just past it
+        *limit(b"%b", b"\n", 1_048_576, "0: PastLimit", "a file has at most 1048576 bytes"),
+        (b"x" * 1_048_577, "0: PastLimit"),
+        (b"x" * 1_048_576, "1: PastLimit"),
+        *limit(b"%b\n[a]", b"#", 512, "1: PastLimit", LONG),
+        *limit(b"%b\r\n", b"#", 511, "1: PastLimit", LONG),
+        (b'"' * 513, "1: PastLimit"),
+        (b"a " * 32, "1: OutsideSection"),
+        (b"a " * 33, "1: Unreadable", f"{UNREAD}more than 32 words"),
+        *limit(b"[%b]", b"a", 32, "1: PastLimit"),
+        (b"[" + b"a" * 33 + b"/]", "1: BadName"),
+        *limit(b"[a]\ndriver=%b", b"d", 32, "2: PastLimit"),
+        (b"[a]\ndriver=" + b"d" * 33 + b"/", "2: BadName"),
+        *limit(b"[a]\nport=%b", b"d", 128, "2: PastLimit", "TEXT: 0 to 128 bytes are meant"),
+        *limit(b"[a]\ndesc=%b", b"d", 128, "2: PastLimit", "TEXT: 0 to 128 bytes are meant"),
+        (b"[a]\ndesc=x\ndesc=" + b"d" * 129, "3: PastLimit"),
+        (numbered(b"[s%d]\n", 33), "33: PastLimit", "ups.conf has at most 32 sections, and upsd.users 64"),
+        *fine(numbered(b"[s%d]\n", 32), numbered(b"[s%d]\n", 32) + b"desc = x"),
+        (numbered(b"[s%d]\n", 32) + b"[s0]", "33: Repeated"),
+        (numbered(b"[s%d]\n", 32) + b"[s/]", "33: BadName"),
     ],
     "upsd.users": [
-        (b"[a]\nupsmon master\n", "UnknownWord", f"master: {ROLE}"),
-        (b"[a]\nupsmon = primary\n", "BadForm", "upsmon primary or upsmon secondary is meant"),
-        (b"[a]\nactions = set\n", "UnknownWord", "set: 'SET' or 'FSD' is meant"),
-        (b"[a]\nactions SET\n", "BadForm", "actions = SET or actions = FSD is meant"),
-        (b"[a]\ninstcmds = a/b\n", "BadName", f"a/b: {named(64)}"),
-        (b"[a]\ninstcmds = a b\n", "BadForm", "instcmds = COMMAND or instcmds = ALL is meant"),
-        (b"[a]\n" + b"instcmds=x\n" * 129, "PastLimit", "at most 128 instcmds lines are taken"),
-        (b"[a]\nupsmon primary\nupsmon primary\n", "Repeated", "upsmon: a line before has it"),
-        (b"[a]\nallowfrom = x\n", "UnknownDirective", "allowfrom isn't taken here: see from-nut(7)"),
-        (numbered(b"[s%d]\n", 65), "PastLimit", "ups.conf has at most 32 sections, and upsd.users 64"),
+        *fine(b"[a]\nactions = SET\nactions = SET\nactions = FSD\n", b"[a]\n" + b"actions=SET\n" * 1000),
+        *fine(b"[a]\ninstcmds = all\ninstcmds = ALL\ninstcmds = aLl\n", b"[a]\ninstcmds = load.off\ninstcmds = load.off\n"),
+        (b"[a]\nupsmon master\n", "2: UnknownWord", f"master: {ROLE}"),
+        (b"[a]\nupsmon Primary\n", "2: UnknownWord"),
+        (b"[a]\nupsmon primary\nupsmon x\n", "3: UnknownWord"),
+        (b"[a]\nupsmon = primary\n", "2: BadForm", "upsmon primary or upsmon secondary is meant"),
+        (b"[a]\nupsmon\n", "2: BadForm"),
+        (b"[a]\nupsmon primary\nupsmon primary\n", "3: Repeated", "upsmon: a line before has it"),
+        (b"[a]\nupsmon primary\nupsmon secondary\n", "3: Repeated"),
+        (b"[a]\nactions = set\n", "2: UnknownWord", "set: 'SET' or 'FSD' is meant"),
+        (b"[a]\nactions = ALL\n", "2: UnknownWord"),
+        (b"[a]\nactions SET\n", "2: BadForm", "actions = SET or actions = FSD is meant"),
+        (b"[a]\nactions = SET FSD\n", "2: BadForm"),
+        (b"[a]\ninstcmds = a/b\n", "2: BadName", f"a/b: {named(64)}"),
+        (b'[a]\ninstcmds = ""\n', "2: BadName"),
+        (b"[a]\ninstcmds = a b\n", "2: BadForm", "instcmds = COMMAND or instcmds = ALL is meant"),
+        (b"[a]\r\nallowfrom = x\r\n", "2: UnknownDirective", "allowfrom isn't taken here: see from-nut(7)"),
+        (b"allowfrom = x\n", "1: OutsideSection", "allowfrom isn't taken here: see from-nut(7)"),
+        *faulty("2: UnknownDirective", b"[a]\ndesc = x\n", b"[a]\nSET\n"),
+        (b"[a]\n[b]\n[a]\n", "3: Repeated"),
         # lines with a password
-        (b"[a]\npassword = %b x\n" % SECRET, "BadForm", 'password = "TEXT" is meant'),
-        (b"[a]\npassword %b\n" % SECRET, "BadForm", 'password = "TEXT" is meant'),
-        (b"[a]\npassword = " + SECRET * 20, "PastLimit", "TEXT: 1 to 128 bytes are meant"),
-        (b"[a]\npassword = x\npassword = %b\n" % SECRET, "Repeated", "password: a line before has it"),
-        (b"password = %b\n" % SECRET, "OutsideSection", "password: a line [NAME] has to come before it"),
-        (b"[a]\npassword = %b\xfc\n" % SECRET, "Unreadable", f"column 19: {ASCII}"),
-        (b"[a]\n  # Password = %b\xfc\n" % SECRET, "Unreadable", f"column 23: {ASCII}"),
-        (b'[a]\npassword = "%b\n' % SECRET, "Unreadable", f"{UNREAD}a quote is not closed"),
-        (b"[a]\nPassword = %b\n" % SECRET, "UnknownDirective", "Password isn't taken here: see from-nut(7)"),
-        (b"[a]\n%b\n" % SECRET, "UnknownDirective", "a directive of upsd.users is meant"),
-        (b"[a]\npassword%b\n" % SECRET, "UnknownDirective", "a directive of upsd.users is meant"),
-        (b"%b\n[a]\n" % SECRET, "OutsideSection", "a directive of upsd.users is meant"),
+        (b"[a]\npassword = %b x\n" % SECRET, "2: BadForm", 'password = "TEXT" is meant'),
+        (b"[a]\npassword %b\n" % SECRET, "2: BadForm", 'password = "TEXT" is meant'),
+        (b"[a]\npassword = " + SECRET * 20, "2: PastLimit", "TEXT: 1 to 128 bytes are meant"),
+        (b'[a]\npassword = ""\n', "2: PastLimit", "TEXT: 1 to 128 bytes are meant"),
+        (b'[a]\npassword = x\npassword = ""\n', "3: PastLimit"),
+        (b"[a]\npassword = x\npassword = %b\n" % SECRET, "3: Repeated", "password: a line before has it"),
+        (b"password = %b\n" % SECRET, "1: OutsideSection", "password: a line [NAME] has to come before it"),
+        (b"[a]\npassword = %b\xfc\n" % SECRET, "2: Unreadable", f"column 19: {ASCII}"),
+        (b"[a]\n  # Password = %b\xfc\n" % SECRET, "2: Unreadable", f"column 23: {ASCII}"),
+        (b'[a]\npassword = "%b\n' % SECRET, "2: Unreadable", f"{UNREAD}a quote is not closed"),
+        (b"[a]\nPassword = %b\n" % SECRET, "2: UnknownDirective", "Password isn't taken here: see from-nut(7)"),
+        (b"[a]\n%b\n" % SECRET, "2: UnknownDirective", "a directive of upsd.users is meant"),
+        (b"[a]\npassword%b\n" % SECRET, "2: UnknownDirective", "a directive of upsd.users is meant"),
+        (b"%b\n[a]\n" % SECRET, "1: OutsideSection", "a directive of upsd.users is meant"),
+        # limits, at each of them and just past it
+        *limit(b"[a]\npassword=%b", b"d", 128, "2: PastLimit"),
+        *limit(b"[a]\ninstcmds=%b", b"d", 64, "2: PastLimit"),
+        *limit(b"[a]\n%b", b"instcmds=x\n", 128, "130: PastLimit", "at most 128 instcmds lines are taken"),
+        (b"[a]\n" + b"instcmds=x\n" * 128 + b"instcmds=/", "130: BadName"),
+        (b"[a]\n" + b"instcmds=ALL\n" * 129, "130: PastLimit"),
+        (numbered(b"[s%d]\n", 64), None),
+        (numbered(b"[s%d]\n", 65), "65: PastLimit", "ups.conf has at most 32 sections, and upsd.users 64"),
+        (numbered(b"[s%d]\n", 64) + b"[s63]", "65: Repeated"),
+        (numbered(b"[s%d]\n", 64) + b"[]", "65: BadName"),
     ],
     "upsd.conf": [
-        (b"LISTEN [::1]\n", "BadName", f"[::1]: {ADDRESS}"),
-        (b"LISTEN *\n", "BadName", f"*: {ADDRESS}"),
-        (b"LISTEN\n", "BadForm", "LISTEN ADDRESS [PORT] is meant"),
-        (b"LISTEN a 65536\n", "BadNumber", "65536: a number from 1 to 65535 is meant"),
-        (b"LISTEN a\n" * 17, "PastLimit", "at most 16 LISTEN lines are taken"),
-        (b'MAXAGE ""\n', "BadNumber", "SECONDS: a number from 1 to 86400 is meant"),
-        (b"MAXAGE = 5\n", "BadForm", "MAXAGE SECONDS is meant"),
-        (b"STATEPATH x\n", "UnknownDirective", "STATEPATH isn't taken here: see from-nut(7)"),
+        *fine(b"", b"LISTEN ::1\nLISTEN ::1\nLISTEN 0.0.0.0 1\n", b"LISTEN a 1\nLISTEN a 65535", b"MAXAGE 000000015"),
+        (b"# \xff\n", "1: Unreadable", f"byte 0xff at column 3: {MENDED}"),
+        (b"MAXAGE 15\nMAXAGE 16\n", "2: Repeated", "MAXAGE: a line before has it"),
+        (b"MAXAGE = 5\n", "1: BadForm", "MAXAGE SECONDS is meant"),
+        (b"MAXAGE 0 0\n", "1: BadForm"),
+        (b'MAXAGE ""\n', "1: BadNumber", "SECONDS: a number from 1 to 86400 is meant"),
+        *faulty("1: BadNumber", b"MAXAGE 1x\n", b"MAXAGE -1\n", b"MAXAGE +1\n", b"MAXAGE 0000000015"),
+        (b"LISTEN\n", "1: BadForm", "LISTEN ADDRESS [PORT] is meant"),
+        *faulty("1: BadForm", b"LISTEN a 1 2\n", b"LISTEN a_b 1 2\n"),
+        (b"LISTEN [::1]\n", "1: BadName", f"[::1]: {ADDRESS}"),
+        (b"LISTEN *\n", "1: BadName", f"*: {ADDRESS}"),
+        *faulty("1: BadName", b"LISTEN a_b 0\n", b'LISTEN ""\n', b"LISTEN = 1\n"),
+        (b"LISTEN a 65536\n", "1: BadNumber", "65536: a number from 1 to 65535 is meant"),
+        (b"LISTEN a 0\n", "1: BadNumber"),
+        (b"STATEPATH x\n", "1: UnknownDirective", "STATEPATH isn't taken here: see from-nut(7)"),
+        (b"w" * 500 + b" 1\n", "1: UnknownDirective", f"{'w' * 500} isn't taken here: see from-nut(7)"),
+        *faulty("1: UnknownDirective", b"maxage 5\n", b"[a]\n"),
+        # limits, at each of them and just past it
+        *limit(b"LISTEN %b", b"a", 64, "1: BadName"),
+        *limit(b"%b", b"LISTEN a\n", 16, "17: PastLimit", "at most 16 LISTEN lines are taken"),
+        (b"LISTEN a\n" * 16 + b"LISTEN a 0", "17: BadNumber"),
     ],
     "upsmon.conf": [
-        (b"", "PastLimit", POWER),
-        (b"SHUTDOWNCMD /sbin/shutdown -h\n", "BadForm", 'SHUTDOWNCMD "COMMAND" is meant'),
-        (b'SHUTDOWNCMD ""\n', "PastLimit", "COMMAND: 1 to 256 bytes are meant"),
-        (b"NOTIFYCMD a b\n", "BadForm", 'NOTIFYCMD "COMMAND" is meant'),
-        (b"NOTIFYCMD " + b"c" * 257, "PastLimit", "COMMAND: 1 to 256 bytes are meant"),
-        (b"POWERDOWNFLAG a b\n", "BadForm", 'POWERDOWNFLAG "FILE" is meant'),
-        (b"POWERDOWNFLAG " + b"c" * 257, "PastLimit", "FILE: 1 to 256 bytes are meant"),
-        (b"NOTIFYMSG ONLINE on line\n", "BadForm", 'NOTIFYMSG TYPE "TEXT" is meant'),
-        (b"NOTIFYMSG NOPARENT x\n", "UnknownWord", f"NOPARENT: {TYPE}"),
-        (b"NOTIFYMSG FSD " + b"c" * 129, "PastLimit", "TEXT: 0 to 128 bytes are meant"),
-        (b"NOTIFYMSG FSD a\nNOTIFYMSG FSD b\n", "Repeated", "FSD: a line before has it"),
-        (b"NOTIFYFLAG ONLINE EXEC + WALL\n", "BadForm", "NOTIFYFLAG TYPE FLAG[+FLAG].. is meant"),
-        (b"NOTIFYFLAG ONLINE MAIL\n", "UnknownWord", f"MAIL: {FLAGS}"),
-        (b"NOTIFYFLAG TEST MAIL\n", "UnknownWord", f"TEST: {TYPE}"),
-        (b"RUN_AS_USER nut\n", "UnknownDirective", "RUN_AS_USER isn't taken here: see from-nut(7)"),
-        (b"monitor u@h 1 m %b primary\n" % SECRET, "UnknownDirective", "monitor isn't taken here: see from-nut(7)"),
-        (numbered(b"MONITOR u%d@h 1 m p primary\n", 33), "PastLimit", "at most 32 MONITOR lines are taken"),
+        (b"", "0: PastLimit", POWER),
+        *fine(b"MINSUPPLIES 0\n", b"MONITOR u@h 1 mon m1 primary\n"),
+        *faulty("0: PastLimit", b"MONITOR u@h 0 mon m1 primary\n", b"MONITOR u@h 1 mon m1 primary\nMINSUPPLIES 2\n"),
+        (b"MINSUPPLIES 2\nMONITOR u@h 1 m p primary\nMONITOR v@h 1 m p secondary\n", None),
+        # a faulty line is reported before the sum
+        (b"MINSUPPLIES 2\nFOO\n", "2: UnknownDirective"),
+        # targets
+        *faulty("1: BadName", *map(monitor, (b"u", b"@h", b"u@", b"u@h:", b"u@h:0", b"u@h:65536", b"u@h_", b'""', b'"a b@h"', b"u:5@h"))),
+        *faulty("1: BadName", *map(monitor, (b"u/@h", b"u@:1", b"u@h:1:2", b"u@h:x", b"u@h:+1", b"u@::1", b"u@h:0000000001", b"u@h@i"))),
+        *fine(*map(monitor, (b"u@h:65535", b"u@127.0.0.1:34930", b"A.b_c-9@D.e-8"))),
+        *faulty("2: Repeated", monitor(b"u@h:000000001", b"u@h:1"), monitor(b"u@h", b"u@h:3493"), monitor(b"u@h:03493", b"u@h")),
+        *fine(monitor(b"u@h", b"u@h:1"), monitor(b"u@h", b"u@H"), monitor(b"u@h", b"U@h")),
+        # values are tested from left to right
+        *faulty("1: BadForm", b"MONITOR u 1 m p\n", b"MONITOR u@h 1 m p primary x\n"),
+        (b"MONITOR u x m p primary\n", "1: BadName"),
+        (b"MONITOR u@h x m/ p primary\n", "1: BadNumber"),
+        (b'MONITOR u@h 1 m/ "" primary\n', "1: BadName"),
+        (b'MONITOR u@h 1 m "" master\n', "1: PastLimit"),
+        (b"MONITOR u@h 1 m p primary\nMONITOR u@h 1 m p x\n", "2: UnknownWord"),
         # lines with a password, which may be in a wrong place
-        (b"MONITOR su700 1 m %b primary\n" % SECRET, "BadName", f"su700: {TARGET}"),
-        (b"MONITOR u@[::1] 1 m %b primary\n" % SECRET, "BadName", f"u@[::1]: {TARGET}"),
-        (b"MONITOR u@h %b m 1 primary\n" % SECRET, "BadNumber", "POWER: a number from 0 to 1000 is meant"),
-        (b"MONITOR u@h 1 %b m primary\n" % SECRET, "BadName", f"USER: {named(32)}"),
-        (b"MONITOR u@h 1 " + SECRET * 5 + b" m primary\n", "BadName", f"USER: {named(32)}"),
-        (b'MONITOR u@h 1 m "" primary\n', "PastLimit", "PASSWORD: 1 to 128 bytes are meant"),
-        (b"MONITOR u@h 1 m " + SECRET * 20 + b" primary\n", "PastLimit", "PASSWORD: 1 to 128 bytes are meant"),
-        (b"MONITOR u@h 1 m primary %b\n" % SECRET, "UnknownWord", f"ROLE: {ROLE}"),
-        (b"MONITOR u@h 1 m %b master\n" % SECRET, "UnknownWord", f"master: {ROLE}"),
-        (b"MONITOR u@h 1 m %b slave\n" % SECRET, "UnknownWord", f"slave: {ROLE}"),
-        (b"MONITOR u@h m %b primary\n" % SECRET, "BadForm", MONITOR),
-        (b"MONITOR u@h 1 m %b\n" % SECRET, "BadForm", MONITOR),
-        (b"MONITOR u@h 1 m p primary\nMONITOR u@h 1 m %b primary\n" % SECRET, "Repeated", "u@h: a line before has it"),
-        (b"MONITOR u@h 1 m p primary\n%b primary\n" % SECRET, "UnknownDirective", "a directive of upsmon.conf is meant"),
-        (b"MONITOR u@h 1 m %b\xfc primary\n" % SECRET, "Unreadable", f"column 24: {ASCII}"),
-        (b"#MONITOR u@h 1 m %b\xfc primary\n" % SECRET, "Unreadable", f"column 25: {MENDED}"),
+        (b"MONITOR su700 1 m %b primary\n" % SECRET, "1: BadName", f"su700: {TARGET}"),
+        (b"MONITOR u@[::1] 1 m %b primary\n" % SECRET, "1: BadName", f"u@[::1]: {TARGET}"),
+        (b"MONITOR u@h %b m 1 primary\n" % SECRET, "1: BadNumber", "POWER: a number from 0 to 1000 is meant"),
+        (b"MONITOR u@h 1 %b m primary\n" % SECRET, "1: BadName", f"USER: {named(32)}"),
+        (b"MONITOR u@h 1 " + SECRET * 5 + b" m primary\n", "1: BadName", f"USER: {named(32)}"),
+        (b'MONITOR u@h 1 m "" primary\n', "1: PastLimit", "PASSWORD: 1 to 128 bytes are meant"),
+        (b"MONITOR u@h 1 m " + SECRET * 20 + b" primary\n", "1: PastLimit", "PASSWORD: 1 to 128 bytes are meant"),
+        (b"MONITOR u@h 1 m primary %b\n" % SECRET, "1: UnknownWord", f"ROLE: {ROLE}"),
+        (b"MONITOR u@h 1 m %b master\n" % SECRET, "1: UnknownWord", f"master: {ROLE}"),
+        (b"MONITOR u@h 1 m %b slave\n" % SECRET, "1: UnknownWord", f"slave: {ROLE}"),
+        (b"MONITOR u@h m %b primary\n" % SECRET, "1: BadForm", MONITOR),
+        (b"MONITOR u@h 1 m %b\n" % SECRET, "1: BadForm", MONITOR),
+        (b"MONITOR u@h 1 m p primary\nMONITOR u@h 2 n %b secondary\n" % SECRET, "2: Repeated", "u@h: a line before has it"),
+        (b"MONITOR u@h 1 m p primary\n%b primary\n" % SECRET, "2: UnknownDirective", "a directive of upsmon.conf is meant"),
+        (b"monitor u@h 1 m %b primary\n" % SECRET, "1: UnknownDirective", "monitor isn't taken here: see from-nut(7)"),
+        (b"MONITOR u@h 1 m %b\xfc primary\n" % SECRET, "1: Unreadable", f"column 24: {ASCII}"),
+        (b"#MONITOR u@h 1 m %b\xfc primary\n" % SECRET, "1: Unreadable", f"column 25: {MENDED}"),
+        # commands
+        (b"SHUTDOWNCMD /sbin/shutdown -h\n", "1: BadForm", 'SHUTDOWNCMD "COMMAND" is meant'),
+        (b'SHUTDOWNCMD ""\n', "1: PastLimit", "COMMAND: 1 to 256 bytes are meant"),
+        (b"NOTIFYCMD a b\n", "1: BadForm", 'NOTIFYCMD "COMMAND" is meant'),
+        (b"NOTIFYCMD " + b"c" * 257, "1: PastLimit", "COMMAND: 1 to 256 bytes are meant"),
+        (b"POWERDOWNFLAG a b\n", "1: BadForm", 'POWERDOWNFLAG "FILE" is meant'),
+        (b"POWERDOWNFLAG " + b"c" * 257, "1: PastLimit", "FILE: 1 to 256 bytes are meant"),
+        (b'SHUTDOWNCMD a\nSHUTDOWNCMD ""\n', "2: PastLimit"),
+        *faulty("2: Repeated", b"SHUTDOWNCMD a\nSHUTDOWNCMD b\n", b"POWERDOWNFLAG a\nPOWERDOWNFLAG a\n"),
+        (b"NOTIFYCMD a\nPOWERDOWNFLAG a\nNOTIFYCMD a\n", "3: Repeated"),
+        (b"RUN_AS_USER nut\n", "1: UnknownDirective", "RUN_AS_USER isn't taken here: see from-nut(7)"),
+        # notices
+        *fine(b"MINSUPPLIES 0\nNOTIFYMSG ONLINE x\nNOTIFYMSG ONBATT x\n", b'MINSUPPLIES 0\nNOTIFYMSG FSD ""\n'),
+        *fine(b"MINSUPPLIES 0\nNOTIFYFLAG ONLINE SYSLOG\nNOTIFYMSG ONLINE x\n"),
+        *fine(*(b"MINSUPPLIES 0\nNOTIFYFLAG ONLINE %b\n" % it for it in (b"SYSLOG+WALL+EXEC+IGNORE", b"EXEC+EXEC"))),
+        (b"NOTIFYMSG FSD a\nNOTIFYMSG FSD b\n", "2: Repeated", "FSD: a line before has it"),
+        (b"NOTIFYFLAG ONLINE EXEC\nNOTIFYFLAG ONLINE EXEC\n", "2: Repeated"),
+        (b"NOTIFYMSG ONLINE on line\n", "1: BadForm", 'NOTIFYMSG TYPE "TEXT" is meant'),
+        (b"NOTIFYMSG x y z\n", "1: BadForm"),
+        (b"NOTIFYMSG ONLINE x\nNOTIFYMSG ONLINE\n", "2: BadForm"),
+        (b"NOTIFYMSG NOPARENT x\n", "1: UnknownWord", f"NOPARENT: {TYPE}"),
+        (b"NOTIFYMSG online x\n", "1: UnknownWord"),
+        (b"NOTIFYFLAG ONLINE EXEC + WALL\n", "1: BadForm", "NOTIFYFLAG TYPE FLAG[+FLAG].. is meant"),
+        (b"NOTIFYFLAG ONLINE MAIL\n", "1: UnknownWord", f"MAIL: {FLAGS}"),
+        *faulty("1: UnknownWord", *(b"NOTIFYFLAG ONLINE %b\n" % it for it in (b'""', b"EXEC+", b"+EXEC", b"EXEC+MAIL", b"exec"))),
+        (b"NOTIFYFLAG TEST MAIL\n", "1: UnknownWord", f"TEST: {TYPE}"),
+        (b"NOTIFYFLAG TEST EXEC\n", "1: UnknownWord"),
+        # numbers
+        (b"MONITOR u@h 1000 m p primary", None),
+        (b"MONITOR u@h 1001 m p primary", "1: BadNumber"),
+        (b"MINSUPPLIES 0\nMINSUPPLIES x\n", "2: BadNumber"),
+        (b"MINSUPPLIES 32000", "0: PastLimit"),
+        # limits, at each of them and just past it
+        *limit(b"MONITOR %b@h 1 m p primary", b"u", 32, "1: BadName"),
+        *limit(b"MONITOR " + b"u" * 32 + b"@%b 1 m p primary", b"h", 64, "1: BadName"),
+        *limit(b"MONITOR u@h 1 %b p primary", b"m", 32, "1: PastLimit"),
+        *limit(b"MONITOR u@h 1 m %b primary", b"p", 128, "1: PastLimit"),
+        *limit(b"MINSUPPLIES 0\nSHUTDOWNCMD %b", b"c", 256, "2: PastLimit"),
+        *limit(b"MINSUPPLIES 0\nNOTIFYMSG FSD %b", b"c", 128, "2: PastLimit", "TEXT: 0 to 128 bytes are meant"),
+        (b"NOTIFYMSG X " + b"c" * 129, "1: UnknownWord"),
+        (numbered(b"MONITOR u%d@h 1000 m p primary\n", 32) + b"MINSUPPLIES 32000", None),
+        (numbered(b"MONITOR u%d@h 1000 m p primary\n", 31) + b"MINSUPPLIES 31001", "0: PastLimit"),
+        (numbered(b"MONITOR u%d@h 1 m p primary\n", 33), "33: PastLimit", "at most 32 MONITOR lines are taken"),
+        (numbered(b"MONITOR u%d@h 1000 m p primary\n", 32) + b"MONITOR u31@h 1 m p primary", "33: Repeated"),
+        (numbered(b"MONITOR u%d@h 1000 m p primary\n", 32) + b"MONITOR v@h 1 m p x", "33: UnknownWord"),
     ],
     "cmdvartab": [
-        (b"VARDESC a/b x\n", "BadName", f"a/b: {named(64)}"),
-        (b"CMDDESC a two words\n", "BadForm", 'CMDDESC NAME "TEXT" is meant'),
-        (b"CMDDESC a " + b"x" * 129, "PastLimit", "TEXT: 0 to 128 bytes are meant"),
-        (b"VARDESC a x\nVARDESC a y\n", "Repeated", "a: a line before has it"),
-        (numbered(b"VARDESC v%d x\n", 1025), "PastLimit", "at most 1024 VARDESC lines are taken"),
-        (b"DESC a x\n", "UnknownDirective", "DESC isn't taken here: see from-nut(7)"),
+        *fine(b"", b"# a comment\n\n \t\r\n", b'VARDESC ups.model "UPS model"\n', b'CMDDESC load.cycle "Turn off, then on"'),
+        *fine(b"VARDESC ups.model UPS\n", b'VARDESC ups.model ""\n', b'VARDESC Ups_a-9.b "x" # a comment\n', b"VARDESC a =\n"),
+        # a variable and a command may share a name, and the case of letters counts
+        *fine(b"VARDESC a x\nCMDDESC a x\n", b"VARDESC a x\nVARDESC A x\n"),
+        (b"VARDESC a x\nVARDESC a y\n", "2: Repeated", "a: a line before has it"),
+        (b"VARDESC a x\nVARDESC b x\n\nVARDESC a y\n", "4: Repeated"),
+        (b"CMDDESC a x\nVARDESC a x\nCMDDESC a x\n", "3: Repeated"),
+        # words that don't read
+        (b'VARDESC a "x\n', "1: Unreadable", f"{UNREAD}a quote is not closed"),
+        *faulty("1: Unreadable", b'VARDESC a x\\', b'VARDESC a "caf\xc3\xa9"\n', b'VARDESC a "x\ty"\n'),
+        # directives, byte for byte
+        (b"DESC a x\n", "1: UnknownDirective", "DESC isn't taken here: see from-nut(7)"),
+        *faulty("1: UnknownDirective", b"vardesc a x\n", b"VARDESCR a x\n", b"[a]\n", b'""\n'),
+        # form
+        (b"CMDDESC a two words\n", "1: BadForm", 'CMDDESC NAME "TEXT" is meant'),
+        *faulty("1: BadForm", b"VARDESC\n", b"VARDESC a\n", b"CMDDESC a\n", b"VARDESC a UPS model\n", b"VARDESC a = x\n"),
+        # form before the name, the name before the text, values before a repetition
+        (b"VARDESC a/b\n", "1: BadForm"),
+        (b"VARDESC a/b x\n", "1: BadName", f"a/b: {named(64)}"),
+        *faulty("1: BadName", b'CMDDESC "" x\n', b'CMDDESC "a b" x\n'),
+        (b"VARDESC a x\nVARDESC a/ x\n", "2: BadName"),
+        (b"VARDESC a x\nVARDESC a\n", "2: BadForm"),
+        # the first faulty line is named
+        (b"\n# x\nVARDESC a x\nFOO\nVARDESC a y\n", "4: UnknownDirective"),
+        # limits, at each of them and just past it
+        *limit(b"VARDESC %b x", b"a", 64, "1: PastLimit"),
+        (b"VARDESC " + b"a" * 65 + b"/ x", "1: BadName"),
+        *limit(b"CMDDESC a %b", b"x", 128, "1: PastLimit", "TEXT: 0 to 128 bytes are meant"),
+        # a text that is too long comes before a repetition
+        (b"CMDDESC a x\nCMDDESC a " + b"x" * 129, "2: PastLimit"),
+        (b"CMDDESC a x\n" + numbered(b"VARDESC v%d x\n", 1024), None),
+        (b"CMDDESC a x\n" + numbered(b"VARDESC v%d x\n", 1025), "1026: PastLimit", "at most 1024 VARDESC lines are taken"),
     ],
 }
 
 
 def texts_of_numbers(page):
-    """Yields texts about each directive that has one number, with the kind of the fault in the last line, which is None if it has
-    none, and what is said to be meant. Limits and forms are those of the manual page."""
+    """Yields rows of texts about each directive that has one number. Limits and forms are those of the manual page."""
     head = numbered("MONITOR u%d@h 1000 m p primary\n", 32) if page == "upsmon.conf" else ""
     for word, (name, least, most, _) in manual.numbers(page).items():
         right = f"a number from {least} to {most} is meant"
@@ -476,7 +341,16 @@ def texts_of_numbers(page):
             (f"{word} {least}\n{word} {least}", "Repeated", f"{word}: a line before has it"),
             (f"{word}", "BadForm", f"{word} {name} is meant"),
         ):
-            yield head + line, kind, meant
+            text = head + line
+            yield text.encode(), kind and f"{len(text.splitlines())}: {kind}", meant
+
+
+def faults_of_each_kind():
+    """Yields for each file of upsd a text with a fault of each kind, as its file, its text and the two lines that are said of it."""
+    for name, rows in FILES.items():
+        kinds = {row[1].split(": ")[1]: row for row in reversed(rows) if len(row) == 3}
+        if name != "upsmon.conf":
+            yield from ((name, *row) for row in kinds.values())
 
 
 class Tests:
@@ -490,72 +364,46 @@ class Tests:
                 with open(os.path.join(folder, name.replace("_", ".")), "wb") as file:
                     file.write(text)
             # upsmon looks for upsc, and finds none
-            done = subprocess.run([program, "--check", "--conf", folder], capture_output=True, timeout=60, env={"PATH": folder})
-        return done.returncode, done.stdout, done.stderr
+            return ended([program, "--check", "--conf", folder], env={"PATH": folder})
 
-    def is_read(self, own, name, status, err, what):
-        """Ensures that no fault was found. The servers that upsmon.conf names aren't there, and upsmon says so."""
-        is_warned = b"upsmon: UPS " in err
-        ensure(status == int(is_warned) and f"{own}: {name}:".encode() not in err, f"{what}: found {status}, {err!r}")
-
-    def compare(self, name, program, **others):
-        """Compares the first fault that a program finds in each text of a file with the table."""
-        own = os.path.basename(program)
-        for text, fault in FILES[name]:
+    def compare(self, name, rows):
+        """Compares what a program says of each text of a file with a row: the first fault, and what is expected. No password is in
+        either line."""
+        program, own = (self.upsmon, "upsmon") if name == "upsmon.conf" else (self.upsd, "upsd")
+        others = {it: b"" for it in ("ups_conf", "upsd_users", "upsd_conf") if name != "upsmon.conf"}
+        for text, fault, *meant in rows:
             status, out, err = self.checked(program, **{**others, name.replace(".", "_"): text})
-            what = f"{name}, {len(text)} bytes: {text[:60]!r}"
+            what = f"{name}, {len(text)} bytes: {text[-60:]!r}"
             if fault is None:
-                self.is_read(own, name, status, err, what)
-            else:
-                found = status, out, err.split(b"\n")[0]
-                expect(found, (1, b"", f"{own}: {name}:{fault}".encode()), what)
+                # the servers that upsmon.conf names aren't there, and upsmon says so
+                is_warned = b"upsmon: UPS " in err
+                ensure(status == int(is_warned) and f"{own}: {name}:".encode() not in err, f"{what}: found {status}, {err!r}")
+                continue
+            said = err.decode().splitlines()
+            expect((status, out, said[:1], len(said)), (1, b"", [f"{own}: {name}:{fault}"], 2), what)
+            if meant:
+                expect(said[1], f"{own}: {meant[0]}", what)
+            ensure(SECRET[:4] not in err and b"\xfc" not in err and b"0xfc" not in err, f"{what}: a password is shown: {err!r}")
 
     def test_ups_conf(self):
-        self.compare("ups.conf", self.upsd, upsd_users=b"", upsd_conf=b"")
+        self.compare("ups.conf", FILES["ups.conf"])
 
     def test_upsd_users(self):
-        self.compare("upsd.users", self.upsd, ups_conf=b"", upsd_conf=b"")
+        self.compare("upsd.users", FILES["upsd.users"])
 
     def test_upsd_conf(self):
-        self.compare("upsd.conf", self.upsd, ups_conf=b"", upsd_users=b"")
+        self.compare("upsd.conf", FILES["upsd.conf"])
 
     def test_upsmon_conf(self):
-        self.compare("upsmon.conf", self.upsmon)
+        self.compare("upsmon.conf", FILES["upsmon.conf"])
 
     def test_cmdvartab(self):
-        self.compare("cmdvartab", self.upsd, ups_conf=b"", upsd_users=b"", upsd_conf=b"")
+        self.compare("cmdvartab", FILES["cmdvartab"])
 
     def test_numbers(self):
-        for page, program, others in (("upsd.conf", self.upsd, {"ups_conf": b"", "upsd_users": b""}), ("upsmon.conf", self.upsmon, {})):
-            for text, kind, meant in texts_of_numbers(page):
-                status, out, err = self.checked(program, **others, **{page.replace(".", "_"): text.encode()})
-                own = os.path.basename(program)
-                what = f"{page}: {text[-60:]!r}"
-                if kind is None:
-                    self.is_read(own, page, status, err, what)
-                    continue
-                said = [f"{own}: {page}:{len(text.splitlines())}: {kind}", f"{own}: {meant}"]
-                expect((status, out, err.decode().splitlines()), (1, b"", said), what)
-
-    def test_what_is_meant(self):
-        """The second line of a fault. No password is in either."""
-        for name, rows in MEANT.items():
-            program, own = (self.upsmon, "upsmon") if name == "upsmon.conf" else (self.upsd, "upsd")
-            others = {it.replace(".", "_"): b"" for it in MEANT if it not in (name, "upsmon.conf")}
-            for text, kind, meant in rows:
-                status, out, err = self.checked(program, **{**others, name.replace(".", "_"): text})
-                what = f"{name}, {len(text)} bytes: {text[:60]!r}"
-                first, *rest = err.decode().splitlines()
-                is_fault = first.startswith(f"{own}: {name}:") and first.endswith(f": {kind}")
-                expect((status, out, is_fault), (1, b"", True), f"{what}: {first}")
-                expect(rest, [f"{own}: {meant}"], what)
-                ensure(SECRET[:4] not in err and b"\xfc" not in err and b"0xfc" not in err, f"{what}: a password is shown: {err!r}")
-
-
-def main():
-    with tempfile.TemporaryDirectory() as folder:
-        return run_tests(Tests(*map(os.path.abspath, sys.argv[1:3]), folder))
+        for page in ("upsd.conf", "upsmon.conf"):
+            self.compare(page, texts_of_numbers(page))
 
 
 if __name__ == "__main__":
-    sys.exit(main())
+    sys.exit(play(Tests, 2))

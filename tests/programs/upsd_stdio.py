@@ -12,9 +12,10 @@ import os
 import shutil
 import subprocess
 import sys
-import tempfile
 
-from tests.support.harness import cannot_read, children_time, expect, Failed, Missing, needs_proved_build, NUTS_OPTIONS, refusal, refusals, ROOT, run_tests, Shimmed, unread, VERSION_SHOWN
+from tests.programs.files import faults_of_each_kind
+from tests.support.harness import Failed, Missing, ROOT, Shimmed, VERSION_SHOWN, cannot_read, children_time, ended, ensure, expect
+from tests.support.harness import needs_proved_build, play, refusal, refusals, unread
 from tests.support.room import VERSION, until
 
 ROOM = ["--stdio", "--ups", "su700=Server room"]
@@ -53,59 +54,29 @@ MIXED = [
     (b"LOGOUT\n", GOODBYE),
     (b"VER\n", b""),
 ]
+# as many UPSes as there may be
+MANY = [f"u{i}=d" for i in range(32)]
+ASKED, DUE = map(b"".join, zip(*MIXED))
 
 
-# what is meant in the place of a bad name, by how long it may be
-NAME_32, NAME_64 = (f"a name is meant, of 1 to {most} letters, digits, '.', '_' and '-'" for most in (32, 64))
-
-# A fault of each kind in each configuration file, which a start reports: the file's name, its text, and both lines of the
-# message. tests/programs/files.py has all the others.
-CONF_FAULTS = [
-    ("ups.conf", b"[a]\n[a]\n", "2: Repeated", "[a]: a line before has it"),
-    ("ups.conf", b'[a]\ndesc = "x\n', "2: Unreadable", "the line can't be read as words: a quote is not closed"),
-    ("ups.conf", b"desc = x\n", "1: OutsideSection", "desc: a line [NAME] has to come before it"),
-    ("ups.conf", b"[a]\ndesc =\n", "2: BadForm", 'desc = "TEXT" is meant'),
-    ("ups.conf", b"[a]\nfoo = x\n", "2: UnknownDirective", "foo isn't taken here: see from-nut(7)"),
-    ("ups.conf", b"\n# names\n[a/b]\n", "3: BadName", f"[a/b]: {NAME_32}"),
-    ("ups.conf", b"[" + b"a" * 33 + b"]\n", "1: PastLimit", f"[{'a' * 33}]: {NAME_32}"),
-    ("upsd.users", b"[mon]\n[a]\n[mon]\n", "3: Repeated", "[mon]: a line before has it"),
-    ("upsd.users", b'[mon]\npassword = "x\n', "2: Unreadable", "the line can't be read as words: a quote is not closed"),
-    ("upsd.users", b"upsmon primary\n", "1: OutsideSection", "upsmon: a line [NAME] has to come before it"),
-    ("upsd.users", b"[mon]\nupsmon = primary\n", "2: BadForm", "upsmon primary or upsmon secondary is meant"),
-    ("upsd.users", b"[mon]\nallowfrom = x\n", "2: UnknownDirective", "allowfrom isn't taken here: see from-nut(7)"),
-    ("upsd.users", b"[mon]\ninstcmds = a/b\n", "2: BadName", f"a/b: {NAME_64}"),
-    ("upsd.users", b"[mon]\nupsmon tertiary\n", "2: UnknownWord", "tertiary: 'primary' or 'secondary' is meant"),
-    ("upsd.users", b'[mon]\npassword = ""\n', "2: PastLimit", "TEXT: 1 to 128 bytes are meant"),
-    ("upsd.conf", b"MAXAGE 15\nMAXAGE 16\n", "2: Repeated", "MAXAGE: a line before has it"),
-    ("upsd.conf", b"# \xff\n", "1: Unreadable", "byte 0xff at column 3: only printing ASCII is taken; mulgefa-check -i mends comments"),
-    ("upsd.conf", b"MAXAGE\n", "1: BadForm", "MAXAGE SECONDS is meant"),
-    ("upsd.conf", b"CERTFILE x\n", "1: UnknownDirective", "CERTFILE isn't taken here: see from-nut(7)"),
-    (
-        "upsd.conf", b"LISTEN a_b 0\n", "1: BadName",
-        "a_b: the name or the address of a host is meant, without brackets; a port is a word of its own",
-    ),
-    ("upsd.conf", b"MAXAGE 15\nMAXAGE 0\n", "2: BadNumber", "0: a number from 1 to 86400 is meant"),
-    ("upsd.conf", b"LISTEN a\n" * 17, "17: PastLimit", "at most 16 LISTEN lines are taken"),
-    ("cmdvartab", b"VARDESC a x\nCMDDESC a x\nVARDESC a y\n", "3: Repeated", "a: a line before has it"),
-    ("cmdvartab", b'VARDESC a "x\n', "1: Unreadable", "the line can't be read as words: a quote is not closed"),
-    ("cmdvartab", b"# names\n\nVARDESC a x\nCMDDESC a x\nVARDESC b x\nVARDESC a\n", "6: BadForm", 'VARDESC NAME "TEXT" is meant'),
-    ("cmdvartab", b"\nvardesc a x\n", "2: UnknownDirective", "vardesc isn't taken here: see from-nut(7)"),
-    ("cmdvartab", b"VARDESC a/b x\n", "1: BadName", f"a/b: {NAME_64}"),
-    ("cmdvartab", b"CMDDESC " + b"a" * 65 + b" x\n", "1: PastLimit", f"{'a' * 65}: {NAME_64}"),
-]
+def ups_options(upses):
+    return itertools.chain.from_iterable(("--ups", ups) for ups in upses)
 
 
 class Tests(Shimmed):
     def __init__(self, upsd, folder):
-        self.upsd = upsd
-        self.folder = folder
+        self.upsd, self.folder = upsd, folder
 
     def run(self, args, data=b"", env=None, **streams):
-        streams = {"stdout": subprocess.PIPE, "stderr": subprocess.PIPE, **streams}
         if "stdin" not in streams:
             streams["input"] = data
-        done = subprocess.run([self.upsd, *args], env={**os.environ, **(env or {})}, timeout=60, **streams)
-        return done.returncode, done.stdout, done.stderr
+        return ended([self.upsd, *args], env={**os.environ, **(env or {})}, **streams)
+
+    def expect_usage(self, args, data=b""):
+        """Expects that these words are refused. Returns what is said of them."""
+        status, out, err = self.run(args, data)
+        expect((status, out, err != b""), (2, b"", True), f"{args}")
+        return err
 
     def refused_in_turn(self, kind, args, asked, due):
         """Runs with the first call of a kind failing, then with the second, and so on. Yields the number of each call that
@@ -125,8 +96,8 @@ class Tests(Shimmed):
         folder = os.path.join(self.folder, "conf")
         shutil.rmtree(folder, ignore_errors=True)
         os.mkdir(folder)
-        for name, usual in (("ups.conf", b""), ("upsd.users", b""), ("upsd.conf", b""), ("cmdvartab", None)):
-            text = texts.get(name.replace(".", "_"), usual)
+        for name, text in {"ups_conf": b"", "upsd_users": b"", "upsd_conf": b"", **texts}.items():
+            name = name.replace("_", ".")
             if text is not None:
                 with open(os.path.join(folder, name), "wb") as file:
                     file.write(text)
@@ -150,23 +121,15 @@ class Tests(Shimmed):
         expect(found, (0, LIST + GOODBYE, b""), "the first run")
 
     def test_requests_in_turn(self):
-        asked = b"".join(it for it, _ in MIXED)
-        due = b"".join(it for _, it in MIXED)
-        expect(self.run(ROOM, asked), (0, due, b""), "requests in turn")
+        expect(self.run(ROOM, ASKED), (0, DUE, b""), "requests in turn")
 
     def test_requests_cut_anywhere(self):
-        asked = b"".join(it for it, _ in MIXED)
-        due = b"".join(it for _, it in MIXED)
-        for at in range(len(asked) + 1):
-            expect(self.cut(asked, at), (0, due), f"cut at {at}")
+        for at in range(len(ASKED) + 1):
+            expect(self.cut(ASKED, at), (0, DUE), f"cut at {at}")
 
     def test_requests_byte_by_byte(self):
-        asked = b"".join(it for it, _ in MIXED)
-        due = b"".join(it for _, it in MIXED)
-        env = refusal(self.shim, "short-read", 1)
-        expect(self.run(ROOM, asked, env), (0, due, b""), "read byte by byte")
-        env = refusal(self.shim, "short-write", 1)
-        expect(self.run(ROOM, asked, env), (0, due, b""), "written byte by byte")
+        for kind in ("short-read", "short-write"):
+            expect(self.run(ROOM, ASKED, refusal(self.shim, kind, 1)), (0, DUE, b""), kind)
 
     def test_streams_that_are_closed(self):
         """Nothing that is opened takes the place of one: a closed stream fails as a broken one does."""
@@ -212,53 +175,38 @@ class Tests(Shimmed):
         expect(found, (0, b"BEGIN LIST UPS\n" + rows + b"END LIST UPS\n", b""), "in the order given")
 
     def test_ups_faults(self):
-        many = list(itertools.chain.from_iterable(["--ups", f"u{i}=d"] for i in range(32)))
-        cases = [
-            (["--ups", "su700"], "BadForm"),
-            (["--ups", ""], "BadForm"),
-            (["--ups", "=d"], "BadName"),
-            (["--ups", "a b=d"], "BadName"),
-            (["--ups", "\u00e9=d"], "BadName"),
-            (["--ups", "a" * 33 + "=d"], "PastLimit"),
-            (["--ups", "a=" + "d" * 129], "PastLimit"),
-            ([*many, "--ups", "more=d"], "PastLimit"),
-            (["--ups", "a=d", "--ups", "a=e"], "Repeated"),
-            (["--ups", "a=\t"], "Unreadable"),
-            (["--ups", "a=\u00e9"], "Unreadable"),
-            (["--ups", "a=\x7f"], "Unreadable"),
+        for kind, *cases in (
+            ("BadForm", ["su700"], [""]),
+            ("BadName", ["=d"], ["a b=d"], ["\u00e9=d"]),
+            ("PastLimit", ["a" * 33 + "=d"], ["a=" + "d" * 129], [*MANY, "more=d"]),
+            ("Repeated", ["a=d", "a=e"]),
+            ("Unreadable", ["a=\t"], ["a=\u00e9"], ["a=\x7f"]),
             # two faults: the first in the order of tests is reported
-            (["--ups", " " * 40], "BadForm"),
-            (["--ups", "\u00e9" * 40 + "=\t"], "BadName"),
-            (["--ups", "a" * 33 + "=\t"], "PastLimit"),
-            (["--ups", "!" + "a" * 32 + "=d"], "BadName"),
-            ([*many, "--ups", "u1=d"], "PastLimit"),
-            ([*many, "--ups", "more=\t"], "PastLimit"),
-            ([*many, "--ups", "more!=d"], "BadName"),
-            ([*many, "--ups", "more"], "BadForm"),
-            (["--ups", "a=d", "--ups", "a=\t"], "Repeated"),
-            (["--ups", "a=\t", "--ups", "b"], "Unreadable"),
-        ]
-        for args, kind in cases:
-            found = self.run(["--stdio", *args], b"LIST UPS\n")
-            expect(found, (1, b"", f"upsd: --ups: {kind}\n".encode()), f"{args}")
-        for args in (["--ups", "a" * 32 + "=" + "d" * 128], many):
-            expect(self.run(["--stdio", *args], b"")[0], 0, f"{args} is within the limits")
+            ("BadForm", [" " * 40], [*MANY, "more"]),
+            ("BadName", ["\u00e9" * 40 + "=\t"], ["!" + "a" * 32 + "=d"], [*MANY, "more!=d"]),
+            ("PastLimit", ["a" * 33 + "=\t"], [*MANY, "u1=d"], [*MANY, "more=\t"]),
+            ("Repeated", ["a=d", "a=\t"]),
+            ("Unreadable", ["a=\t", "b"]),
+        ):
+            for upses in cases:
+                found = self.run(["--stdio", *ups_options(upses)], b"LIST UPS\n")
+                expect(found, (1, b"", f"upsd: --ups: {kind}\n".encode()), f"{upses}")
+        for upses in (["a" * 32 + "=" + "d" * 128], MANY):
+            expect(self.run(["--stdio", *ups_options(upses)], b"")[0], 0, f"{upses} are within the limits")
 
     def test_command_lines(self):
-        for args in ([], ["--ups", "a=b"], ["--stdio", "--nothing"], ["--stdio", "more"], ["--stdio", "--ups"], ["-c", "reload"], ["--stdio", "--conf"], [*EXAMPLES, "--ups", "a=b"], [*EXAMPLES, "--conf", "x"]):
-            status, out, err = self.run(args, b"VER\n")
-            expect((status, out, err != b""), (2, b"", True), f"{args}")
-        for args in (["-c", "reload"], ["--stdio", "-B"], ["-u", "nut"], ["-F", "-F"]):
-            _, _, err = self.run(args)
-            expect(err.endswith(NUTS_OPTIONS.format("upsd").encode()), True, f"what is said of {args}: {err}")
+        for args in (
+            [], ["--ups", "a=b"], ["--stdio", "--nothing"], ["--stdio", "more"], ["--stdio", "--ups"], ["--stdio", "--conf"],
+            [*EXAMPLES, "--ups", "a=b"], [*EXAMPLES, "--conf", "x"], ["--stdio", "-B"], ["-c", "reload"], ["-u", "nut"], ["-F", "-F"],
+        ):
+            self.expect_usage(args, b"VER\n")
         for args in ([], ["-s", "x"]):
-            _, _, err = self.run(args)
+            err = self.expect_usage(args)
             expect((USAGE in err, b"from-nut" in err), (True, False), f"what is said of {args}: {err}")
         # NUT's options that ask for what is done anyway
         for args in (["-F"], ["-D"], ["-DDD"], ["-D", "-F", "-DD"]):
             expect(self.run([*args, *ROOM], b"VER\n"), (0, VERSION, b""), f"with {args}")
-        _, _, err = self.run(["--stdio", "-q"], b"VER\n")
-        expect(b"cannot be used with" in err, True, f"what --stdio -q gives: {err}")
+        ensure(b"cannot be used with" in self.expect_usage(["--stdio", "-q"], b"VER\n"), "what --stdio -q gives")
         invalid = b"error: invalid UTF-8 was detected in one or more arguments\n"
         expect(self.run([b"--stdio", b"--ups", b"a=\xff"]), (2, b"", invalid), "words that are no text")
         for args, word in ((["--help"], b"--ups"), (["--version"], f"upsd {VERSION_SHOWN}\n".encode())):
@@ -266,11 +214,10 @@ class Tests(Shimmed):
             expect((status, word in out, err), (0, True, b""), f"{args}")
 
     def test_conf_faults(self):
-        for name, text, fault, meant in CONF_FAULTS:
-            args = self.conf(**{name.replace(".", "_"): text})
+        """A start says of a fault what --check says. tests/programs/files.py has all of them."""
+        for name, text, fault, meant in faults_of_each_kind():
             wanted = (1, b"", f"upsd: {name}:{fault}\nupsd: {meant}\n".encode())
-            expect(self.run(args, b"LIST UPS\n"), wanted, f"{name}: {text[:40]!r}")
-            expect(self.run(["--check", *args[1:]]), wanted, f"--check, {name}: {text[:40]!r}")
+            expect(self.run(self.conf(**{name.replace(".", "_"): text}), b"LIST UPS\n"), wanted, f"{name}: {text[:40]!r}")
 
     def test_conf_that_cannot_be_read(self):
         for name in ("ups.conf", "upsd.users", "upsd.conf", "cmdvartab"):
@@ -313,28 +260,13 @@ class Tests(Shimmed):
             ({"ups_conf": bad, "upsd_users": None, "upsd_conf": None}, b"upsd: ups.conf:2: Repeated\nupsd: [a]: a line before has it\n"),
             ({"upsd_users": bad, "upsd_conf": None}, b"upsd: upsd.users:2: Repeated\nupsd: [a]: a line before has it\n"),
             ({"upsd_users": None, "upsd_conf": bad}, unreadable(users, errno.ENOENT)[2]),
-            ({"upsd_conf": bad, "cmdvartab": b"VARDESC a"}, b"upsd: upsd.conf:1: UnknownDirective\nupsd: [a] isn't taken here: see from-nut(7)\n"),
+            (
+                {"upsd_conf": bad, "cmdvartab": b"VARDESC a"},
+                b"upsd: upsd.conf:1: UnknownDirective\nupsd: [a] isn't taken here: see from-nut(7)\n",
+            ),
         ):
             expect(self.run(self.conf(**texts), b"VER\n"), (1, b"", fault), f"{texts}")
             expect(self.run(["--check", *self.conf(**texts)[1:]]), (1, b"", fault), f"--check {texts}")
-
-    def test_words_that_are_not_taken(self):
-        for name, text, line, word in (
-            # before the first section, with a word that would be unknown in a section, too
-            ("ups.conf", b"maxretry = 3\n[a]\n", "1: OutsideSection", "maxretry"),
-            ("ups.conf", b"# ours\n\n  pollinterval=2", "3: OutsideSection", "pollinterval"),
-            ("upsd.users", b"allowfrom = x\n", "1: OutsideSection", "allowfrom"),
-            # as the reader reads it: without quotes and backslashes
-            ("ups.conf", b'[a]\n"a b" = 1\n', "2: UnknownDirective", "a b"),
-            ("ups.conf", b"[a]\nv\\en\\dor = 1\n", "2: UnknownDirective", "vendor"),
-            ("ups.conf", b'[a]\n"" = 1\n', "2: UnknownDirective", None),
-            ("upsd.users", b"[a]\r\nallowfrom = x\r\n", "2: UnknownDirective", "allowfrom"),
-            ("upsd.conf", b"w" * 500 + b" 1\n", "1: UnknownDirective", "w" * 500),
-        ):
-            meant = f"{word} isn't taken here: see from-nut(7)" if word else f"a directive of {name} is meant"
-            said = f"upsd: {name}:{line}\nupsd: {meant}\n"
-            found = self.run(self.conf(**{name.replace(".", "_"): text}), b"")
-            expect(found, (1, b"", said.encode()), f"{text}")
 
     def test_word_that_memory_is_refused_for(self):
         """The fault is reported, or that memory for its file is refused; and its word, or else the file's name, if there is
@@ -370,8 +302,7 @@ class Tests(Shimmed):
         warning = b"upsd: upsd.users holds passwords, and everybody can read it (mode 604)\n"
         expect(self.run(["--check", *args]), (0, b"", warning), "a file that everybody can read")
         for words in (["--check", "--stdio"], ["--check", "-s", folder], ["--check", *args, "--ups", "a=b"], ["--check", "more"]):
-            status, out, err = self.run(words)
-            expect((status, out, err != b""), (2, b"", True), f"{words}")
+            self.expect_usage(words)
 
     def test_conf_is_served(self):
         asked = b"LIST UPS\nGET UPSDESC su700\nLOGOUT\n"
@@ -419,40 +350,29 @@ class Tests(Shimmed):
 
     def test_failing_devices(self):
         with open("/dev/full", "wb") as full:
-            status, _, err = self.run(ROOM, b"VER\n", stdout=full)
-            expect((status, err), (1, b"upsd: output failed\n"), "an output that is full")
+            expect(self.run(ROOM, b"VER\n", stdout=full), (1, None, b"upsd: output failed\n"), "an output that is full")
         folder = os.open("/", os.O_RDONLY)
-        try:
-            status, out, err = self.run(ROOM, stdin=folder)
-            expect((status, err, out), (1, b"upsd: input failed\n", b""), "an input that is a folder")
-        finally:
-            os.close(folder)
+        expect(self.run(ROOM, stdin=folder), (1, b"", b"upsd: input failed\n"), "an input that is a folder")
+        os.close(folder)
 
     def test_each_read_and_write_refused(self):
-        asked = b"".join(it for it, _ in MIXED)
-        due = b"".join(it for _, it in MIXED)
         for kind, stream in (("read", b"input"), ("write", b"output")):
-            for at, (status, out, err) in self.refused_in_turn(kind, ROOM, asked, due):
+            for at, (status, out, err) in self.refused_in_turn(kind, ROOM, ASKED, DUE):
                 expect((status, err), (1, b"upsd: " + stream + b" failed\n"), f"{kind} {at}")
-                if not due.startswith(out):
-                    raise Failed(f"{kind} {at}: {out!r} is no front of the answers due")
+                ensure(DUE.startswith(out), f"{kind} {at}: {out!r} is no front of the answers due")
 
     def test_each_allocation_refused(self):
-        self.refuse_allocations(ROOM)
-
-    def test_each_allocation_refused_with_files(self):
-        self.refuse_allocations(EXAMPLES)
-
-    def test_each_allocation_refused_with_descriptions(self):
         many = b"".join(b"VARDESC v%d x\n" % i for i in range(40))
-        self.refuse_allocations(self.conf(ups_conf=b'[su700]\ndesc = "Server room"\n', cmdvartab=b'VARDESC a "\\"x\\""\nCMDDESC b y\n' + many))
+        described = self.conf(ups_conf=b'[su700]\ndesc = "Server room"\n', cmdvartab=b'VARDESC a "\\"x\\""\nCMDDESC b y\n' + many)
+        for args in (ROOM, EXAMPLES, described):
+            self.refuse_allocations(args)
 
     def refuse_allocations(self, args):
         """Refuses each allocation of a run in turn: the run ends before it serves, or after a line."""
         asked = b"".join(it for it, _ in MIXED)
         fronts = list(itertools.accumulate((it for _, it in MIXED), initial=b""))
         refused = served = 0
-        for at, (status, out, err) in self.refused_in_turn("allocation", args, asked, fronts[-1]):
+        for at, (status, out, err) in self.refused_in_turn("allocation", args, ASKED, DUE):
             refused += 1
             if status == 0:
                 served += 1
@@ -462,10 +382,5 @@ class Tests(Shimmed):
         print(f"   {refused} allocations refused in turn, {served} of them while lines were answered")
 
 
-def main():
-    with tempfile.TemporaryDirectory() as folder:
-        return run_tests(Tests(os.path.abspath(sys.argv[1]), folder), sys.argv[2:])
-
-
 if __name__ == "__main__":
-    sys.exit(main())
+    sys.exit(play(Tests, 1))

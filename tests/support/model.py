@@ -4,6 +4,7 @@ It keeps dictionaries and lists, cuts lines out of the bytes so far, and reads w
 texts are bytes."""
 
 import copy
+import inspect
 import itertools
 import re
 
@@ -93,20 +94,22 @@ def quoted(text):
     return b'"' + re.sub(rb'(["\\#])', rb"\\\1", text) + b'"'
 
 
+def words_behind(method, own):
+    """Returns how many words a line may have behind those that name its method. They are the method's parameters, behind this many
+    of its own."""
+    parameters = list(inspect.signature(method).parameters.values())[own:]
+    needed = [it for it in parameters if it.default is it.empty and it.kind is not it.VAR_POSITIONAL]
+    has_more = any(it.kind is it.VAR_POSITIONAL for it in parameters)
+    return range(len(needed), (WORDS_MAX if has_more else len(parameters)) + 1)
+
+
 class Refused(Exception):
     """An answer `ERR ..`."""
 
 
-def error(name):
-    return Refused(name)
-
-
 class User:
     def __init__(self, password=None, actions=(), commands=(), upsmon=None):
-        self.password = password
-        self.actions = actions
-        self.commands = commands
-        self.upsmon = upsmon
+        self.password, self.actions, self.commands, self.upsmon = password, actions, commands, upsmon
 
     def may(self, right, command):
         if right == "LOGIN":
@@ -125,11 +128,8 @@ class Config:
     each UPS by its name, where that isn't the default."""
 
     def __init__(self, upses, users, max_age=15, max_conn=256, drivers=None):
-        self.upses = upses
-        self.users = users
-        self.max_age = max_age
-        self.max_conn = max_conn
-        self.drivers = drivers or {}
+        self.upses, self.users, self.drivers = upses, users, drivers or {}
+        self.max_age, self.max_conn = max_age, max_conn
 
     def names(self):
         return [name for name, _ in self.upses]
@@ -156,27 +156,98 @@ class Variable:
     def refuse(self, value):
         """Raises the refusal of a SET to this value, if it is refused."""
         if "RW" not in self.flags:
-            raise error("READONLY")
+            raise Refused("READONLY")
         if len(value) > VALUE_MAX:
-            raise error("TOO-LONG")
+            raise Refused("TOO-LONG")
         kind = self.kind()
         if kind == "ENUM" and value not in self.enums:
-            raise error("INVALID-VALUE")
+            raise Refused("INVALID-VALUE")
         if kind == "RANGE":
             number = int(value) if fits(WHOLE, value) else None
             if number is None or not any(least <= number <= most for least, most in self.ranges):
-                raise error("INVALID-VALUE")
+                raise Refused("INVALID-VALUE")
         if kind == "STRING" and len(value) > (self.aux or 0):
-            raise error("TOO-LONG")
+            raise Refused("TOO-LONG")
 
 
-class Ups:
+class DriverLines:
+    """What the lines of a driver do to a UPS: a method for each, named by its first word, whose parameters are the others."""
+
+    def setinfo(self, name, value):
+        if not fits(NAME, name) or len(value) > VALUE_MAX:
+            return
+        if name in self.variables:
+            self.variables[name].value = value
+        elif len(self.variables) < VARIABLES_MAX:
+            self.variables[name] = Variable(value)
+
+    def delinfo(self, name):
+        self.variables.pop(name, None)
+
+    def addenum(self, name, value):
+        variable = self.variables.get(name)
+        if variable and len(value) <= VALUE_MAX and value not in variable.enums and len(variable.enums) < ENUMS_MAX:
+            variable.enums.append(value)
+
+    def delenum(self, name, value):
+        if name in self.variables and value in self.variables[name].enums:
+            self.variables[name].enums.remove(value)
+
+    def addrange(self, name, least, most):
+        variable = self.variables.get(name)
+        if not variable or not fits(WHOLE, least) or not fits(WHOLE, most):
+            return
+        pair = int(least), int(most)
+        if pair[0] <= pair[1] and pair not in variable.ranges and len(variable.ranges) < RANGES_MAX:
+            variable.ranges.append(pair)
+
+    def delrange(self, name, least, most):
+        variable = self.variables.get(name)
+        if variable and fits(WHOLE, least) and fits(WHOLE, most) and (int(least), int(most)) in variable.ranges:
+            variable.ranges.remove((int(least), int(most)))
+
+    def setaux(self, name, number):
+        if name in self.variables and fits(COUNT, number) and int(number) <= VALUE_MAX:
+            self.variables[name].aux = int(number)
+
+    def setflags(self, name, *flags):
+        if name in self.variables:
+            named = {flag.upper() for flag in flags}
+            self.variables[name].flags = {it.decode() for it in (b"RW", b"STRING", b"NUMBER") if it in named}
+
+    def addcmd(self, name):
+        if fits(NAME, name) and len(self.commands) < COMMANDS_MAX:
+            self.commands.add(name)
+
+    def delcmd(self, name):
+        self.commands.discard(name)
+
+    def dumpdone(self):
+        self.is_dumped = True
+
+    def dataok(self):
+        self.is_data_ok = True
+
+    def datastale(self):
+        self.is_data_ok = False
+
+    def pong(self):
+        pass
+
+    def tracking(self, number, status):
+        if fits(COUNT, number) and fits(COUNT, status) and self.tracked.get(int(number)) == b"PENDING":
+            self.tracked[int(number)] = b"FAILED" if int(status) else b"SUCCESS"
+
+
+# a driver's lines by their first words, each with how many words may follow it
+DRIVER_LINES = {name.upper().encode(): (it, words_behind(it, 1)) for name, it in vars(DriverLines).items() if not name.startswith("_")}
+
+
+class Ups(DriverLines):
     def __init__(self, number, name):
-        self.number = number
-        self.name = name
+        self.number, self.name = number, name
         # the configuration sets these
-        self.description = None
-        self.driver = None
+        self.description = self.driver = None
         self.is_forced = False
         self.is_connected = False
         # the statuses of tracked requests by their numbers, the oldest first
@@ -200,87 +271,16 @@ class Ups:
         if not words:
             return False
         verb, *rest = words
-        row = DRIVER_LINES.get(verb.upper())
-        if row is None or not row[0](len(rest)):
+        method, counts = DRIVER_LINES.get(verb.upper(), (None, ()))
+        if len(rest) not in counts:
             return False
-        row[1](self, *rest)
+        method(self, *rest)
         return True
 
     def size(self):
         """Returns how many entries its table has."""
         lists = sum(len(it.enums) + len(it.ranges) for it in self.variables.values())
         return len(self.variables) + len(self.commands) + lists
-
-    def set_info(self, name, value):
-        if not fits(NAME, name) or len(value) > VALUE_MAX:
-            return
-        if name in self.variables:
-            self.variables[name].value = value
-        elif len(self.variables) < VARIABLES_MAX:
-            self.variables[name] = Variable(value)
-
-    def del_info(self, name):
-        self.variables.pop(name, None)
-
-    def add_enum(self, name, value):
-        variable = self.variables.get(name)
-        if variable and len(value) <= VALUE_MAX and value not in variable.enums and len(variable.enums) < ENUMS_MAX:
-            variable.enums.append(value)
-
-    def del_enum(self, name, value):
-        variable = self.variables.get(name)
-        if variable and value in variable.enums:
-            variable.enums.remove(value)
-
-    def add_range(self, name, least, most):
-        variable = self.variables.get(name)
-        if not variable or not fits(WHOLE, least) or not fits(WHOLE, most):
-            return
-        pair = int(least), int(most)
-        if pair[0] <= pair[1] and pair not in variable.ranges and len(variable.ranges) < RANGES_MAX:
-            variable.ranges.append(pair)
-
-    def del_range(self, name, least, most):
-        variable = self.variables.get(name)
-        if not variable or not fits(WHOLE, least) or not fits(WHOLE, most):
-            return
-        pair = int(least), int(most)
-        if pair in variable.ranges:
-            variable.ranges.remove(pair)
-
-    def set_aux(self, name, number):
-        variable = self.variables.get(name)
-        if variable and fits(COUNT, number) and int(number) <= VALUE_MAX:
-            variable.aux = int(number)
-
-    def set_flags(self, name, *flags):
-        variable = self.variables.get(name)
-        if variable:
-            named = {flag.upper() for flag in flags}
-            variable.flags = {it.decode() for it in (b"RW", b"STRING", b"NUMBER") if it in named}
-
-    def add_command(self, name):
-        if fits(NAME, name) and len(self.commands) < COMMANDS_MAX:
-            self.commands.add(name)
-
-    def del_command(self, name):
-        self.commands.discard(name)
-
-    def dump_done(self):
-        self.is_dumped = True
-
-    def data_ok(self):
-        self.is_data_ok = True
-
-    def data_stale(self):
-        self.is_data_ok = False
-
-    def pong(self):
-        pass
-
-    def tracking(self, number, status):
-        if fits(COUNT, number) and fits(COUNT, status) and self.tracked.get(int(number)) == b"PENDING":
-            self.tracked[int(number)] = b"FAILED" if int(status) else b"SUCCESS"
 
     def abandon(self):
         """Fails the tracked requests whose outcome the driver hasn't told."""
@@ -299,36 +299,12 @@ class Ups:
         return True
 
 
-# how many words follow the first in a line of a driver, and what the line does
-DRIVER_LINES = {
-    b"SETINFO": (lambda n: n == 2, Ups.set_info),
-    b"DELINFO": (lambda n: n == 1, Ups.del_info),
-    b"ADDENUM": (lambda n: n == 2, Ups.add_enum),
-    b"DELENUM": (lambda n: n == 2, Ups.del_enum),
-    b"ADDRANGE": (lambda n: n == 3, Ups.add_range),
-    b"DELRANGE": (lambda n: n == 3, Ups.del_range),
-    b"SETAUX": (lambda n: n == 2, Ups.set_aux),
-    b"SETFLAGS": (lambda n: n >= 1, Ups.set_flags),
-    b"ADDCMD": (lambda n: n == 1, Ups.add_command),
-    b"DELCMD": (lambda n: n == 1, Ups.del_command),
-    b"DUMPDONE": (lambda n: n == 0, Ups.dump_done),
-    b"DATAOK": (lambda n: n == 0, Ups.data_ok),
-    b"DATASTALE": (lambda n: n == 0, Ups.data_stale),
-    b"PONG": (lambda n: n == 0, Ups.pong),
-    b"TRACKING": (lambda n: n == 2, Ups.tracking),
-}
-
-
 class Connection:
     def __init__(self, address):
         self.address = address
-        self.user = None
-        self.password = None
-        self.login = None
-        self.is_logged_out = False
-        self.is_tracking = False
-        self.rest = b""
-        self.waits = b""
+        self.user = self.password = self.login = None
+        self.is_logged_out = self.is_tracking = False
+        self.rest = self.waits = b""
 
 
 def cut(rest, piece):
@@ -338,7 +314,152 @@ def cut(rest, piece):
     return lines, rest[: LINE_MAX + 1]
 
 
-class Server:
+class Forms:
+    """The answers to requests: a method for each form, named by the form's words, whose parameters are the words behind them."""
+
+    def get_numlogins(self, _, u):
+        return b"NUMLOGINS %s %d\n" % (u, len(self.logins(self.live(u))))
+
+    def get_upsdesc(self, _, u):
+        return b"UPSDESC %s %s\n" % (u, quoted(self.ups(u).description))
+
+    def get_var(self, _, u, v):
+        ups = self.live(u)
+        self.variable(ups, v)
+        return b"VAR %s %s %s\n" % (u, v, quoted(self.shown(ups, v)))
+
+    def get_type(self, _, u, v):
+        variable = self.variable(self.live(u), v)
+        text = b" RW" if "RW" in variable.flags else b""
+        kind = variable.kind()
+        text += b" " + kind.encode()
+        if kind == "STRING":
+            text += b":%d" % (variable.aux or 0)
+        return b"TYPE %s %s%s\n" % (u, v, text)
+
+    def get_desc(self, _, u, v):
+        self.variable(self.live(u), v)
+        return b"DESC %s %s %s\n" % (u, v, quoted(VARIABLES_DESCRIBED.get(v, NO_DESCRIPTION)))
+
+    def get_cmddesc(self, _, u, k):
+        if k not in self.live(u).commands:
+            raise Refused("CMD-NOT-SUPPORTED")
+        return b"CMDDESC %s %s %s\n" % (u, k, quoted(COMMANDS_DESCRIBED.get(k, NO_DESCRIPTION)))
+
+    def list_ups(self, _):
+        return self.listed(b"UPS", (b"UPS %s %s" % (it.name, quoted(it.description)) for it in self.upses))
+
+    def list_var(self, _, u):
+        ups = self.live(u)
+        return self.listed(b"VAR " + u, (b"VAR %s %s %s" % (u, v, quoted(self.shown(ups, v))) for v in sorted(ups.variables)))
+
+    def list_rw(self, _, u):
+        ups = self.live(u)
+        names = sorted(v for v in ups.variables if "RW" in ups.variables[v].flags)
+        return self.listed(b"RW " + u, (b"RW %s %s %s" % (u, v, quoted(self.shown(ups, v))) for v in names))
+
+    def list_cmd(self, _, u):
+        return self.listed(b"CMD " + u, (b"CMD %s %s" % (u, k) for k in sorted(self.live(u).commands)))
+
+    def list_enum(self, _, u, v):
+        variable = self.variable(self.live(u), v)
+        return self.listed(b"ENUM %s %s" % (u, v), (b"ENUM %s %s %s" % (u, v, quoted(it)) for it in variable.enums))
+
+    def list_range(self, _, u, v):
+        variable = self.variable(self.live(u), v)
+        rows = (b'RANGE %s %s "%d" "%d"' % (u, v, least, most) for least, most in variable.ranges)
+        return self.listed(b"RANGE %s %s" % (u, v), rows)
+
+    def list_client(self, _, u):
+        ups = self.live(u)
+        return self.listed(b"CLIENT " + u, (b"CLIENT %s %s" % (u, it.address) for it in self.logins(ups)))
+
+    def set_var(self, connection, u, v, x):
+        ups = self.permitted(connection, u, "SET")
+        self.refuse_unless_live(ups)
+        self.variable(ups, v).refuse(x)
+        return self.hand_on(connection, ups, b"SET %s %s" % (v, quoted(x)), "SET-FAILED")
+
+    def set_tracking(self, connection, word):
+        if word.upper() not in (b"ON", b"OFF"):
+            raise Refused("INVALID-ARGUMENT")
+        self.need_credentials(connection)
+        connection.is_tracking = word.upper() == b"ON"
+        return b"OK\n"
+
+    def get_tracking(self, connection, number=None):
+        if number is None:
+            return b"TRACKING %s\n" % (b"ON" if connection.is_tracking else b"OFF")
+        if not fits(TRACKING_NUMBER, number):
+            raise Refused("INVALID-ARGUMENT")
+        statuses = [it.tracked[int(number)] for it in self.upses if int(number) in it.tracked]
+        return b"TRACKING %s %s\n" % (number, statuses[0] if statuses else b"UNKNOWN")
+
+    def instcmd(self, connection, u, k, x=None):
+        ups = self.permitted(connection, u, "INSTCMD", k)
+        self.refuse_unless_live(ups)
+        if k not in ups.commands:
+            raise Refused("CMD-NOT-SUPPORTED")
+        if x is not None and len(x) > VALUE_MAX:
+            raise Refused("TOO-LONG")
+        parameter = b"" if x is None else b" " + quoted(x)
+        return self.hand_on(connection, ups, b"INSTCMD " + k + parameter, "INSTCMD-FAILED")
+
+    def username(self, connection, x):
+        if not 1 <= len(x) <= CREDENTIAL_MAX:
+            raise Refused("INVALID-ARGUMENT")
+        if connection.user is not None:
+            raise Refused("ALREADY-SET-USERNAME")
+        connection.user = x
+        return b"OK\n"
+
+    def password(self, connection, x):
+        if not 1 <= len(x) <= CREDENTIAL_MAX:
+            raise Refused("INVALID-ARGUMENT")
+        if connection.password is not None:
+            raise Refused("ALREADY-SET-PASSWORD")
+        connection.password = x
+        return b"OK\n"
+
+    def login(self, connection, u):
+        ups = self.permitted(connection, u, "LOGIN")
+        if connection.login is not None:
+            raise Refused("ALREADY-LOGGED-IN")
+        connection.login = ups
+        return b"OK\n"
+
+    def primary(self, connection, u):
+        self.permitted(connection, u, "PRIMARY")
+        return b"OK\n"
+
+    def fsd(self, connection, u):
+        self.permitted(connection, u, "FSD").is_forced = True
+        return b"OK FSD-SET\n"
+
+    def logout(self, connection):
+        connection.is_logged_out = True
+        connection.login = None
+        return b"OK Goodbye\n"
+
+    def ver(self, _):
+        return b"Network UPS Tools upsd profile 1.3\n"
+
+    def netver(self, _):
+        return b"1.3\n"
+
+    def help(self, _):
+        return HELP + b"\n"
+
+    def starttls(self, _):
+        raise Refused("FEATURE-NOT-CONFIGURED")
+
+
+# the forms by their words, each with how many words may follow them
+FORMS = {name.replace("_", " ").upper().encode(): (it, words_behind(it, 2)) for name, it in vars(Forms).items() if not name.startswith("_")}
+FIRST_WORDS = {key.split()[0] for key in FORMS}
+
+
+class Server(Forms):
     def __init__(self, config):
         self.now = 0
         self.opened = 0
@@ -525,7 +646,7 @@ class Server:
             return b""
         try:
             if words is None:
-                raise error("INVALID-ARGUMENT")
+                raise Refused("INVALID-ARGUMENT")
             return self.reply(connection, words)
         except Refused as refused:
             return b"ERR " + str(refused).encode() + b"\n"
@@ -538,17 +659,17 @@ class Server:
         elif first in FIRST_WORDS:
             key, rest = first, words[1:]
         else:
-            raise error("UNKNOWN-COMMAND")
-        form = FORMS.get(key)
-        if form is None or len(rest) not in form[0]:
-            raise error("INVALID-ARGUMENT")
-        return form[1](self, connection, *rest)
+            raise Refused("UNKNOWN-COMMAND")
+        method, counts = FORMS.get(key, (None, ()))
+        if len(rest) not in counts:
+            raise Refused("INVALID-ARGUMENT")
+        return method(self, connection, *rest)
 
     def ups(self, name):
         for ups in self.upses:
             if ups.name == name:
                 return ups
-        raise error("UNKNOWN-UPS")
+        raise Refused("UNKNOWN-UPS")
 
     def live(self, name):
         ups = self.ups(name)
@@ -557,21 +678,21 @@ class Server:
 
     def refuse_unless_live(self, ups):
         if not ups.is_connected:
-            raise error("DRIVER-NOT-CONNECTED")
+            raise Refused("DRIVER-NOT-CONNECTED")
         if not ups.is_dumped or not ups.is_data_ok or self.now - ups.last_heard > self.config.max_age:
-            raise error("DATA-STALE")
+            raise Refused("DATA-STALE")
 
     def variable(self, ups, name):
         if name not in ups.variables:
-            raise error("VAR-NOT-SUPPORTED")
+            raise Refused("VAR-NOT-SUPPORTED")
         return ups.variables[name]
 
     def need_credentials(self, connection):
         """Refuses a client that hasn't given a user name and a password."""
         if connection.user is None:
-            raise error("USERNAME-REQUIRED")
+            raise Refused("USERNAME-REQUIRED")
         if connection.password is None:
-            raise error("PASSWORD-REQUIRED")
+            raise Refused("PASSWORD-REQUIRED")
 
     def permitted(self, connection, name, right, command=None):
         """Returns the UPS of this name, if the client may do this to it."""
@@ -579,7 +700,7 @@ class Server:
         ups = self.ups(name)
         user = self.config.users.get(connection.user)
         if user is None or user.password is None or user.password != connection.password or not user.may(right, command):
-            raise error("ACCESS-DENIED")
+            raise Refused("ACCESS-DENIED")
         return ups
 
     def shown(self, ups, name):
@@ -589,189 +710,18 @@ class Server:
     def logins(self, ups):
         return [it for _, it in sorted(self.connections.items()) if it.login is ups]
 
-    # A method for each form.
-
-    def get_numlogins(self, _, u):
-        return b"NUMLOGINS %s %d\n" % (u, len(self.logins(self.live(u))))
-
-    def get_upsdesc(self, _, u):
-        return b"UPSDESC %s %s\n" % (u, quoted(self.ups(u).description))
-
-    def get_var(self, _, u, v):
-        ups = self.live(u)
-        self.variable(ups, v)
-        return b"VAR %s %s %s\n" % (u, v, quoted(self.shown(ups, v)))
-
-    def get_type(self, _, u, v):
-        variable = self.variable(self.live(u), v)
-        text = b" RW" if "RW" in variable.flags else b""
-        kind = variable.kind()
-        text += b" " + kind.encode()
-        if kind == "STRING":
-            text += b":%d" % (variable.aux or 0)
-        return b"TYPE %s %s%s\n" % (u, v, text)
-
-    def get_desc(self, _, u, v):
-        self.variable(self.live(u), v)
-        return b"DESC %s %s %s\n" % (u, v, quoted(VARIABLES_DESCRIBED.get(v, NO_DESCRIPTION)))
-
-    def get_cmddesc(self, _, u, k):
-        if k not in self.live(u).commands:
-            raise error("CMD-NOT-SUPPORTED")
-        return b"CMDDESC %s %s %s\n" % (u, k, quoted(COMMANDS_DESCRIBED.get(k, NO_DESCRIPTION)))
-
     def listed(self, query, rows):
         return b"BEGIN LIST %s\n%sEND LIST %s\n" % (query, b"".join(row + b"\n" for row in rows), query)
-
-    def list_ups(self, _):
-        return self.listed(b"UPS", (b"UPS %s %s" % (it.name, quoted(it.description)) for it in self.upses))
-
-    def list_var(self, _, u):
-        ups = self.live(u)
-        return self.listed(b"VAR " + u, (b"VAR %s %s %s" % (u, v, quoted(self.shown(ups, v))) for v in sorted(ups.variables)))
-
-    def list_rw(self, _, u):
-        ups = self.live(u)
-        names = sorted(v for v in ups.variables if "RW" in ups.variables[v].flags)
-        return self.listed(b"RW " + u, (b"RW %s %s %s" % (u, v, quoted(self.shown(ups, v))) for v in names))
-
-    def list_cmd(self, _, u):
-        return self.listed(b"CMD " + u, (b"CMD %s %s" % (u, k) for k in sorted(self.live(u).commands)))
-
-    def list_enum(self, _, u, v):
-        variable = self.variable(self.live(u), v)
-        return self.listed(b"ENUM %s %s" % (u, v), (b"ENUM %s %s %s" % (u, v, quoted(it)) for it in variable.enums))
-
-    def list_range(self, _, u, v):
-        variable = self.variable(self.live(u), v)
-        rows = (b'RANGE %s %s "%d" "%d"' % (u, v, least, most) for least, most in variable.ranges)
-        return self.listed(b"RANGE %s %s" % (u, v), rows)
-
-    def list_client(self, _, u):
-        ups = self.live(u)
-        return self.listed(b"CLIENT " + u, (b"CLIENT %s %s" % (u, it.address) for it in self.logins(ups)))
-
-    def set_var(self, connection, u, v, x):
-        ups = self.permitted(connection, u, "SET")
-        self.refuse_unless_live(ups)
-        self.variable(ups, v).refuse(x)
-        return self.hand_on(connection, ups, b"SET %s %s" % (v, quoted(x)), "SET-FAILED")
 
     def hand_on(self, connection, ups, request, refusal):
         """Hands a request on to a driver, under the next number if the client's requests are tracked."""
         if not connection.is_tracking:
             if not ups.ask(request + b"\n"):
-                raise error(refusal)
+                raise Refused(refusal)
             return b"OK\n"
         number = self.given + 1
         if number > TRACKING_NUMBER_MAX or not ups.ask(b"%s TRACKING %d\n" % (request, number)):
-            raise error(refusal)
+            raise Refused(refusal)
         self.given = number
         ups.track(number)
         return b"OK TRACKING %d\n" % number
-
-    def set_tracking(self, connection, word):
-        if word.upper() not in (b"ON", b"OFF"):
-            raise error("INVALID-ARGUMENT")
-        self.need_credentials(connection)
-        connection.is_tracking = word.upper() == b"ON"
-        return b"OK\n"
-
-    def get_tracking(self, connection, number=None):
-        if number is None:
-            return b"TRACKING %s\n" % (b"ON" if connection.is_tracking else b"OFF")
-        if not fits(TRACKING_NUMBER, number):
-            raise error("INVALID-ARGUMENT")
-        statuses = [it.tracked[int(number)] for it in self.upses if int(number) in it.tracked]
-        return b"TRACKING %s %s\n" % (number, statuses[0] if statuses else b"UNKNOWN")
-
-    def instcmd(self, connection, u, k, x=None):
-        ups = self.permitted(connection, u, "INSTCMD", k)
-        self.refuse_unless_live(ups)
-        if k not in ups.commands:
-            raise error("CMD-NOT-SUPPORTED")
-        if x is not None and len(x) > VALUE_MAX:
-            raise error("TOO-LONG")
-        parameter = b"" if x is None else b" " + quoted(x)
-        return self.hand_on(connection, ups, b"INSTCMD " + k + parameter, "INSTCMD-FAILED")
-
-    def username(self, connection, x):
-        if not 1 <= len(x) <= CREDENTIAL_MAX:
-            raise error("INVALID-ARGUMENT")
-        if connection.user is not None:
-            raise error("ALREADY-SET-USERNAME")
-        connection.user = x
-        return b"OK\n"
-
-    def password(self, connection, x):
-        if not 1 <= len(x) <= CREDENTIAL_MAX:
-            raise error("INVALID-ARGUMENT")
-        if connection.password is not None:
-            raise error("ALREADY-SET-PASSWORD")
-        connection.password = x
-        return b"OK\n"
-
-    def login(self, connection, u):
-        ups = self.permitted(connection, u, "LOGIN")
-        if connection.login is not None:
-            raise error("ALREADY-LOGGED-IN")
-        connection.login = ups
-        return b"OK\n"
-
-    def primary(self, connection, u):
-        self.permitted(connection, u, "PRIMARY")
-        return b"OK\n"
-
-    def fsd(self, connection, u):
-        self.permitted(connection, u, "FSD").is_forced = True
-        return b"OK FSD-SET\n"
-
-    def logout(self, connection):
-        connection.is_logged_out = True
-        connection.login = None
-        return b"OK Goodbye\n"
-
-    def ver(self, _):
-        return b"Network UPS Tools upsd profile 1.3\n"
-
-    def netver(self, _):
-        return b"1.3\n"
-
-    def help(self, _):
-        return HELP + b"\n"
-
-    def starttls(self, _):
-        raise error("FEATURE-NOT-CONFIGURED")
-
-
-# how many words may follow the words of a form, and the method that answers it
-FORMS = {
-    b"GET NUMLOGINS": ((1,), Server.get_numlogins),
-    b"GET UPSDESC": ((1,), Server.get_upsdesc),
-    b"GET VAR": ((2,), Server.get_var),
-    b"GET TYPE": ((2,), Server.get_type),
-    b"GET DESC": ((2,), Server.get_desc),
-    b"GET CMDDESC": ((2,), Server.get_cmddesc),
-    b"LIST UPS": ((0,), Server.list_ups),
-    b"LIST VAR": ((1,), Server.list_var),
-    b"LIST RW": ((1,), Server.list_rw),
-    b"LIST CMD": ((1,), Server.list_cmd),
-    b"LIST ENUM": ((2,), Server.list_enum),
-    b"LIST RANGE": ((2,), Server.list_range),
-    b"LIST CLIENT": ((1,), Server.list_client),
-    b"GET TRACKING": ((0, 1), Server.get_tracking),
-    b"SET VAR": ((3,), Server.set_var),
-    b"SET TRACKING": ((1,), Server.set_tracking),
-    b"INSTCMD": ((2, 3), Server.instcmd),
-    b"USERNAME": ((1,), Server.username),
-    b"PASSWORD": ((1,), Server.password),
-    b"LOGIN": ((1,), Server.login),
-    b"PRIMARY": ((1,), Server.primary),
-    b"FSD": ((1,), Server.fsd),
-    b"LOGOUT": ((0,), Server.logout),
-    b"VER": ((0,), Server.ver),
-    b"NETVER": ((0,), Server.netver),
-    b"HELP": ((0,), Server.help),
-    b"STARTTLS": ((0,), Server.starttls),
-}
-FIRST_WORDS = {key.split()[0] for key in FORMS}
