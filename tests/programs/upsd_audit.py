@@ -6,17 +6,15 @@ who was refused, and which lines of a driver can't be read.
 
 The last line is 'N passed, M failed'."""
 
-import os
 import re
 import signal
 import socket
 import struct
 import sys
-import tempfile
 import time
 
-from tests.support.harness import ensure, expect, run_tests
-from tests.support.room import Client, Lines, ONLINE, Room, NO_PINGS, STATUS, accepted, stopped, until
+from tests.support.harness import ensure, expect, play
+from tests.support.room import Client, ONLINE, Room, RoomTests, NO_PINGS, STATUS, play_driver, stopped, until
 
 UPS = "upsd: UPS su700: "
 ADMIN, MON = "admin@127.0.0.1", "mon@127.0.0.1"
@@ -26,6 +24,9 @@ FORCED = f"{UPS}shutdown is forced (FSD) by {MON}"
 LOGGED_IN, LOGGED_OUT = f"{UPS}{MON} logged in", f"{UPS}{MON} logged out"
 LEFT = f"{UPS}connection of {MON} ended without LOGOUT"
 UNREAD = "%sunreadable line about {} from the driver" % UPS
+
+# what a driver tells of a UPS that is on line
+ON_LINE = b'SETINFO ups.status "OL"'
 
 # passwords and values that show nowhere else
 USERS = (
@@ -48,33 +49,41 @@ class Source(Client):
 
 
 class Audited(Room):
-    """A room whose passwords show nowhere else, and the lines that its upsd writes."""
+    """A room whose passwords show nowhere else."""
 
-    def serve(self, *words, **options):
-        with open(self.path("upsd.users"), "wb") as file:
-            file.write(USERS)
-        self.said = Lines(self.upsd(*words, **options))
+    mon = b"second-pass"
+
+    def __init__(self, *programs_and_folder, **texts):
+        super().__init__(*programs_and_folder, **texts)
+        self.write("upsd.users", USERS)
+
+    def known(self, name, password):
+        """Returns a new client that has given a name and a password."""
+        client = self.client()
+        client.log_in(name, password)
+        return client
 
     def admin(self):
-        client = self.client()
-        client.log_in(b"admin", b"first-pass")
-        return client
+        return self.known(b"admin", b"first-pass")
 
-    def mon(self):
-        client = self.client()
-        client.log_in(b"mon", b"second-pass")
-        return client
+    def monitor(self):
+        return self.known(b"mon", self.mon)
 
     def told(self):
         """Returns the lines that tell of clients."""
-        return [line for line in self.said.lines if OF_CLIENTS.match(line)]
+        return [line for line in self.lines.lines if OF_CLIENTS.match(line)]
 
     def expect_told(self, wanted, what):
         """Waits until as many lines tell of clients, and compares them. No secret may show."""
-        until(lambda: len(self.told()) >= len(wanted), f"{what}: {wanted} in {self.said.lines}")
+        until(lambda: len(self.told()) >= len(wanted), f"{what}: {wanted} in {self.lines.lines}")
         expect(self.told(), wanted, what)
         for secret in SECRETS:
-            ensure(not any(secret in line for line in self.said.lines), f"{what}: {secret} shows in {self.said.lines}")
+            ensure(not any(secret in line for line in self.lines.lines), f"{what}: {secret} shows in {self.lines.lines}")
+
+
+def settable(most):
+    """Returns what a driver tells of ups.id, which may be set to so many bytes."""
+    return b'SETINFO ups.id "x"', b"SETFLAGS ups.id RW STRING", b"SETAUX ups.id %d" % most
 
 
 def refusals(lines):
@@ -83,23 +92,16 @@ def refusals(lines):
     return [(it[1], int(it[2])) for it in found if it]
 
 
-class Tests:
-    def __init__(self, upsd, dummy, folder):
-        self.programs = (upsd, dummy)
-        self.folder = folder
+class Tests(RoomTests):
+    kind = Audited
 
-    def room(self, **texts):
-        return Audited(self.programs, self.folder, **texts)
-
-    # From here on, each method whose name begins with 'test_' is a test.
+    # Each method whose name begins with 'test_' is a test.
 
     def test_what_changes_something(self):
         """Each request that a driver is handed, whether or not the reports are to be quiet."""
         for words in ((), ("-q",)):
             with self.room() as room:
-                driver = room.dummy()
-                room.serve(*words)
-                room.until(STATUS, ONLINE)
+                driver, _ = room.online(*words)
                 with room.admin() as client:
                     expect(client.ask(b"SET VAR su700 ups.id hidden-value\n"), b"OK\n", "SET")
                     expect(client.ask(b"INSTCMD su700 load.off\n"), b"OK\n", "INSTCMD")
@@ -113,22 +115,18 @@ class Tests:
 
     def test_it_is_told_at_once(self):
         with self.room() as room:
-            room.dummy()
-            room.serve()
-            room.until(STATUS, ONLINE)
+            room.online()
             with room.admin() as client:
                 begun = time.monotonic()
                 for i in range(1, 21):
                     expect(client.ask(b"SET VAR su700 ups.id %d\n" % i), b"OK\n", "SET")
-                    until(lambda: room.said.count(SET_ID) == i, f"line {i}", pause=0.001)
+                    until(lambda: room.lines.count(SET_ID) == i, f"line {i}", pause=0.001)
                 took = time.monotonic() - begun
                 ensure(took < 10, f"20 requests were told one after the other in {took:.1f} s, as if each waited for the next second")
 
     def test_what_is_refused_is_not_told_as_done(self):
         with self.room() as room:
-            driver = room.dummy()
-            room.serve()
-            room.until(STATUS, ONLINE)
+            driver, _ = room.online()
             with room.admin() as client:
                 for request, answer in (
                     (b"SET VAR su700 ups.status x\n", b"ERR READONLY\n"),
@@ -146,7 +144,7 @@ class Tests:
                 expect(client.ask(b"SET VAR su700 ups.id x\n"), b"ERR DRIVER-NOT-CONNECTED\n", "SET without a driver")
             with room.client() as client:
                 expect(client.ask(b"FSD su700\n"), b"ERR USERNAME-REQUIRED\n", "FSD without a name")
-            with room.mon() as client:
+            with room.monitor() as client:
                 expect(client.ask(b"LOGIN none\n"), b"ERR UNKNOWN-UPS\n", "LOGIN")
             time.sleep(1.5)
             room.expect_told([], "refused requests")
@@ -154,8 +152,7 @@ class Tests:
     def test_a_full_queue(self):
         with self.room(conf=NO_PINGS) as room, room.driver() as listener:
             room.serve()
-            with accepted(listener) as driver:
-                driver.sendall(b'SETINFO ups.id "x"\nSETFLAGS ups.id RW STRING\nSETAUX ups.id 512\nDATAOK\nDUMPDONE\n')
+            with play_driver(listener, *settable(512)):
                 room.until(b"GET VAR su700 ups.id\n", b'VAR su700 ups.id "x"\n')
                 with room.admin() as client:
                     request, answers = b"SET VAR su700 ups.id " + b"y" * 512 + b"\n", []
@@ -165,20 +162,16 @@ class Tests:
 
     def test_logins(self):
         with self.room() as room:
-            room.dummy()
-            room.serve()
-            room.until(STATUS, ONLINE)
-            with room.mon() as client:
-                expect(client.ask(b"LOGIN su700\n"), b"OK\n", "LOGIN")
+            room.online()
+            with room.logged_in() as client:
                 expect(client.ask(b"LOGIN su700\n"), b"ERR ALREADY-LOGGED-IN\n", "LOGIN again")
                 expect(client.ask(b"LOGOUT\n"), b"OK Goodbye\n", "LOGOUT")
                 room.expect_told([LOGGED_IN, LOGGED_OUT], "LOGIN and LOGOUT")
-            with room.mon() as client:
-                expect(client.ask(b"LOGIN su700\n"), b"OK\n", "LOGIN")
+            room.logged_in().close()
             room.expect_told([LOGGED_IN, LOGGED_OUT, LOGGED_IN, LEFT], "a connection that ends")
-            with room.mon() as client:
+            with room.monitor() as client:
                 expect(client.ask(b"LOGOUT\n"), b"OK Goodbye\n", "LOGOUT without LOGIN")
-            with room.mon() as client:
+            with room.monitor() as client:
                 expect(client.ask(b"VER\n")[:3], b"Net", "VER")
             time.sleep(0.5)
             room.expect_told([LOGGED_IN, LOGGED_OUT, LOGGED_IN, LEFT], "clients that weren't logged in")
@@ -186,21 +179,18 @@ class Tests:
     def test_connections_that_are_reset(self):
         """Whatever becomes of the answers, each LOGIN and its end is told, and LOGOUT as what it is."""
         with self.room() as room:
-            room.dummy()
-            room.serve()
-            room.until(STATUS, ONLINE)
+            room.online()
             wanted = []
             for last, end in ((b"", LEFT), (b"LOGOUT\n", LOGGED_OUT)):
                 for _ in range(20):
-                    client = room.mon()
+                    client = room.logged_in()
                     # it is reset once it is closed
                     client.socket.setsockopt(socket.SOL_SOCKET, socket.SO_LINGER, struct.pack("ii", 1, 0))
-                    expect(client.ask(b"LOGIN su700\n"), b"OK\n", "LOGIN")
                     client.send(b"VER\n" * 5 + last)
                     if last:
                         # what was sent arrives before the reset
-                        room.said.next(LOGGED_IN)
-                        room.said.next(LOGGED_OUT)
+                        room.lines.next(LOGGED_IN)
+                        room.lines.next(LOGGED_OUT)
                     client.close()
                     wanted += [LOGGED_IN, end]
                     room.expect_told(wanted, f"reset after {last!r}")
@@ -209,9 +199,7 @@ class Tests:
         """Clients that are gone before they are answered: each request that the driver gets is told, and no other."""
         with self.room(conf=NO_PINGS) as room, room.driver() as listener:
             room.serve()
-            with accepted(listener) as driver, driver.makefile("rb") as asked:
-                driver.sendall(b'SETINFO ups.status "OL"\nSETINFO ups.id "x"\nDATAOK\n')
-                driver.sendall(b"SETFLAGS ups.id RW STRING\nSETAUX ups.id 9\nDUMPDONE\n")
+            with play_driver(listener, ON_LINE, *settable(9)) as driver, driver.makefile("rb") as asked:
                 room.until(STATUS, ONLINE)
                 for i in range(40):
                     with room.client() as client:
@@ -228,9 +216,7 @@ class Tests:
 
     def test_clients_that_end_behind_their_requests(self):
         with self.room() as room:
-            room.dummy()
-            room.serve()
-            room.until(STATUS, ONLINE)
+            room.online()
             for _ in range(10):
                 with room.client() as client:
                     client.send(b"USERNAME mon\nPASSWORD second-pass\nLOGIN su700\nLOGOUT\n")
@@ -240,22 +226,13 @@ class Tests:
 
     def test_several_lines_at_once(self):
         done = (
-            b"GET VAR su700 ups.id\n",
-            b"SET VAR su700 ups.id hidden-value\n",
-            b" \tset var su700 ups.id hidden-value\n",
-            b'"SET" VAR su700 ups.id x\n',
-            b"INSTCMD su700 load.off\n",
-            b"instcmd su700 load.off\n",
-            b"VER\n",
-            b"SET VAR su700 ups.status x\n",
-            b"SET VAR su700 ups.id x\n",
-            b"LOGOUT\n",
+            b"GET VAR su700 ups.id\n", b"SET VAR su700 ups.id hidden-value\n", b" \tset var su700 ups.id hidden-value\n",
+            b'"SET" VAR su700 ups.id x\n', b"INSTCMD su700 load.off\n", b"instcmd su700 load.off\n", b"VER\n",
+            b"SET VAR su700 ups.status x\n", b"SET VAR su700 ups.id x\n", b"LOGOUT\n",
         )
         watched = (b"GET VAR su700 ups.id\n", b"LOGIN su700\n", b"VER\n", b"FSD su700\n", b"\tFSD su700\n", b"LOGOUT\n", b"FSD su700\n")
         with self.room() as room:
-            room.dummy()
-            room.serve()
-            room.until(STATUS, ONLINE)
+            room.online()
             with room.client() as client:
                 client.send(b"USERNAME admin\nPASSWORD first-pass\n" + b"".join(done))
                 answers = client.file.read().splitlines()
@@ -269,9 +246,7 @@ class Tests:
 
     def test_a_line_that_comes_byte_by_byte(self):
         with self.room() as room:
-            room.dummy()
-            room.serve()
-            room.until(STATUS, ONLINE)
+            room.online()
             with room.admin() as client:
                 client.socket.setsockopt(socket.IPPROTO_TCP, socket.TCP_NODELAY, 1)
                 for line in (b"SET VAR su700 ups.id hidden-value\n", b"INSTCMD su700 load.off\n"):
@@ -291,9 +266,7 @@ class Tests:
     def test_many_requests_at_once(self):
         """Requests between a great many others, in pieces that end anywhere."""
         with self.room(conf=NO_PINGS) as room:
-            room.dummy()
-            room.serve()
-            room.until(STATUS, ONLINE)
+            room.online()
             with room.admin() as client:
                 part = b"VER\n" * 7 + b"INSTCMD su700 load.off\n" + b"GET VAR su700 ups.id\n" * 3 + b"SET VAR su700 ups.id x\n"
                 for _ in range(20):
@@ -306,10 +279,8 @@ class Tests:
         """Only the first FSD changes something, and has a line; with -q, too."""
         for words in ((), ("-q",)):
             with self.room() as room:
-                room.dummy()
-                room.serve(*words)
-                room.until(STATUS, ONLINE)
-                with room.mon() as client:
+                room.online(*words)
+                with room.monitor() as client:
                     for _ in range(3):
                         expect(client.ask(b"FSD su700\n"), b"OK FSD-SET\n", "FSD")
                 time.sleep(1.5)
@@ -317,28 +288,19 @@ class Tests:
 
     def test_logins_are_not_told_to_the_quiet(self):
         with self.room() as room:
-            room.dummy()
-            room.serve("-q")
-            room.until(STATUS, ONLINE)
-            with room.mon() as client:
-                expect(client.ask(b"LOGIN su700\n"), b"OK\n", "LOGIN")
-            with room.mon() as client:
-                expect(client.ask(b"LOGIN su700\n"), b"OK\n", "LOGIN")
+            room.online("-q")
+            room.logged_in().close()
+            with room.logged_in() as client:
                 expect(client.ask(b"LOGOUT\n"), b"OK Goodbye\n", "LOGOUT")
             time.sleep(0.5)
-            expect(room.said.lines, [], "what is told")
+            expect(room.lines.lines, [], "what is told")
 
     def test_a_reload_that_ends_logins(self):
         with self.room(ups=b"[su700]\n[other]\n") as room:
-            room.dummy()
-            room.serve()
-            room.until(STATUS, ONLINE)
-            clients = [room.mon() for _ in range(3)]
-            for client in clients:
-                expect(client.ask(b"LOGIN su700\n"), b"OK\n", "LOGIN")
-            with open(room.path("ups.conf"), "wb") as file:
-                file.write(b"[other]\n")
-            open(room.path("reload"), "w").close()
+            room.online()
+            clients = [room.logged_in() for _ in range(3)]
+            room.write("ups.conf", b"[other]\n")
+            room.write("reload", b"")
             for client in clients:
                 ensure(client.is_closed(), "a client of a UPS that is gone")
                 client.close()
@@ -353,65 +315,57 @@ class Tests:
         """At most a line a second and address, the first at once, and all are counted."""
         for words in ((), ("-q",)):
             with self.room() as room:
-                room.dummy()
-                room.serve(*words)
-                room.until(STATUS, ONLINE)
+                room.online(*words)
                 begun = time.monotonic()
-                with room.client() as client:
-                    client.log_in(b"mon", b"wrong-pass")
+                with room.known(b"mon", b"wrong-pass") as client:
                     self.refuse(client, 50)
                     first = "upsd: client 127.0.0.1: access denied for user mon (1 request)"
-                    expect(room.said.next("upsd: client "), first, "the first")
-                    expect(client.ask(b"PRIMARY su700\n"), b"ERR ACCESS-DENIED\n", "PRIMARY")
-                    expect(client.ask(b"FSD su700\n"), b"ERR ACCESS-DENIED\n", "FSD")
-                    expect(client.ask(b"SET VAR su700 ups.id hidden-value\n"), b"ERR ACCESS-DENIED\n", "SET")
-                    expect(client.ask(b"INSTCMD su700 load.off\n"), b"ERR ACCESS-DENIED\n", "INSTCMD")
-                until(lambda: sum(count for _, count in refusals(room.said.lines)) >= 54, "all of them")
+                    expect(room.lines.next("upsd: client "), first, "the first")
+                    for request in (b"PRIMARY su700", b"FSD su700", b"SET VAR su700 ups.id hidden-value", b"INSTCMD su700 load.off"):
+                        expect(client.ask(request + b"\n"), b"ERR ACCESS-DENIED\n", f"{request}")
+                until(lambda: sum(count for _, count in refusals(room.lines.lines)) >= 54, "all of them")
                 took = time.monotonic() - begun
                 # in a later second the next one is told at once again
                 time.sleep(2.5)
-                with room.client() as client:
-                    client.log_in(b"mistyped", b"wrong-pass")
+                with room.known(b"mistyped", b"wrong-pass") as client:
                     self.refuse(client, 1)
                 unknown = "upsd: client 127.0.0.1: access denied for an unknown user (1 request)"
-                room.said.next(unknown)
-                found = refusals(room.said.lines)
+                room.lines.next(unknown)
+                found = refusals(room.lines.lines)
                 expect(sum(count for _, count in found), 55, f"the sum of {found}")
                 ensure(len(found) <= took + 3, f"{len(found)} lines in {took:.1f} s: {found}")
-                ensure(not any("mistyped" in line or "-pass" in line for line in room.said.lines), f"a secret shows: {room.said.lines}")
+                ensure(not any("mistyped" in line or "-pass" in line for line in room.lines.lines), f"a secret shows: {room.lines.lines}")
 
     def test_refused_passwords_of_several_users(self):
         """Those of one second are told together: by the user's name if all are his, and else as those of several."""
-        tries = ((b"mon", b"wrong-pass"), (b"mon", b"wrong-pass")), ((b"admin", b"wrong-pass"), (b"mon", b"wrong-pass")), ((b"no", b"x"), (b"nobody", b"x"))
-        for later, whose in zip(tries, ("user mon", "several users", "an unknown user")):
+        mon, admin = (b"mon", b"wrong-pass"), (b"admin", b"wrong-pass")
+        for later, whose in (
+            ((mon, mon), "user mon"),
+            ((admin, mon), "several users"),
+            (((b"no", b"x"), (b"nobody", b"x")), "an unknown user"),
+        ):
             with self.room() as room:
-                room.dummy()
-                room.serve()
-                room.until(STATUS, ONLINE)
+                room.online()
                 for name, password in (later[1], *later):
-                    with room.client() as client:
-                        client.log_in(name, password)
+                    with room.known(name, password) as client:
                         self.refuse(client, 1)
-                until(lambda: sum(count for _, count in refusals(room.said.lines)) == 3, "all are counted")
-                found = [line for line in room.said.lines if ": access denied " in line]
+                until(lambda: sum(count for _, count in refusals(room.lines.lines)) == 3, "all are counted")
+                found = [line for line in room.lines.lines if ": access denied " in line]
                 # the first is told at once, and the others mostly in the same second
-                ensure(len(found) == 3 or found[1] == f"upsd: client 127.0.0.1: access denied for {whose} (2 requests)", f"what is told of {later}: {found}")
+                wanted = f"upsd: client 127.0.0.1: access denied for {whose} (2 requests)"
+                ensure(len(found) == 3 or found[1] == wanted, f"what is told of {later}: {found}")
 
     def test_a_user_without_the_right(self):
         with self.room() as room:
-            room.dummy()
-            room.serve()
-            room.until(STATUS, ONLINE)
-            with room.mon() as client:
+            room.online()
+            with room.monitor() as client:
                 expect(client.ask(b"INSTCMD su700 load.off\n"), b"ERR ACCESS-DENIED\n", "INSTCMD of a monitor")
             room.expect_told(["upsd: client 127.0.0.1: access denied for user mon (1 request)"], "a user without the right")
 
     def test_refusals_of_many_addresses(self):
         """Each address has its own count, up to a number of addresses."""
         with self.room() as room:
-            room.dummy()
-            room.serve()
-            room.until(STATUS, ONLINE)
+            room.online()
             clients = [Source(room, f"127.0.1.{i}") for i in range(1, 41)]
             for client in clients:
                 client.log_in(b"mon", b"wrong-pass")
@@ -420,8 +374,8 @@ class Tests:
             for client in clients:
                 expect(client.line(), b"ERR ACCESS-DENIED\n", "LOGIN")
                 client.close()
-            until(lambda: sum(count for _, count in refusals(room.said.lines)) == 40, "all are counted")
-            found = refusals(room.said.lines)
+            until(lambda: sum(count for _, count in refusals(room.lines.lines)) == 40, "all are counted")
+            found = refusals(room.lines.lines)
             others = sum(count for address, count in found if address == "addresses")
             ensure(others <= 8, f"{others} of 40 aren't told by their address: {found}")
             # nothing of them is left after some seconds
@@ -429,15 +383,14 @@ class Tests:
             with Source(room, "127.0.2.1") as client:
                 client.log_in(b"mon", b"wrong-pass")
                 self.refuse(client, 1)
-            room.said.next("upsd: client 127.0.2.1: access denied for user mon (1 request)")
+            room.lines.next("upsd: client 127.0.2.1: access denied for user mon (1 request)")
 
     def test_lines_of_a_driver_that_cannot_be_read(self):
         """A value with a quote that isn't escaped: the earlier one stays until the driver connects again, and that is told once."""
         for words in ((), ("-q",)):
             with self.room(conf=NO_PINGS) as room, room.driver() as listener:
                 room.serve(*words)
-                with accepted(listener) as driver:
-                    driver.sendall(b'SETINFO ups.status "OL"\nSETINFO ups.id "old"\nDATAOK\nDUMPDONE\n')
+                with play_driver(listener, ON_LINE, b'SETINFO ups.id "old"') as driver:
                     room.until(STATUS, ONLINE)
                     for _ in range(2):
                         driver.sendall(b'SETINFO ups.id "hidden-value"b"\nSETINFO ups.model "" ""\n')
@@ -445,21 +398,19 @@ class Tests:
                     driver.sendall(b'SETINFO ups.status "OB"\n')
                     room.until(STATUS, b'VAR su700 ups.status "OB"\n')
                     expect(room.ask(b"GET VAR su700 ups.id\n"), b'VAR su700 ups.id "old"\n', "the earlier value")
-                with accepted(listener) as driver:
-                    driver.sendall(b'SETINFO ups.status "OL"\nSETINFO ups.id "a\\"b"\nDATAOK\nDUMPDONE\n')
+                with play_driver(listener, ON_LINE, b'SETINFO ups.id "a\\"b"') as driver:
                     room.until(b"GET VAR su700 ups.id\n", b'VAR su700 ups.id "a\\"b"\n')
                     driver.sendall(b'SETINFO ups.id "hidden-value"b"\n')
                     time.sleep(1.5)
-                found = [line for line in room.said.lines if "unreadable" in line]
+                found = [line for line in room.lines.lines if "unreadable" in line]
                 expect(found, [UNREAD.format("ups.id"), UNREAD.format("ups.model")], f"with {words}")
-                ensure(not any("hidden-value" in line for line in room.said.lines), f"a value shows: {room.said.lines}")
+                ensure(not any("hidden-value" in line for line in room.lines.lines), f"a value shows: {room.lines.lines}")
 
     def test_many_lines_of_a_driver_that_cannot_be_read(self):
         nameless, more = f"{UPS}unreadable line from the driver", f"{UPS}unreadable lines about more than 8 variables from the driver"
         with self.room(conf=NO_PINGS) as room, room.driver() as listener:
             room.serve()
-            with accepted(listener) as driver:
-                driver.sendall(b'SETINFO ups.status "OL"\nDATAOK\nDUMPDONE\n')
+            with play_driver(listener, ON_LINE) as driver:
                 room.until(STATUS, ONLINE)
                 # what isn't known or blank, or needs no reading, is no matter
                 driver.sendall(b"\n  \nNEWS of a later driver\nPONG\nDATAOK\n")
@@ -467,23 +418,17 @@ class Tests:
                 # a control byte, a byte that isn't ASCII, a line that is too long, a name that is none
                 driver.sendall(b'SETINFO ups.temperature "21 \xc2\xb0C"\n\x1b[2J\n' + b"x" * 3000 + b"\n")
                 driver.sendall(b'SETINFO \x1b[2J "x"\nSETINFO "ups.mfr" "a"b"\n')
-                until(lambda: room.said.count(nameless) == 1, "a line without a name")
+                until(lambda: room.lines.count(nameless) == 1, "a line without a name")
                 for i in range(20):
                     driver.sendall(b'SETINFO outlet.%d.desc "a"b"\n' % i)
-                until(lambda: room.said.count(more) == 1, "more of them")
+                until(lambda: room.lines.count(more) == 1, "more of them")
                 driver.sendall(b'SETINFO outlet.99.desc "a"b"\n' * 1000)
                 time.sleep(1.5)
-            found = [line for line in room.said.lines if "unreadable" in line]
+            found = [line for line in room.lines.lines if "unreadable" in line]
             expect(found[:3], [UNREAD.format("ups.temperature"), nameless, UNREAD.format("outlet.0.desc")], "the first")
             expect((len(found), found[-1]), (9, more), f"a number of variables, and once that there are more: {found}")
 
 
-def main():
-    programs, names = map(os.path.abspath, sys.argv[1:3]), sys.argv[3:]
-    signal.signal(signal.SIGPIPE, signal.SIG_IGN)
-    with tempfile.TemporaryDirectory() as folder:
-        return run_tests(Tests(*programs, folder), names, at_once=4)
-
-
 if __name__ == "__main__":
-    sys.exit(main())
+    signal.signal(signal.SIGPIPE, signal.SIG_IGN)
+    sys.exit(play(Tests, 2, at_once=4))
