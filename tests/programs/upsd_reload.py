@@ -9,20 +9,21 @@ import contextlib
 import errno
 import os
 import re
-import subprocess
+import shutil
 import sys
 import tempfile
 import threading
 import time
 from concurrent import futures
 
-from tests.support.harness import apart, ensure, expect, Failed, fewer, Missing, needed, patience, processor_time, refusal, run_tests, Shimmed
-from tests.support.room import Client, DEVICE, Lines, NOT_CONNECTED, ONLINE, Room, NO_PINGS, SOON, STATUS, USERS, VERSION
-from tests.support.room import accepted, descriptors, first_lines, stopped, until
+from tests.support.harness import Failed, Missing, apart, ended, ensure, expect, expect_rest, fewer, needed, play, refusal
+from tests.support.room import Client, DEVICE, Lines, NOT_CONNECTED, ONLINE, Room, RoomTests, NO_PINGS, SOON, STATUS, USERS, VERSION
+from tests.support.room import descriptors, first_lines, play_driver, stopped, until
 
 ONE = b'[su700]\ndesc = "Server room"\n'
 TWO = ONE + b"[old]\n"
 MONITOR = b"[mon]\npassword = m1\nupsmon primary\n"
+ON_LINE = b'SETINFO ups.status "OL"'
 NOTHING = "upsd: reloaded: nothing changed"
 KEPT = "upsd: not reloaded: the earlier configuration stays in force"
 ORDER = "upsd: reloaded: order of UPSes"
@@ -72,20 +73,11 @@ class Poller:
 class Reloaded(Room):
     """A room whose upsd is told to read its files again."""
 
-    def serve(self, *words, **options):
-        """Starts upsd. Returns the lines that it writes."""
-        self.lines = Lines(self.upsd(*words, **options))
-        return self.lines
-
-    def serve_online(self):
-        """Starts the dummy of su700 and upsd, and waits until upsd shows that the UPS is on line."""
-        self.dummy()
-        self.serve()
-        self.until(STATUS, ONLINE)
-
-    def write(self, name, text):
-        with open(self.path(name), "wb") as file:
-            file.write(text)
+    def online_both(self):
+        """Starts dummies of su700 and old, and upsd, and waits until it shows that both are on line."""
+        self.dummy(ups="old")
+        self.online()
+        self.until(status_of(b"old"), online(b"old"))
 
     def touch(self):
         """Asks for a reload: changes the time of the file, or makes it. Either is one call, since upsd may remove the file at any
@@ -113,9 +105,9 @@ class Reloaded(Room):
         """Has upsd read files again that have this fault, ups.conf with this text. It writes what a start writes, and below that it
         keeps the earlier configuration."""
         self.reload(ups, KEPT)
-        done = subprocess.run([self.upsd_program, "--conf", self.folder, "-s", self.folder], capture_output=True, timeout=60)
-        at_start = done.stderr.decode().splitlines()
-        expect((done.returncode, at_start[:1], len(at_start)), (1, [fault], 2), "a start with the same files")
+        status, out, err = ended(self.command())
+        at_start = err.decode().splitlines()
+        expect((status, out, at_start[:1], len(at_start)), (1, b"", [fault], 2), "a start with the same files")
         expect(self.lines.found_last(3), [*at_start, KEPT], "what is told of a fault")
 
     def upses(self):
@@ -139,14 +131,6 @@ class Reloaded(Room):
         return descriptors(upsd.pid)
 
 
-def play_driver(listener, status=b"OL"):
-    """Accepts upsd at the socket of a driver, and reports a status. Returns the link."""
-    link = accepted(listener)
-    expect(link.recv(100), b"DUMPALL\n", "a driver is asked")
-    link.sendall(b'SETINFO ups.status "%s"\nDATAOK\nDUMPDONE\n' % status)
-    return link
-
-
 def status_of(ups):
     return b"GET VAR %s ups.status\n" % ups
 
@@ -155,29 +139,16 @@ def online(ups):
     return b'VAR %s ups.status "OL"\n' % ups
 
 
-class Tests(Shimmed):
-    def __init__(self, upsd, dummy, folder):
-        self.programs = (upsd, dummy)
-        self.folder = folder
+class Tests(RoomTests):
+    kind = Reloaded
 
-    def room(self, **texts):
-        return Reloaded(self.programs, self.folder, **texts)
-
-    # From here on, each method whose name begins with 'test_' is a test.
+    # Each method whose name begins with 'test_' is a test.
 
     def test_upses_that_come_and_go(self):
         with self.room(ups=TWO) as room:
-            room.dummy()
-            room.dummy(ups="old")
-            room.serve()
-            room.until(STATUS, ONLINE)
-            room.until(status_of(b"old"), online(b"old"))
-            with room.client() as first, room.client() as second:
-                first.log_in(b"mon", b"m1")
-                expect(first.ask(b"LOGIN old\n"), b"OK\n", "LOGIN old")
+            room.online_both()
+            with room.logged_in(b"old") as first, room.logged_in() as second:
                 expect(first.ask(b"FSD old\n"), b"OK FSD-SET\n", "FSD old")
-                second.log_in(b"mon", b"m1")
-                expect(second.ask(b"LOGIN su700\n"), b"OK\n", "LOGIN su700")
                 changed = b'[neu]\ndesc = "N"\n[su700]\ndesc = "New room"\n'
                 room.reload(changed, "upsd: reloaded: UPS neu added, UPS old removed, UPS su700: description")
                 expect(first.is_closed(), True, "a client that is logged in to a UPS that is gone")
@@ -197,9 +168,8 @@ class Tests(Shimmed):
 
     def test_forced_shutdown_stays(self):
         with self.room(ups=TWO) as room:
-            room.serve_online()
-            with room.client() as client:
-                client.log_in(b"mon", b"m1")
+            room.online()
+            with room.logged_in() as client:
                 expect(client.ask(b"FSD su700\n"), b"OK FSD-SET\n", "FSD")
                 forced = client.ask(STATUS)
                 ensure(b"FSD" in forced, f"the status after FSD is {forced!r}")
@@ -224,7 +194,7 @@ class Tests(Shimmed):
     def test_same_link_to_a_driver_that_stays(self):
         with self.room(ups=TWO, conf=NO_PINGS) as room, room.driver() as listener:
             room.serve()
-            with play_driver(listener) as link:
+            with play_driver(listener, ON_LINE) as link:
                 room.until(STATUS, ONLINE)
                 room.reload(b"[new]\n[su700]\ndesc = x\n", "upsd: reloaded: UPS new added, UPS old removed, UPS su700: description")
                 link.sendall(b'SETINFO ups.status "OB"\n')
@@ -239,18 +209,16 @@ class Tests(Shimmed):
     def test_other_driver(self):
         with self.room(ups=ONE, conf=NO_PINGS) as room, room.driver() as listener, room.listener("other-su700") as other:
             room.serve()
-            with play_driver(listener) as link, room.client() as client:
+            with play_driver(listener, ON_LINE) as link, room.logged_in() as client:
                 room.until(STATUS, ONLINE)
-                client.log_in(b"mon", b"m1")
-                expect(client.ask(b"LOGIN su700\n"), b"OK\n", "LOGIN")
                 room.reload(ONE + b"driver = other\n", "upsd: reloaded: UPS su700: driver")
                 expect(link.recv(100), b"", "the old driver is disconnected")
                 expect(room.lines.count("upsd: UPS su700: driver disconnected by the reload"), 1, "it is told")
-                with play_driver(other, b"OB"):
+                with play_driver(other, b'SETINFO ups.status "OB"'):
                     room.until(STATUS, b'VAR su700 ups.status "OB"\n')
                     expect(client.ask(b"GET NUMLOGINS su700\n"), b"NUMLOGINS su700 1\n", "the login stays")
                     room.reload(b"[su700]\n", "upsd: reloaded: UPS su700: driver and description")
-                    with play_driver(listener):
+                    with play_driver(listener, ON_LINE):
                         room.until(STATUS, ONLINE)
 
     def test_many_upses(self):
@@ -260,15 +228,9 @@ class Tests(Shimmed):
             return b"".join(b"[%s%d]\n" % (prefix, i) for i in range(count))
 
         with self.room(ups=ONE) as room:
-            for i in range(31):
-                room.dummy(ups=f"a{i}")
-            for i in range(32):
-                room.dummy(ups=f"b{i}")
-            room.dummy()
-            upsd = room.upsd()
-            room.lines = Lines(upsd)
-            room.until(STATUS, ONLINE)
-
+            for ups in (*(f"a{i}" for i in range(31)), *(f"b{i}" for i in range(32))):
+                room.dummy(ups=ups)
+            _, upsd = room.online()
             at_first = room.settled(upsd)
             for _ in range(3):
                 room.reload(upses(b"a", 31) + ONE)
@@ -284,10 +246,8 @@ class Tests(Shimmed):
 
     def test_fault_keeps_the_old(self):
         with self.room(ups=TWO) as room:
-            room.serve_online()
-            with room.client() as client:
-                client.log_in(b"mon", b"m1")
-                expect(client.ask(b"LOGIN su700\n"), b"OK\n", "LOGIN")
+            room.online()
+            with room.logged_in() as client:
                 room.refuse(b"[neu]\n\n[a/b]\n", "upsd: ups.conf:3: BadName")
                 expect(room.upses(), ["su700", "old"], "the old UPSes")
                 room.refuse(b"[neu]\nvendorid = 1\n", "upsd: ups.conf:2: UnknownDirective")
@@ -316,16 +276,9 @@ class Tests(Shimmed):
 
     def test_others_notice_nothing(self):
         with self.room(ups=TWO) as room:
-            room.dummy()
-            room.dummy(ups="old")
-            room.serve()
-            room.until(STATUS, ONLINE)
-            room.until(status_of(b"old"), online(b"old"))
+            room.online_both()
             poller = Poller(room, [(STATUS, ONLINE), (b"VER\n", VERSION)], 0)
-            with room.client() as slow, room.client() as logged_in, room.client() as gone, room.client() as busy:
-                for client, ups in ((logged_in, b"su700"), (gone, b"old")):
-                    client.log_in(b"mon", b"m1")
-                    expect(client.ask(b"LOGIN %s\n" % ups), b"OK\n", "LOGIN")
+            with room.client() as slow, room.logged_in() as logged_in, room.logged_in(b"old") as gone, room.client() as busy:
                 slow.send(STATUS[:10])
                 gone.send(STATUS[:10])
                 # one that has asked for a lot, and takes it later
@@ -341,10 +294,7 @@ class Tests(Shimmed):
 
     def test_reloads_under_load(self):
         with self.room(ups=TWO) as room:
-            room.dummy()
-            room.dummy(ups="old")
-            room.serve()
-            room.until(STATUS, ONLINE)
+            room.online_both()
             rows = [(STATUS, ONLINE), (b"VER\n", VERSION), (b"GET UPSDESC su700\n", b'UPSDESC su700 "Server room"\n')]
             pollers = [Poller(room, rows, 0.05) for _ in range(20)]
             for turn in range(10):
@@ -355,18 +305,13 @@ class Tests(Shimmed):
     def test_tools_of_nut_under_load(self):
         upsc = needed("upsc", "nut-client")
         with self.room(ups=TWO) as room:
-            room.serve_online()
+            room.online()
             found, goes_on = [], True
 
             def poll():
                 while goes_on:
-                    words = [upsc, f"su700@{room.host}:{room.port}", "ups.status"]
-                    try:
-                        done = subprocess.run(words, stdin=subprocess.DEVNULL, stdout=subprocess.PIPE, stderr=subprocess.DEVNULL, timeout=SOON)
-                    except subprocess.TimeoutExpired:
-                        found.append("no answer in time")
-                        return
-                    found.append((done.returncode, done.stdout))
+                    words = ["timeout", str(int(SOON)), upsc, f"su700@{room.host}:{room.port}", "ups.status"]
+                    found.append(ended(words)[:2])
                     time.sleep(0.05)
 
             thread = threading.Thread(target=poll)
@@ -381,7 +326,7 @@ class Tests(Shimmed):
 
     def test_users(self):
         with self.room(ups=ONE) as room:
-            room.serve_online()
+            room.online()
             with room.client() as client:
                 client.log_in()
                 expect(client.ask(b'SET VAR su700 ups.id "a"\n'), b"OK\n", "SET before")
@@ -397,11 +342,8 @@ class Tests(Shimmed):
         listen = b"LISTEN 127.0.0.1 %d\n"
         with self.room() as room:
             room.serve()
-            clients = [room.client() for _ in range(4)]
-            try:
-                for client in clients:
-                    client.log_in(b"mon", b"m1")
-                    expect(client.ask(b"LOGIN su700\n"), b"OK\n", "LOGIN")
+            with contextlib.ExitStack() as stack:
+                clients = [stack.enter_context(room.logged_in()) for _ in range(4)]
                 room.write("upsd.conf", listen % room.port + b"MAXAGE 30\nMAXCONN 2\n")
                 room.reload(None, "upsd: reloaded: MAXAGE 30, MAXCONN 2")
                 for client in clients:
@@ -416,18 +358,14 @@ class Tests(Shimmed):
                 with room.client() as second, room.client() as third:
                     for client in (clients[0], second, third):
                         expect(client.ask(b"VER\n"), VERSION, "a client of three")
-            finally:
-                for client in clients:
-                    client.close()
 
     def test_fewer_places_than_clients(self):
         """After a reload that lowers MAXCONN nobody is closed until a client calls; then as many make way as it takes."""
         with self.room() as room:
             room.serve()
             with contextlib.ExitStack() as stack:
-                clients = [stack.enter_context(room.client()) for _ in range(6)]
-                clients[1].log_in(b"mon", b"m1")
-                expect(clients[1].ask(b"LOGIN su700\n"), b"OK\n", "LOGIN")
+                kinds = (room.client, room.logged_in, *[room.client] * 4)
+                clients = [stack.enter_context(connect()) for connect in kinds]
                 room.write("upsd.conf", b"LISTEN 127.0.0.1 %d\nMAXCONN 3\n" % room.port)
                 room.reload(None, "upsd: reloaded: MAXCONN 3")
                 for client in clients:
@@ -453,8 +391,7 @@ class Tests(Shimmed):
     def test_descriptions(self):
         asked = b"GET DESC su700 ups.model\n"
         with self.room() as room:
-            room.dummy(DEVICE + b"ups.model: S\n")
-            room.serve()
+            room.online(device=DEVICE + b"ups.model: S\n")
             room.until(asked, b'DESC su700 ups.model "Description unavailable"\n')
             room.write("cmdvartab", b'VARDESC ups.model "the model"\n')
             room.reload(None, "upsd: reloaded: cmdvartab")
@@ -492,14 +429,11 @@ class Tests(Shimmed):
 
     def test_file_that_cannot_be_removed(self):
         with self.room() as room:
-            upsd = room.upsd()
-            lines = room.lines = Lines(upsd)
+            lines = room.serve()
             os.mkdir(room.path("reload"))
             lines.next("upsd: cannot remove " + room.path("reload") + ": ")
             lines.next(NOTHING)
-            used = processor_time(upsd.pid)
-            time.sleep(LOOKS)
-            ensure(processor_time(upsd.pid) - used < patience(0.1), "processor time is used for a file that can't be removed")
+            expect_rest(room.server, LOOKS, 0.1, "for a file that can't be removed")
             expect(lines.count("upsd: reloaded"), 1, "reloads by one file")
             room.write("ups.conf", b"[new]\n")
             os.utime(room.path("reload"))
@@ -524,8 +458,7 @@ class Tests(Shimmed):
             for at in (parent, self.folder):
                 os.chmod(at, 0o755)
             program = os.path.join(parent, "upsd")
-            with open(self.programs[0], "rb") as old, open(program, "wb") as new:
-                new.write(old.read())
+            shutil.copyfile(self.programs[0], program)
             os.chmod(program, 0o755)
             room.upsd_program = program
             lines = room.serve(user=nobody, group=nobody, extra_groups=[])
@@ -551,15 +484,13 @@ class Tests(Shimmed):
                 room.touch()
                 lines.next(NOTHING)
                 ensure(room.is_asked(), "the file isn't left to another program")
-                there = time.monotonic()
-                end = there + SOON
+                end = time.monotonic() + SOON
                 while room.is_asked():
                     there = time.monotonic()
                     ensure(there < end, "the file isn't removed")
                     time.sleep(0.02)
                 # it is seen by the first look after the last removal at the earliest, and removed two looks later
-                if before is not None:
-                    ensure(time.monotonic() - before > 2.5, "the file is removed too soon for another program")
+                ensure(before is None or time.monotonic() - before > 2.5, "the file is removed too soon for another program")
                 before = there
             time.sleep(LOOKS)
             expect(lines.count("upsd: reloaded"), 3, "reloads")
@@ -570,7 +501,7 @@ class Tests(Shimmed):
         with self.room() as room:
             os.mkdir(room.path("sockets"))
             beside = room.path("sockets/reload")
-            open(beside, "w").close()
+            room.write("sockets/reload", b"")
             upsd = room.start([self.programs[0], "--conf", room.folder, "-s", room.path("sockets")])
             lines = room.lines = Lines(upsd)
             lines.next("upsd: listening on ")
@@ -578,13 +509,13 @@ class Tests(Shimmed):
             time.sleep(LOOKS)
             expect(lines.count("upsd: reloaded"), 0, "reloads by a file of before the start")
             room.write("ups.conf", TWO)
-            open(beside, "w").close()
+            room.write("sockets/reload", b"")
             lines.next("upsd: reloaded: UPS old added")
             ensure(not os.path.exists(beside), "the file stays")
             room.reload(ONE, "upsd: reloaded: UPS old removed")
             with stopped(upsd):
                 room.touch()
-                open(beside, "w").close()
+                room.write("sockets/reload", b"")
             lines.next(NOTHING)
             time.sleep(LOOKS)
             expect(lines.count("upsd: reloaded"), 3, "reloads by three requests, of which one is two files")
@@ -593,7 +524,7 @@ class Tests(Shimmed):
             room.write("upsmon.conf", b"MINSUPPLIES 0\n")
             with stopped(upsd):
                 room.touch()
-                open(beside, "w").close()
+                room.write("sockets/reload", b"")
             lines.next(NOTHING)
             expect((room.is_asked(), os.path.exists(beside)), (True, False), "files that stay where upsmon looks for one")
             time.sleep(LOOKS)
@@ -607,14 +538,14 @@ class Tests(Shimmed):
             os.mkdir(room.path("conf"))
             for name in ("ups.conf", "upsd.users", "upsd.conf"):
                 os.rename(room.path(name), room.path(f"conf/{name}"))
-            open(room.path("conf/reload"), "w").close()
+            room.write("conf/reload", b"")
             words = ["sh", "-c", 'mount --bind "$0" "$0" && mount -o remount,bind,ro "$0" && exec "$@"', room.path("conf")]
             upsd = room.start([*apart("--mount", *words), self.programs[0], "--conf", room.path("conf"), "-s", room.path("sockets")])
             lines = Lines(upsd)
             lines.next("upsd: listening on ")
             time.sleep(LOOKS)
             for _ in range(3):
-                open(room.path("sockets/reload"), "w").close()
+                room.write("sockets/reload", b"")
                 lines.next(NOTHING)
                 ensure(not os.path.exists(room.path("sockets/reload")), "the file stays")
             expect(lines.count("upsd: cannot remove"), 0, "faults")
@@ -627,19 +558,15 @@ class Tests(Shimmed):
     def test_no_look_without_sockets(self):
         with self.room() as room:
             room.touch()
-            done = subprocess.run([self.programs[0], "--stdio", "--conf", room.folder], input=VERSION, capture_output=True, timeout=60)
-            expect(done.returncode, 0, "--stdio")
-            done = subprocess.run([self.programs[0], "--check", "--conf", room.folder], capture_output=True, timeout=60)
-            expect(done.returncode, 0, "--check")
+            for word in ("--stdio", "--check"):
+                expect(ended([room.upsd_program, word, "--conf", room.folder])[0], 0, word)
             ensure(room.is_asked(), "the file is removed by one who doesn't serve on")
 
     def test_lack_of_memory(self):
         once = os.path.join(self.folder, "dry")
         env = self.refusing_memory(once)
         with self.room() as room:
-            room.dummy()
-            room.serve(env=env)
-            room.until(STATUS, ONLINE)
+            room.online(env=env)
             with room.client() as client:
                 # answers that wait together leave room for each of those below
                 client.send(4 * STATUS)
@@ -658,7 +585,7 @@ class Tests(Shimmed):
         """Clients are let in without memory, and wait for nothing but their answers."""
         once = os.path.join(self.folder, "thirsty")
         with self.room() as room:
-            lines, (upsd,) = room.serve("-q", env=self.refusing_memory(once)), room.running
+            lines, upsd = room.serve("-q", env=self.refusing_memory(once)), room.server
             before = room.settled(upsd)
             with contextlib.ExitStack() as closing:
                 first = closing.enter_context(room.client())
@@ -677,8 +604,8 @@ class Tests(Shimmed):
         once = os.path.join(self.folder, "parched")
         driver_told, client_told = "upsd: UPS su700: driver disconnected: out of memory", "upsd: client 127.0.0.1 closed: out of memory"
         with self.room(conf=NO_PINGS) as room, room.driver() as listener:
-            lines, (upsd,) = room.serve(env=self.refusing_memory(once)), room.running
-            with play_driver(listener) as link, contextlib.ExitStack() as closing:
+            lines, upsd = room.serve(env=self.refusing_memory(once)), room.server
+            with play_driver(listener, ON_LINE) as link, contextlib.ExitStack() as closing:
                 room.until(STATUS, ONLINE)
                 before = room.settled(upsd)
                 first, *others = [closing.enter_context(room.client()) for _ in range(20)]
@@ -697,7 +624,7 @@ class Tests(Shimmed):
                 link.sendall(b"".join(b'SETINFO ambient.%d.status "x"\n' % i for i in range(200)))
                 lines.next(driver_told)
                 os.remove(once)
-            with play_driver(listener):
+            with play_driver(listener, ON_LINE):
                 room.until(STATUS, ONLINE)
             lines.next("upsd: UPS su700: driver lost")
             ensure(lines.count(client_told) <= took + 2, "clients are told too often")
@@ -747,7 +674,7 @@ class Tests(Shimmed):
             while many - few > 1:
                 at = (few + many) // 2
                 env = refusal(self.shim, "allocation", at)
-                upsd = room.start([self.programs[0], "--conf", room.folder, "-s", room.folder], env=env)
+                upsd = room.start(room.command(), env=env)
                 if "".join(first_lines(upsd, 1)).startswith("upsd: listening on "):
                     many = at
                 else:
@@ -762,7 +689,7 @@ class Tests(Shimmed):
         with self.room() as room:
             room.dummy()
             room.dummy(ups="u7")
-            upsd = room.start([self.programs[0], "--conf", room.folder, "-s", room.folder], env=env)
+            upsd = room.start(room.command(), env=env)
             room.lines = Lines(upsd)
             until(lambda: upsd.poll() is not None or room.lines.count("upsd: UPS su700: driver connected"), f"allocation {at}: a start")
             if upsd.poll() is not None:
@@ -777,12 +704,5 @@ class Tests(Shimmed):
             return met
 
 
-def main():
-    upsd, dummy, *names = sys.argv[1:]
-    with tempfile.TemporaryDirectory() as folder:
-        tests = Tests(os.path.abspath(upsd), os.path.abspath(dummy), folder)
-        return run_tests(tests, names, "root, a C compiler and Debian's package nut-client run them")
-
-
 if __name__ == "__main__":
-    sys.exit(main())
+    sys.exit(play(Tests, 2, "root, a C compiler and Debian's package nut-client run them"))
