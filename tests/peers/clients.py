@@ -7,13 +7,11 @@ If one of them isn't installed, what needs it is skipped, with a line that says 
 
 import ast
 import os
-import subprocess
 import sys
-import tempfile
 
-from tests.support.harness import Failed, Missing, apart, expect, run_tests
+from tests.support.harness import Missing, apart, ended, ensure, expect, play
 from tests.peers.server import NutRoom, needed
-from tests.support.room import ONLINE, STATUS, until
+from tests.support.room import ONLINE, RoomTests, STATUS, until
 
 # Debian's module is for Debian's Python.
 PYTHON = "/usr/bin/python3"
@@ -69,10 +67,9 @@ class ClientRoom(NutRoom):
         with open(self.path("upsd.users"), "ab") as file:
             file.write(USERS)
 
-    def serve(self):
-        self.driver_process = self.dummy(DEVICE)
-        self.upsd()
-        self.until(STATUS, ONLINE)
+    def begin(self):
+        """Starts a driver of a UPS that is on line, and the server."""
+        self.driver_process, _ = self.online(device=DEVICE)
 
     def fail(self):
         """Has the mains fail: another driver takes the place of the one that said that all was well."""
@@ -83,10 +80,9 @@ class ClientRoom(NutRoom):
     def pynut(self, expression, *user):
         """Returns the value of an expression about PyNUT's client of this room."""
         words = [PYTHON, "-W", "ignore", "-c", SCRIPT, str(self.port), expression, *user]
-        done = subprocess.run(words, stdin=subprocess.DEVNULL, capture_output=True, timeout=60)
-        if done.returncode != 0:
-            raise Failed(f"{expression}: {done.stderr.decode()}")
-        return values(ast.literal_eval(done.stdout.decode()))
+        status, out, err = ended(words)
+        ensure(status == 0, f"{expression}: {err.decode()}")
+        return values(ast.literal_eval(out.decode()))
 
     def monitor(self, role, user="mon m1"):
         """Starts NUT's upsmon with a folder of its own. Returns the folder and the process."""
@@ -112,16 +108,11 @@ class ClientRoom(NutRoom):
             return client.list(b"LIST CLIENT su700\n")[1:-1]
 
 
-class Tests:
-    def __init__(self, upsd, dummy, folder):
-        self.programs = (upsd, dummy)
-        self.folder = folder
-
-    def room(self):
-        return ClientRoom(self.programs, self.folder)
+class Tests(RoomTests):
+    kind = ClientRoom
 
     def python_room(self):
-        if not os.access(PYTHON, os.X_OK) or subprocess.run([PYTHON, "-c", "import PyNUT"], capture_output=True).returncode != 0:
+        if not os.access(PYTHON, os.X_OK) or ended([PYTHON, "-c", "import PyNUT"])[0] != 0:
             raise Missing("PyNUT isn't installed (Debian's package python3-nut)")
         return self.room()
 
@@ -129,7 +120,7 @@ class Tests:
 
     def test_pynut_asks(self):
         with self.python_room() as room:
-            room.serve()
+            room.begin()
             expect(room.pynut("client.GetUPSList()"), {"su700": "Server room"}, "GetUPSList")
             found = room.pynut("client.GetUPSVars('su700')")
             wanted = {"battery.charge": "100", "ups.id": "x", "ups.model": "5 E", "ups.status": "OL"}
@@ -145,7 +136,7 @@ class Tests:
 
     def test_pynut_changes(self):
         with self.python_room() as room:
-            room.serve()
+            room.begin()
             expect(room.pynut("client.SetRWVar('su700', 'ups.id', 'new')", "admin", "pw"), "OK", "SetRWVar")
             room.until(b"GET VAR su700 ups.id\n", b'VAR su700 ups.id "new"\n')
             expect(room.pynut("client.RunUPSCommand('su700', 'load.off')", "admin", "pw"), "OK", "RunUPSCommand")
@@ -161,7 +152,7 @@ class Tests:
     def test_pynut_and_what_it_cannot_do_here(self):
         """PyNUT sends a word that no server knows, and wants more than OK in an answer."""
         with self.python_room() as room:
-            room.serve()
+            room.begin()
             expect(room.pynut("client.ListClients()"), ("refused", "ERR INVALID-ARGUMENT"), "ListClients")
             found = room.pynut("client.FSD('su700')", "mon", "m1")
             expect(found, ("refused", ("Primary level functions are not available", "")), "FSD")
@@ -174,7 +165,7 @@ class Tests:
 
     def test_upsmon_of_nut_logs_in(self):
         with self.room() as room:
-            room.serve()
+            room.begin()
             _, monitor = room.monitor("primary")
             room.until(LOGINS, b"NUMLOGINS su700 1\n")
             expect(room.clients(), [b"CLIENT su700 127.0.0.1\n"], "who is logged in")
@@ -183,7 +174,7 @@ class Tests:
 
     def test_upsmon_of_nut_with_a_wrong_password(self):
         with self.room() as room:
-            room.serve()
+            room.begin()
             folder, _ = room.monitor("primary", user="mon no")
 
             def refusal():
@@ -196,9 +187,7 @@ class Tests:
 
     def test_upsmon_of_nut_comes_back(self):
         with self.room() as room:
-            room.dummy()
-            server = room.upsd()
-            room.until(STATUS, ONLINE)
+            _, server = room.online()
             room.monitor("primary")
             room.until(LOGINS, b"NUMLOGINS su700 1\n")
             server.kill()
@@ -209,7 +198,7 @@ class Tests:
 
     def test_upsmon_of_nut_stops_its_machine(self):
         with self.room() as room:
-            room.serve()
+            room.begin()
             folder, monitor = room.monitor("primary")
             room.until(LOGINS, b"NUMLOGINS su700 1\n")
             room.fail()
@@ -223,7 +212,7 @@ class Tests:
     def test_upsmon_of_nut_stops_its_room(self):
         """A secondary stops when the primary sets FSD, and the primary waits for it."""
         with self.room() as room:
-            room.serve()
+            room.begin()
             first, _ = room.monitor("primary")
             second, _ = room.monitor("secondary", user="guest m2")
             room.until(LOGINS, b"NUMLOGINS su700 2\n")
@@ -235,12 +224,5 @@ class Tests:
             expect(times[0] <= times[1], True, "the secondary stops first")
 
 
-def main():
-    upsd, dummy, *names = sys.argv[1:]
-    with tempfile.TemporaryDirectory() as folder:
-        tests = Tests(os.path.abspath(upsd), os.path.abspath(dummy), folder)
-        return run_tests(tests, names, "'apt-get install nut-client python3-nut' installs what they need")
-
-
 if __name__ == "__main__":
-    sys.exit(main())
+    sys.exit(play(Tests, 2, "'apt-get install nut-client python3-nut' installs what they need"))

@@ -9,14 +9,12 @@ If a program isn't installed, what needs it is skipped, with a line that says so
 import functools
 import getpass
 import os
-import subprocess
 import sys
-import tempfile
 import time
 
 from tests.support import harness
-from tests.support.harness import Failed, expect, run_tests
-from tests.support.room import DEVICE, ONLINE, STATUS, Room, until
+from tests.support.harness import ended, ensure, expect, play
+from tests.support.room import DEVICE, ONLINE, STATUS, Room, RoomTests, until
 
 # where Debian keeps NUT's daemons and drivers
 NUT_FOLDER = "/lib/nut"
@@ -34,58 +32,75 @@ class NutRoom(Room):
     def environment(self):
         return {**os.environ, "NUT_CONFPATH": self.path("nut"), "NUT_STATEPATH": self.folder, "NUT_ALTPIDPATH": self.folder}
 
-    def configure_nut(self, text=DEVICE):
+    def configure_nut(self, text=DEVICE, users=b""):
+        """Writes the files of NUT's programs: a UPS of NUT's dummy driver, the user admin, and more users."""
         os.mkdir(self.path("nut"))
-        script = os.path.join(self.path("nut"), "su700.dev")
         for name, content in (
-            ("ups.conf", b'[su700]\ndriver = dummy-ups\nport = %s\ndesc = "Server room"\n' % script.encode()),
+            ("ups.conf", b'[su700]\ndriver = dummy-ups\nport = %s\ndesc = "Server room"\n' % self.path("nut/su700.dev").encode()),
             ("upsd.conf", b"LISTEN 127.0.0.1 %d\n" % self.port),
-            ("upsd.users", b"[admin]\npassword = pw\nactions = SET\ninstcmds = ALL\n"),
+            ("upsd.users", b"[admin]\npassword = pw\nactions = SET\ninstcmds = ALL\n" + users),
             ("su700.dev", text),
         ):
-            path = os.path.join(self.path("nut"), name)
-            with open(path, "wb") as file:
-                file.write(content)
-            os.chmod(path, 0o600)
+            self.write(f"nut/{name}", content)
+            os.chmod(self.path(f"nut/{name}"), 0o600)
 
     def start_nut(self, *words):
         return self.start([*words, "-F", "-u", getpass.getuser()], env=self.environment())
 
+    def start_nuts_driver(self):
+        self.driver_process = self.start_nut(needed("dummy-ups", "nut-server"), "-a", "su700")
+
+    def start_nuts_server(self):
+        """Starts NUT's server, and waits until it listens."""
+        self.server_process = self.start_nut(needed("upsd", "nut-server"))
+        until(lambda: self.can_connect(self.server_process), "NUT's upsd listens")
+
+    def nut_online(self, text=DEVICE, users=b""):
+        """Starts NUT's driver and NUT's server, and waits until they report the first value of this text, which is the status."""
+        for name, package in (("dummy-ups", "nut-server"), ("upsd", "nut-server"), ("upsc", "nut-client")):
+            needed(name, package)
+        self.configure_nut(text, users)
+        self.start_nuts_driver()
+        self.start_nuts_server()
+        # until NUT's server has heard its driver, it shows WAIT
+        shown = text.split(b": ")[1].partition(b"\n")[0].decode() + "\n"
+        until(lambda: self.tool("upsc", "ROOM", "ups.status") == (0, shown), "NUT's upsd tells its driver's status")
+
+    def online_by_nuts_driver(self):
+        """Starts NUT's driver and this server, and waits until it shows that the UPS is on line."""
+        needed("dummy-ups", "nut-server")
+        self.configure_nut()
+        self.start_nuts_driver()
+        self.upsd()
+        self.until(STATUS, ONLINE)
+
+    def named(self, words):
+        """Returns the words of a tool, with this room's UPS for ROOM, and its server for AT."""
+        return [it.replace("ROOM", "su700@AT").replace("AT", f"127.0.0.1:{self.port}") for it in words]
+
     def tool(self, name, *words):
         """Returns what one of NUT's tools prints about this room's server."""
-        words = [it.replace("ROOM", f"su700@127.0.0.1:{self.port}") for it in words]
-        done = subprocess.run([needed(name, "nut-client"), *words], stdin=subprocess.DEVNULL, capture_output=True, timeout=60)
-        return done.returncode, done.stdout.decode()
+        return ended([needed(name, "nut-client"), *self.named(words)], text=True)[:2]
 
 
-class Tests:
-    def __init__(self, upsd, dummy, folder):
-        self.programs = (upsd, dummy)
-        self.folder = folder
+class Tests(RoomTests):
+    kind = NutRoom
 
-    def room(self):
-        return NutRoom(self.programs, self.folder)
-
-    # From here on, each method whose name begins with 'test_' is a test.
+    # Each method whose name begins with 'test_' is a test.
 
     def test_upsc_of_nut_and_this_upsd(self):
         with self.room() as room:
             needed("upsc", "nut-client")
-            room.dummy()
-            room.upsd()
-            room.until(STATUS, ONLINE)
+            room.online()
             expect(room.tool("upsc", "ROOM", "ups.status"), (0, "OL\n"), "a value")
             expect(room.tool("upsc", "ROOM"), (0, "battery.charge: 100\nups.id: x\nups.status: OL\n"), "all values")
-            found = room.tool("upsc", "-L", f"127.0.0.1:{room.port}")
-            expect(found, (0, "su700: Server room\n"), "all UPSes")
+            expect(room.tool("upsc", "-L", "AT"), (0, "su700: Server room\n"), "all UPSes")
             expect(room.tool("upsc", "ROOM", "no.such")[0], 1, "a variable that isn't there")
 
     def test_upscmd_of_nut_and_this_upsd(self):
         with self.room() as room:
             needed("upscmd", "nut-client")
-            room.dummy()
-            room.upsd()
-            room.until(STATUS, ONLINE)
+            room.online()
             status, out = room.tool("upscmd", "-l", "ROOM")
             expect((status, "load.off - " in out, "test.battery.start - " in out), (0, True, True), "commands")
             expect(room.tool("upscmd", "-u", "admin", "-p", "pw", "ROOM", "load.off"), (0, ""), "a command")
@@ -95,27 +110,20 @@ class Tests:
     def test_upsrw_of_nut_and_this_upsd(self):
         with self.room() as room:
             needed("upsrw", "nut-client")
-            room.dummy()
-            room.upsd()
-            room.until(STATUS, ONLINE)
+            room.online()
             status, out = room.tool("upsrw", "ROOM")
             expect((status, "[ups.id]" in out, "Value: x" in out), (0, True, True), "what may be set")
             expect(room.tool("upsrw", "-s", "ups.id=y z", "-u", "admin", "-p", "pw", "ROOM"), (0, ""), "a SET")
             room.until(b"GET VAR su700 ups.id\n", b'VAR su700 ups.id "y z"\n')
 
     def test_dummy_ups_of_nut_and_this_upsd(self):
-        with NutRoom(self.programs, self.folder, conf=b"MAXAGE %d\n" % MAXAGE) as room:
-            driver = needed("dummy-ups", "nut-server")
-            room.configure_nut()
-            room.start_nut(driver, "-a", "su700")
-            room.upsd()
-            room.until(STATUS, ONLINE)
+        with self.room(conf=b"MAXAGE %d\n" % MAXAGE) as room:
+            room.online_by_nuts_driver()
             expect(room.ask(b"GET VAR su700 driver.name\n"), b'VAR su700 driver.name "dummy-ups"\n', "its own value")
             with room.client() as client:
                 client.log_in()
                 rows = client.list(b"LIST RW su700\n")
-                if rows[0] != b"BEGIN LIST RW su700\n":
-                    raise Failed(f"what may be set: {rows!r}")
+                ensure(rows[0] == b"BEGIN LIST RW su700\n", f"what may be set: {rows!r}")
                 expect(client.ask(b'SET VAR su700 battery.charge "50"\n'), b"OK\n", "a SET")
                 room.until(b"GET VAR su700 battery.charge\n", b'VAR su700 battery.charge "50"\n')
             # the driver is heard for longer than its data would be fresh without a word
@@ -126,11 +134,7 @@ class Tests:
 
     def test_dummy_ups_of_nut_tells_how_requests_ended(self):
         with self.room() as room:
-            driver = needed("dummy-ups", "nut-server")
-            room.configure_nut()
-            room.start_nut(driver, "-a", "su700")
-            room.upsd()
-            room.until(STATUS, ONLINE)
+            room.online_by_nuts_driver()
             with room.client() as client:
                 client.log_in()
                 client.track()
@@ -145,9 +149,7 @@ class Tests:
         with self.room() as room:
             for tool in ("upscmd", "upsrw"):
                 needed(tool, "nut-client")
-            room.dummy()
-            room.upsd()
-            room.until(STATUS, ONLINE)
+            room.online()
             expect(room.tool("upscmd", "-w", "-u", "admin", "-p", "pw", "ROOM", "load.off"), (0, ""), "a command")
             expect(room.tool("upsrw", "-w", "-s", "ups.id=y", "-u", "admin", "-p", "pw", "ROOM"), (0, ""), "a SET")
             room.until(b"GET TRACKING 1\n", b"TRACKING 1 SUCCESS\n")
@@ -157,13 +159,12 @@ class Tests:
 
     def test_upsd_of_nut_and_this_dummy_ups(self):
         with self.room() as room:
-            server = needed("upsd", "nut-server")
+            needed("upsd", "nut-server")
             needed("upsc", "nut-client")
             room.configure_nut()
             room.dummy()
             until(lambda: os.path.exists(room.path("dummy-ups-su700")), "a driver listens")
-            process = room.start_nut(server)
-            until(lambda: room.can_connect(process), "NUT's upsd listens")
+            room.start_nuts_server()
             until(lambda: room.tool("upsc", "ROOM", "ups.status") == (0, "OL\n"), "a value")
             expect(room.tool("upsc", "ROOM"), (0, "battery.charge: 100\nups.id: x\nups.status: OL\n"), "all values")
             expect(room.tool("upsrw", "-s", "ups.id=new", "-u", "admin", "-p", "pw", "ROOM"), (0, ""), "a SET")
@@ -172,12 +173,5 @@ class Tests:
             until(lambda: room.tool("upsc", "ROOM", "ups.status") == (0, "OFF\n"), "after a command")
 
 
-def main():
-    upsd, dummy, *names = sys.argv[1:]
-    with tempfile.TemporaryDirectory() as folder:
-        tests = Tests(os.path.abspath(upsd), os.path.abspath(dummy), folder)
-        return run_tests(tests, names, "'apt-get install nut-client nut-server' installs what they need")
-
-
 if __name__ == "__main__":
-    sys.exit(main())
+    sys.exit(play(Tests, 2, "'apt-get install nut-client nut-server' installs what they need"))

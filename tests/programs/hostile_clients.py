@@ -16,14 +16,12 @@ import signal
 import socket
 import stat
 import struct
-import subprocess
 import sys
-import tempfile
 import time
 
-from tests.support.harness import Shimmed, build_library, built_without_proof, cannot_listen, cannot_read, ensure, expect
-from tests.support.harness import needs_proved_build, patience, processor_time, run_tests
-from tests.support.room import NOT_CONNECTED, ONLINE, NO_PINGS, SOON, STATUS, VERSION, Client, Lines, Room
+from tests.support.harness import build_library, built_without_proof, cannot_listen, cannot_read, ended, ensure, expect
+from tests.support.harness import needs_proved_build, patience, play, processor_time
+from tests.support.room import NOT_CONNECTED, ONLINE, NO_PINGS, SOON, STATUS, VERSION, Client, RoomTests
 from tests.support.room import accepted, descriptors, said, stopped, until
 
 # the default of MAXCONN
@@ -99,6 +97,12 @@ class Hostile:
         self.socket.close()
 
 
+def end(process):
+    """Kills a process, and waits for its end."""
+    process.kill()
+    process.wait()
+
+
 @contextlib.contextmanager
 def closing(clients):
     """Closes the clients of a list at the end."""
@@ -109,37 +113,24 @@ def closing(clients):
             client.close()
 
 
-class Tests(Shimmed):
-    def __init__(self, upsd, dummy, folder):
-        self.programs = (upsd, dummy)
-        self.folder = folder
-
+class Tests(RoomTests):
     @functools.cached_property
     def library(self):
         """The library that hastens a clock, which the first test that needs it builds."""
         return build_library("hasten", self.folder)
-
-    def room(self, **texts):
-        return Room(self.programs, self.folder, **texts)
 
     def hastened(self, room, haste, **settings):
         """Starts upsd with a clock that runs this many times as fast."""
         env = {**os.environ, "LD_PRELOAD": self.library, "HASTE": str(haste), **settings}
         return room.upsd(env=env)
 
-    def full(self, room, request):
-        """Connects as many clients as are allowed, each of which sends this."""
-        return [Hostile(room, request) for _ in range(MOST)]
-
     # From here on, each method whose name begins with 'test_' is a test.
 
     def test_as_many_as_there_may_be_never_read(self):
         needs_proved_build("how fast hundreds of clients are answered")
         with self.room() as room:
-            room.dummy(LONG)
-            upsd = room.upsd()
-            room.until(STATUS, ONLINE)
-            with closing(self.full(room, b"LIST VAR su700\n" * 10)) as clients:
+            _, upsd = room.online(device=LONG)
+            with closing([Hostile(room, b"LIST VAR su700\n" * 10) for _ in range(MOST)]) as clients:
                 # each is answered until its buffers are full, and then none takes anything
                 until(lambda: is_quiet(upsd.pid), "a server whose clients don't read has nothing to do", 60)
                 for client in clients:
@@ -154,9 +145,7 @@ class Tests(Shimmed):
     def test_what_is_kept_for_greedy_clients(self):
         needs_proved_build("how much memory is taken")
         with self.room() as room:
-            room.dummy(LONGEST)
-            upsd = room.upsd()
-            room.until(STATUS, ONLINE)
+            _, upsd = room.online(device=LONGEST)
             with closing([Hostile(room, b"LIST VAR su700\n" * 34) for _ in range(MOST - 1)]):
                 with room.client() as client:
                     client.socket.settimeout(60)
@@ -193,9 +182,7 @@ class Tests(Shimmed):
             return leaving.enter_context(contextlib.closing(Hostile(room, request)))
 
         with self.room() as room:
-            room.dummy(LONG)
-            upsd = room.upsd()
-            room.until(STATUS, ONLINE)
+            _, upsd = room.online(device=LONG)
             with contextlib.ExitStack() as leaving:
                 asking = {i: asking_of(i) for i in range(60)}
                 for first in range(3):
@@ -242,7 +229,7 @@ class Tests(Shimmed):
             with closing([room.client() for _ in range(4)]) as strangers:
                 for stranger in strangers:
                     expect(stranger.ask(b"\nVER\n"), VERSION, "a stranger")
-                with self.logged_in(room) as monitor:
+                with room.logged_in() as monitor:
                     for made_way in range(20):
                         strangers.append(room.client())
                         expect(strangers[-1].ask(b"\nVER\n"), VERSION, "a stranger that calls again")
@@ -254,15 +241,15 @@ class Tests(Shimmed):
         """A client with a wrong password, then one without a name, then one with the right name and password; nobody who is
         logged in."""
         with self.room(conf=b"MAXCONN 4\n") as room:
-            lines = Lines(room.upsd("-q"))
+            lines = room.serve("-q")
             with contextlib.ExitStack() as stack:
-                there = [stack.enter_context(self.logged_in(room))]
+                there = [stack.enter_context(room.logged_in())]
                 known, wrong, nameless = (stack.enter_context(room.client()) for _ in range(3))
                 known.log_in()
                 wrong.log_in(b"admin", b"wrong")
                 expect(nameless.ask(b"VER\n"), VERSION, "a client that gives no name")
                 for who, gone in (("a wrong password", wrong), ("no name", nameless), ("the right password", known)):
-                    there.append(stack.enter_context(self.logged_in(room)))
+                    there.append(stack.enter_context(room.logged_in()))
                     ensure(gone.is_closed(), f"a client with {who} makes way")
                     for client in there if gone is known else [*there, known]:
                         expect(client.ask(b"VER\n"), VERSION, f"another client, once that with {who} has made way")
@@ -357,14 +344,6 @@ class Tests(Shimmed):
             expect(told[told.index(SILENT.format(600)) + 1], ended, "what is told of its login")
 
     @staticmethod
-    def logged_in(room):
-        """Returns a new client that is logged in."""
-        client = room.client()
-        client.send(LOG_IN)
-        expect([client.line() for _ in range(3)], [b"OK\n"] * 3, "a login")
-        return client
-
-    @staticmethod
     def has_ended(client):
         """Whether the other end has closed by now."""
         client.socket.setblocking(False)
@@ -417,8 +396,7 @@ class Tests(Shimmed):
         anything."""
         with self.room(conf=b"MAXAGE 6\n") as room, room.driver() as listener:
             upsd = self.hastened(room, 20)
-            driver = accepted(listener)
-            with driver, room.client() as client:
+            with accepted(listener) as driver, room.client() as client:
 
                 def is_heard():
                     # what it told stays fresh for a third of a second only
@@ -438,9 +416,7 @@ class Tests(Shimmed):
 
     def test_stopped_server_asks_its_driver(self):
         with self.room(conf=b"MAXAGE 1\n") as room:
-            room.dummy()
-            upsd = room.upsd()
-            room.until(STATUS, ONLINE)
+            _, upsd = room.online()
             with room.client() as client:
                 with stopped(upsd):
                     client.send(STATUS)
@@ -449,9 +425,7 @@ class Tests(Shimmed):
 
     def test_server_that_is_ended(self):
         with self.room() as room:
-            room.dummy()
-            upsd = room.upsd()
-            room.until(STATUS, ONLINE)
+            _, upsd = room.online()
             with closing([room.client() for _ in range(20)]) as clients:
                 for client in clients:
                     expect(client.ask(b"VER\n"), VERSION, "a client")
@@ -482,27 +456,31 @@ class Tests(Shimmed):
             grown = resident(upsd.pid) - before
             ensure(grown < 1024, f"{grown} KiB more are resident")
 
+    def expect_refused(self, room, path, why, what, **options):
+        """Expects that a driver can't listen at a socket, for this reason."""
+        found = ended([room.dummy_program, room.path("su700.dev"), path], **options)
+        expect(found, (1, b"", cannot_listen("dummy-ups", path, why).encode()), what)
+
+    def expect_pong(self, path, what):
+        """Expects that a driver listens at a socket, and answers."""
+        with Client(path) as server:
+            expect(server.ask(b"PING\n"), b"PONG\n", what)
+
     def test_two_drivers_at_one_socket(self):
         with self.room() as room:
             first = room.dummy()
             path = room.path("dummy-ups-su700")
-            with Client(path):
-                pass
+            self.expect_pong(path, "the first driver")
             until(lambda: mode_of(path) == SHARED, "its user and its group may connect, and nobody else")
-            second = [self.programs[1], room.path("su700.dev"), path]
-            in_use = cannot_listen("dummy-ups", path, IN_USE).encode()
             for _ in range(2):
-                done = subprocess.run(second, capture_output=True, timeout=60)
-                expect((done.returncode, done.stdout, done.stderr), (1, b"", in_use), "a second driver")
+                self.expect_refused(room, path, IN_USE, "a second driver")
             # one that can't find out whether a driver listens there, for lack of descriptors, leaves the socket alone
             few = (6, resource.getrlimit(resource.RLIMIT_NOFILE)[1])
-            done = subprocess.run(second, capture_output=True, timeout=60, preexec_fn=lambda: resource.setrlimit(resource.RLIMIT_NOFILE, few))
-            unknown = cannot_listen("dummy-ups", path, errno.EMFILE).encode()
-            expect((done.returncode, done.stdout, done.stderr), (1, b"", unknown), "a second driver without descriptors")
+            limit = {"preexec_fn": lambda: resource.setrlimit(resource.RLIMIT_NOFILE, few)}
+            self.expect_refused(room, path, errno.EMFILE, "a second driver without descriptors", **limit)
             room.upsd()
             room.until(STATUS, ONLINE)
-            first.kill()
-            first.wait()
+            end(first)
             room.until(STATUS, NOT_CONNECTED)
             ensure(os.path.exists(path), "a driver that is killed leaves its socket behind")
             room.dummy()
@@ -510,71 +488,56 @@ class Tests(Shimmed):
 
     def drivers_at(self, room, path, count):
         """Starts as many drivers at a socket at once. Returns the one that serves there, once the others have ended."""
-        drivers = [room.start([self.programs[1], room.path("su700.dev"), path]) for _ in range(count)]
+        drivers = [room.start([room.dummy_program, room.path("su700.dev"), path]) for _ in range(count)]
         until(lambda: sum(it.poll() is None for it in drivers) <= 1, f"one of {count} drivers is left")
-        left = [it for it in drivers if it.poll() is None]
-        expect(len(left), 1, f"drivers that serve, of {count} that began at once")
+        (left,) = [it for it in drivers if it.poll() is None]
+        drivers.remove(left)
         told = {cannot_listen("dummy-ups", path, it).encode() for it in (IN_USE, LOCKED)}
         for driver in drivers:
-            if driver is not left[0]:
-                said_last = driver.stderr.read()
-                ensure(driver.returncode == 1 and said_last in told, f"one that doesn't serve says {said_last}")
-        return left[0]
+            said_last = driver.stderr.read()
+            ensure(driver.returncode == 1 and said_last in told, f"one that doesn't serve says {said_last}")
+        return left
 
     def test_drivers_that_begin_at_once(self):
         with self.room() as room:
-            with open(room.path("su700.dev"), "w") as file:
-                file.write("ups.status: OL\n")
+            room.write("su700.dev", b"ups.status: OL\n")
             path = room.path("socket")
             for i in range(4 if built_without_proof() else 20):
                 # where nothing is, where a driver was killed, and where an empty file is
-                if i % 4 == 2:
+                if i % 4 >= 2:
                     os.remove(path)
-                elif i % 4 == 3:
-                    os.remove(path)
-                    os.close(os.open(path, os.O_CREAT | os.O_WRONLY))
+                if i % 4 == 3:
+                    room.write("socket", b"")
                 driver = self.drivers_at(room, path, 6)
-                with Client(path) as server:
-                    expect(server.ask(b"PING\n"), b"PONG\n", "the one that is left")
-                driver.kill()
-                driver.wait()
+                self.expect_pong(path, "the one that is left")
+                end(driver)
                 ensure(not os.path.exists(f"{path}.lock"), "a lock file is left behind")
 
     def held_up(self, room, path, call, mask=0o077):
         """Starts a driver at a socket that stands still after its next call of this kind, until the file `hold` is removed."""
-        hold = room.path("hold")
-        os.close(os.open(hold, os.O_CREAT | os.O_WRONLY))
-        env = {**os.environ, "LD_PRELOAD": self.shim, "HOLD": call, "HOLD_WHILE": hold}
-        words = [self.programs[1], room.path("su700.dev"), path]
-        driver = room.start(words, env=env, preexec_fn=lambda: os.umask(mask))
+        room.write("hold", b"")
+        env = {**os.environ, "LD_PRELOAD": self.shim, "HOLD": call, "HOLD_WHILE": room.path("hold")}
+        driver = room.start([room.dummy_program, room.path("su700.dev"), path], env=env, preexec_fn=lambda: os.umask(mask))
         until(lambda: os.path.exists(f"{path}.lock"), "a driver begins")
         return driver
 
     def test_drivers_that_are_held_up(self):
         with self.room() as room:
-            with open(room.path("su700.dev"), "w") as file:
-                file.write("ups.status: OL\n")
+            room.write("su700.dev", b"ups.status: OL\n")
             path = room.path("socket")
-            second = [self.programs[1], room.path("su700.dev"), path]
-            locked = cannot_listen("dummy-ups", path, LOCKED).encode()
             for call in ("connect", "bind"):
                 # one looks at what a driver left, or has bound and doesn't listen yet
                 room.listener("socket").close()
                 first = self.held_up(room, path, call)
                 for _ in range(2):
-                    done = subprocess.run(second, capture_output=True, timeout=60)
-                    expect((done.returncode, done.stdout, done.stderr), (1, b"", locked), f"a second driver while one is held at {call}")
+                    self.expect_refused(room, path, LOCKED, f"a second driver while one is held at {call}")
                 os.remove(room.path("hold"))
-                with Client(path) as server:
-                    expect(server.ask(b"PING\n"), b"PONG\n", f"a driver that was held at {call}")
-                first.kill()
-                first.wait()
+                self.expect_pong(path, f"a driver that was held at {call}")
+                end(first)
                 # one that is killed there leaves nothing that holds up the next
                 os.remove(path)
                 room.listener("socket").close()
-                first = self.held_up(room, path, call)
-                first.kill()
-                first.wait()
+                end(self.held_up(room, path, call))
                 os.remove(room.path("hold"))
                 self.drivers_at(room, path, 2).kill()
                 os.remove(path)
@@ -590,15 +553,13 @@ class Tests(Shimmed):
                 # a file that holds something is another's, and stays
                 file.write("of value")
             room.dummy()
-            with Client(path) as server:
-                expect(server.ask(b"PING\n"), b"PONG\n", "a driver with the lock")
+            self.expect_pong(path, "a driver with the lock")
             with open(f"{path}.lock") as file:
                 expect(file.read(), "of value", "a file that has the name of a lock")
 
     def test_mode_of_a_socket(self):
         with self.room() as room:
-            with open(room.path("su700.dev"), "w") as file:
-                file.write("ups.status: OL\n")
+            room.write("su700.dev", b"ups.status: OL\n")
             for mask in (0, 0o022, 0o077, 0o777):
                 path = room.path(f"socket-{mask}")
                 driver = self.held_up(room, path, "bind", mask)
@@ -614,14 +575,13 @@ class Tests(Shimmed):
         """A program that can't wait for its sockets says so before it ends."""
         with self.room() as room:
             env = {**os.environ, "LD_PRELOAD": self.shim, "REFUSE": "watch"}
-            with open(room.path("su700.dev"), "w") as file:
-                file.write("ups.status: OL\n")
+            room.write("su700.dev", b"ups.status: OL\n")
             for words, told in (
-                ([self.programs[1], room.path("su700.dev"), room.path("socket")], b"dummy-ups: I/O failed\n"),
-                ([self.programs[0], "--conf", room.folder, "-s", room.folder, "-q"], b"upsd: I/O failed\n"),
+                ([room.dummy_program, room.path("su700.dev"), room.path("socket")], b"dummy-ups: I/O failed\n"),
+                (room.command("-q"), b"upsd: I/O failed\n"),
             ):
-                done = subprocess.run(words, env=env, capture_output=True, timeout=60)
-                ensure(done.returncode == 1 and done.stderr.endswith(told), f"{words[0]} ends with {done.returncode} and {done.stderr}")
+                status, _, err = ended(words, env=env)
+                ensure(status == 1 and err.endswith(told), f"{words[0]} ends with {status} and {err}")
 
     def test_files_that_are_no_scripts(self):
         path = os.path.join(self.folder, "endless.dev")
@@ -634,8 +594,7 @@ class Tests(Shimmed):
             (lambda: self.sparse(path, 1 << 34), f"dummy-ups: {path}: more than 16777216 bytes\n"),
         ):
             make()
-            done = subprocess.run([self.programs[1], path, at], capture_output=True, timeout=60)
-            expect((done.returncode, done.stdout, done.stderr), (1, b"", said.encode()), said)
+            expect(ended([self.programs[1], path, at]), (1, b"", said.encode()), said)
             os.rmdir(path) if os.path.isdir(path) else os.remove(path)
         ensure(not os.path.exists(at), "a socket was made")
 
@@ -646,14 +605,7 @@ class Tests(Shimmed):
             file.truncate(length)
 
 
-def main():
-    upsd, dummy, *names = sys.argv[1:]
+if __name__ == "__main__":
     # as many clients as are allowed, and what else is open
     resource.setrlimit(resource.RLIMIT_NOFILE, (1024, resource.getrlimit(resource.RLIMIT_NOFILE)[1]))
-    with tempfile.TemporaryDirectory() as folder:
-        tests = Tests(os.path.abspath(upsd), os.path.abspath(dummy), folder)
-        return run_tests(tests, names, "they need a C compiler")
-
-
-if __name__ == "__main__":
-    sys.exit(main())
+    sys.exit(play(Tests, 2, "they need a C compiler"))

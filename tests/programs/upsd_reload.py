@@ -34,12 +34,10 @@ UNMET = 20
 
 
 class Poller:
-    """A client that sends the same requests all the time, and notes each answer that isn't the one that it expects."""
+    """Asks the same all the time, by a function of a request, and notes each answer that isn't the one that it expects."""
 
-    def __init__(self, room, requests, pause):
-        self.client = room.client()
-        self.requests = requests
-        self.pause = pause
+    def __init__(self, ask, requests, pause):
+        self.ask, self.requests, self.pause = ask, requests, pause
         self.asked = 0
         self.wrong = []
         self.goes_on = True
@@ -50,7 +48,7 @@ class Poller:
         while self.goes_on:
             for request, wanted in self.requests:
                 try:
-                    found = self.client.ask(request)
+                    found = self.ask(request)
                 except OSError as error:
                     found = repr(error).encode()
                 self.asked += 1
@@ -61,12 +59,11 @@ class Poller:
 
     def stop(self, least):
         """Ends it. It has been answered more often than this by now, and is answered each of its requests once more."""
-        ensure(self.asked > least, "a client that asks all the time was hardly served")
+        ensure(self.asked > least, "one who asks all the time was hardly served")
         wanted = self.asked + len(self.requests)
-        until(lambda: self.asked > wanted or self.wrong, "a client that asks all the time is served on", 60)
+        until(lambda: self.asked > wanted or self.wrong, "one who asks all the time is served on", 60)
         self.goes_on = False
         self.thread.join(SOON)
-        self.client.close()
         expect(self.wrong, [], f"answers that are wrong, of {self.asked}")
 
 
@@ -248,10 +245,19 @@ class Tests(RoomTests):
         with self.room(ups=TWO) as room:
             room.online()
             with room.logged_in() as client:
-                room.refuse(b"[neu]\n\n[a/b]\n", "upsd: ups.conf:3: BadName")
-                expect(room.upses(), ["su700", "old"], "the old UPSes")
-                room.refuse(b"[neu]\nvendorid = 1\n", "upsd: ups.conf:2: UnknownDirective")
-                room.write("ups.conf", ONE)
+                listen = b"LISTEN 127.0.0.1 %d\n" % room.port
+                for name, faulty, fault, mended in (
+                    ("ups.conf", b"[neu]\n\n[a/b]\n", "ups.conf:3: BadName", ONE),
+                    ("ups.conf", b"[neu]\nvendorid = 1\n", "ups.conf:2: UnknownDirective", ONE),
+                    ("upsd.users", b"password = m1\n" + USERS, "upsd.users:1: OutsideSection", USERS),
+                    ("upsd.conf", b"MAXAGE 0\n", "upsd.conf:1: BadNumber", listen),
+                    ("cmdvartab", b"VARDESC x\n", "cmdvartab:1: BadForm", b""),
+                ):
+                    room.write(name, faulty)
+                    room.refuse(None, f"upsd: {fault}")
+                    expect(room.upses(), ["su700", "old"], f"the old UPSes, with the fault {fault}")
+                    room.write(name, mended)
+                os.remove(room.path("cmdvartab"))
                 os.remove(room.path("upsd.users"))
                 room.refuse(None, "upsd: upsd.users: cannot read")
                 # nobody writes to it, so a read would wait for ever
@@ -259,15 +265,7 @@ class Tests(RoomTests):
                 room.refuse(None, "upsd: upsd.users: cannot read")
                 expect(client.ask(STATUS), ONLINE, "an old client, with a pipe in place of a file")
                 os.remove(room.path("upsd.users"))
-                room.write("upsd.users", b"password = m1\n" + USERS)
-                room.refuse(None, "upsd: upsd.users:1: OutsideSection")
                 room.write("upsd.users", USERS)
-                room.write("upsd.conf", b"MAXAGE 0\n")
-                room.refuse(None, "upsd: upsd.conf:1: BadNumber")
-                room.write("upsd.conf", b"LISTEN 127.0.0.1 %d\n" % room.port)
-                room.write("cmdvartab", b"VARDESC x\n")
-                room.refuse(None, "upsd: cmdvartab:1: BadForm")
-                os.remove(room.path("cmdvartab"))
                 expect(room.upses(), ["su700", "old"], "the old UPSes after each fault")
                 expect(client.ask(STATUS), ONLINE, "an old client")
                 room.reload(None, "upsd: reloaded: UPS old removed")
@@ -277,7 +275,7 @@ class Tests(RoomTests):
     def test_others_notice_nothing(self):
         with self.room(ups=TWO) as room:
             room.online_both()
-            poller = Poller(room, [(STATUS, ONLINE), (b"VER\n", VERSION)], 0)
+            poller = Poller(room.client().ask, [(STATUS, ONLINE), (b"VER\n", VERSION)], 0)
             with room.client() as slow, room.logged_in() as logged_in, room.logged_in(b"old") as gone, room.client() as busy:
                 slow.send(STATUS[:10])
                 gone.send(STATUS[:10])
@@ -296,7 +294,7 @@ class Tests(RoomTests):
         with self.room(ups=TWO) as room:
             room.online_both()
             rows = [(STATUS, ONLINE), (b"VER\n", VERSION), (b"GET UPSDESC su700\n", b'UPSDESC su700 "Server room"\n')]
-            pollers = [Poller(room, rows, 0.05) for _ in range(20)]
+            pollers = [Poller(room.client().ask, rows, 0.05) for _ in range(20)]
             for turn in range(10):
                 room.reload(TWO if turn % 2 else ONE, f"upsd: reloaded: UPS old {'added' if turn % 2 else 'removed'}")
             for poller in pollers:
@@ -306,23 +304,11 @@ class Tests(RoomTests):
         upsc = needed("upsc", "nut-client")
         with self.room(ups=TWO) as room:
             room.online()
-            found, goes_on = [], True
-
-            def poll():
-                while goes_on:
-                    words = ["timeout", str(int(SOON)), upsc, f"su700@{room.host}:{room.port}", "ups.status"]
-                    found.append(ended(words)[:2])
-                    time.sleep(0.05)
-
-            thread = threading.Thread(target=poll)
-            thread.start()
-            try:
-                for turn in range(10):
-                    room.reload(TWO if turn % 2 else ONE)
-            finally:
-                goes_on = False
-                thread.join(SOON)
-            expect(set(found), {(0, b"OL\n")}, f"what upsc found, {len(found)} times")
+            words = ["timeout", str(int(SOON)), upsc, f"su700@{room.host}:{room.port}"]
+            poller = Poller(lambda variable: ended([*words, variable])[:2], [("ups.status", (0, b"OL\n"))], 0.05)
+            for turn in range(10):
+                room.reload(TWO if turn % 2 else ONE)
+            poller.stop(0)
 
     def test_users(self):
         with self.room(ups=ONE) as room:

@@ -116,13 +116,6 @@ class Tests(Shimmed):
 
     # From here on, each method whose name begins with 'test_' is a test.
 
-    def test_first_run(self):
-        found = self.run(ROOM, b"LIST UPS\nLOGOUT\n")
-        expect(found, (0, LIST + GOODBYE, b""), "the first run")
-
-    def test_requests_in_turn(self):
-        expect(self.run(ROOM, ASKED), (0, DUE, b""), "requests in turn")
-
     def test_requests_cut_anywhere(self):
         for at in range(len(ASKED) + 1):
             expect(self.cut(ASKED, at), (0, DUE), f"cut at {at}")

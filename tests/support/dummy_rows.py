@@ -155,25 +155,16 @@ SCENES = [
 
 # scripts, and the result of reading each
 SCRIPTS = [
-    ("dev", b"", "ok"),
-    ("dev", b" \t\r\n# \xff\nups.status: OL\n", "ok"),
+    *(("dev", text, "ok") for text in (b"", b" \t\r\n# \xff\nups.status: OL\n", b"TIMER: 5")),
     ("dev", b"a: b\nc: \xff", "2: BadLine"),
-    ("dev", b"ups.status OL", "1: BadLine"),
-    ("dev", b"TIMER", "1: BadLine"),
-    ("dev", b"TIMER: 5", "ok"),
-    ("dev", b": x", "1: BadName"),
-    ("dev", b"a b: x", "1: BadName"),
-    ("dev", b"a: x\ty", "1: BadLine"),
+    *(("dev", text, "1: BadLine") for text in (b"ups.status OL", b"TIMER", b"a: x\ty")),
+    *(("dev", text, "1: BadName") for text in (b": x", b"a b: x")),
     ("dev", b"TIMER 5", "1: TimerInDev"),
     ("dev", b"TIMER 0", "1: BadTimer"),
     ("seq", b"a: b", "0: NoTimer"),
-    ("seq", b"TIMER 0", "1: BadTimer"),
-    ("seq", b"TIMER 1\na: b", "ok"),
-    ("seq", b" TIMER\t86400 # a day", "ok"),
-    ("seq", b"TIMER 86401", "1: BadTimer"),
-    ("seq", b"TIMER x", "1: BadTimer"),
-    ("seq", b"timer 5", "1: BadLine"),
-    ("seq", b"TIMER 5 5", "1: BadLine"),
+    *(("seq", text, "ok") for text in (b"TIMER 1\na: b", b" TIMER\t86400 # a day")),
+    *(("seq", text, "1: BadTimer") for text in (b"TIMER 0", b"TIMER 86401", b"TIMER x")),
+    *(("seq", text, "1: BadLine") for text in (b"timer 5", b"TIMER 5 5")),
 ]
 
 # a driver beside a server: what a client asks and the replies, and the moments that come

@@ -14,7 +14,7 @@ import tempfile
 import threading
 import time
 
-from tests.support.harness import Failed, Shimmed, expect
+from tests.support.harness import Failed, Shimmed, ensure, expect
 
 DEVICE = b"ups.status: OL\nups.id: x\nbattery.charge: 100\n"
 USERS = b'[admin]\npassword = pw\nactions = SET\ninstcmds = ALL\n[mon]\npassword = m1\nupsmon primary\n'
@@ -197,6 +197,13 @@ class Client:
         while lines[0].startswith(b"BEGIN") and not lines[-1].startswith(b"END") and lines[-1]:
             lines.append(self.line())
         return lines
+
+    def read_to(self, line, times=1):
+        """Reads up to this line, or up to where it has come so many times."""
+        while times > 0:
+            found = self.line()
+            ensure(found, "the connection ended")
+            times -= found == line
 
     def flood(self, request, most=100_000):
         """Sends a request again and again, until the other end takes no more of them."""
