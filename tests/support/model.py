@@ -51,7 +51,8 @@ HELP = b"Commands: GET LIST SET INSTCMD USERNAME PASSWORD LOGIN PRIMARY FSD LOGO
 BLANK = rb"[ \t\r]+"
 BARE = rb"(?:[!$-<>-\[\]-~]|\\[ -~])+"
 QUOTED = rb'"(?:[ !#-\[\]-~]|\\[ -~])*"'
-PART = re.compile(rb"(?P<blank>" + BLANK + rb")|(?P<bare>" + BARE + rb")|(?P<quoted>" + QUOTED + rb")|(?P<equals>=)|(?P<comment>#[ -~\t\r]*\Z)")
+WORD = rb"(?P<bare>" + BARE + rb")|(?P<quoted>" + QUOTED + rb")"
+PART = re.compile(rb"(?P<blank>" + BLANK + rb")|" + WORD + rb"|(?P<equals>=)|(?P<comment>#[ -~\t\r]*\Z)")
 ESCAPE = re.compile(rb"\\(.)")
 NAME = re.compile(rb"[A-Za-z0-9._-]{1,64}")
 ADDRESS = re.compile(rb"[!$-<>-\[\]-~]{1,64}")
@@ -330,12 +331,8 @@ class Forms:
 
     def get_type(self, _, u, v):
         variable = self.variable(self.live(u), v)
-        text = b" RW" if "RW" in variable.flags else b""
-        kind = variable.kind()
-        text += b" " + kind.encode()
-        if kind == "STRING":
-            text += b":%d" % (variable.aux or 0)
-        return b"TYPE %s %s%s\n" % (u, v, text)
+        kind = variable.kind().encode() + (b":%d" % (variable.aux or 0) if variable.kind() == "STRING" else b"")
+        return b"TYPE %s %s %s%s\n" % (u, v, b"RW " if "RW" in variable.flags else b"", kind)
 
     def get_desc(self, _, u, v):
         self.variable(self.live(u), v)
@@ -376,7 +373,7 @@ class Forms:
 
     def set_var(self, connection, u, v, x):
         ups = self.permitted(connection, u, "SET")
-        self.refuse_unless_live(ups)
+        self.live(u)
         self.variable(ups, v).refuse(x)
         return self.hand_on(connection, ups, b"SET %s %s" % (v, quoted(x)), "SET-FAILED")
 
@@ -397,7 +394,7 @@ class Forms:
 
     def instcmd(self, connection, u, k, x=None):
         ups = self.permitted(connection, u, "INSTCMD", k)
-        self.refuse_unless_live(ups)
+        self.live(u)
         if k not in ups.commands:
             raise Refused("CMD-NOT-SUPPORTED")
         if x is not None and len(x) > VALUE_MAX:
@@ -406,20 +403,10 @@ class Forms:
         return self.hand_on(connection, ups, b"INSTCMD " + k + parameter, "INSTCMD-FAILED")
 
     def username(self, connection, x):
-        if not 1 <= len(x) <= CREDENTIAL_MAX:
-            raise Refused("INVALID-ARGUMENT")
-        if connection.user is not None:
-            raise Refused("ALREADY-SET-USERNAME")
-        connection.user = x
-        return b"OK\n"
+        return self.give(connection, "user", x, "ALREADY-SET-USERNAME")
 
     def password(self, connection, x):
-        if not 1 <= len(x) <= CREDENTIAL_MAX:
-            raise Refused("INVALID-ARGUMENT")
-        if connection.password is not None:
-            raise Refused("ALREADY-SET-PASSWORD")
-        connection.password = x
-        return b"OK\n"
+        return self.give(connection, "password", x, "ALREADY-SET-PASSWORD")
 
     def login(self, connection, u):
         ups = self.permitted(connection, u, "LOGIN")
@@ -666,26 +653,33 @@ class Server(Forms):
         return method(self, connection, *rest)
 
     def ups(self, name):
-        for ups in self.upses:
-            if ups.name == name:
-                return ups
-        raise Refused("UNKNOWN-UPS")
+        found = [it for it in self.upses if it.name == name]
+        if not found:
+            raise Refused("UNKNOWN-UPS")
+        return found[0]
 
     def live(self, name):
+        """Returns the UPS of this name, if its driver is connected and its data is fresh."""
         ups = self.ups(name)
-        self.refuse_unless_live(ups)
-        return ups
-
-    def refuse_unless_live(self, ups):
         if not ups.is_connected:
             raise Refused("DRIVER-NOT-CONNECTED")
         if not ups.is_dumped or not ups.is_data_ok or self.now - ups.last_heard > self.config.max_age:
             raise Refused("DATA-STALE")
+        return ups
 
     def variable(self, ups, name):
         if name not in ups.variables:
             raise Refused("VAR-NOT-SUPPORTED")
         return ups.variables[name]
+
+    def give(self, connection, name, text, refusal):
+        """Keeps what a client says of itself, if it is the first time."""
+        if not 1 <= len(text) <= CREDENTIAL_MAX:
+            raise Refused("INVALID-ARGUMENT")
+        if getattr(connection, name) is not None:
+            raise Refused(refusal)
+        setattr(connection, name, text)
+        return b"OK\n"
 
     def need_credentials(self, connection):
         """Refuses a client that hasn't given a user name and a password."""

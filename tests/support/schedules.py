@@ -29,14 +29,10 @@ OTHER_USERS = {
     b"nobody": User(b"pw", ("SET",), (b"all",), "primary"),
 }
 COMMANDS = [*model.COMMANDS_DESCRIBED, b"ups.id", b"k", b"K", b"k" * 64]
-VALUES = [
-    b"OL", b"OB LB", b"", b"x", b"low", b"medium", b"high", b"50", b"-0", b"007", b"-5", b"1000000000",
-    b'a "b" \\c # d = e', b"y" * 512, b"y" * 513, b"\t",
-]
-NUMBERS = [
-    b"0", b"-0", b"1", b"-1", b"5", b"10", b"100", b"-999999999", b"999999999", b"1000000000", b"x", b"",
-    b"1.5", b"+1", b"00016", b"512", b"513",
-]
+VALUES = [b"OL", b"OB LB", b"", b"x", b"low", b"medium", b"high", b"50", b"-0", b"007", b"-5", b"1000000000"]
+VALUES += [b'a "b" \\c # d = e', b"y" * 512, b"y" * 513, b"\t"]
+NUMBERS = [b"0", b"-0", b"1", b"-1", b"5", b"10", b"100", b"-999999999", b"999999999", b"1000000000", b"x", b""]
+NUMBERS += [b"1.5", b"+1", b"00016", b"512", b"513"]
 FLAGS = [b"RW", b"rw", b"STRING", b"String", b"NUMBER", b"OTHER", b""]
 UPSES_MAX = 32
 # how often the maker chooses a reload; its other choices may give more than one arrival
@@ -52,11 +48,8 @@ class Reconfigured:
 
     def __init__(self, chance, config):
         self.random = chance
-        self.upses = list(config.upses)
-        self.drivers = dict(config.drivers)
-        self.users = dict(config.users)
-        self.max_age = config.max_age
-        self.max_conn = config.max_conn
+        self.upses, self.drivers, self.users = list(config.upses), dict(config.drivers), dict(config.users)
+        self.max_age, self.max_conn = config.max_age, config.max_conn
 
     def config(self):
         drivers = {name: driver for name, driver in self.drivers.items() if name in dict(self.upses)}
@@ -201,14 +194,12 @@ class ScheduleMaker:
         forms = [
             *[lambda: self.query("GET ")] * 6,
             *[lambda: self.query("LIST ")] * 3,
-            lambda: (b"SET", b"VAR", self.ups(), self.variable(), self.pick(VALUES)),
-            lambda: (b"SET", b"VAR", self.ups(), self.variable(), self.pick(VALUES)),
+            *[lambda: (b"SET", b"VAR", self.ups(), self.variable(), self.pick(VALUES))] * 2,
             lambda: (b"INSTCMD", self.ups(), self.pick(COMMANDS)),
             lambda: (b"INSTCMD", self.ups(), self.pick(COMMANDS), self.pick(VALUES)),
             lambda: (b"SET", b"TRACKING", self.pick([b"ON", b"on", b"ON", b"OFF", b"maybe"])),
             lambda: (b"GET", b"TRACKING"),
-            lambda: (b"GET", b"TRACKING", self.number(self.known())),
-            lambda: (b"GET", b"TRACKING", self.number(self.known())),
+            *[lambda: (b"GET", b"TRACKING", self.number(self.known()))] * 2,
             lambda: (b"LOGIN", self.ups()),
             lambda: (b"PRIMARY", self.ups()),
             lambda: self.who(),
@@ -261,7 +252,8 @@ class ScheduleMaker:
         return [number for ups in self.server.upses if ups.number == u for number, status in ups.tracked.items() if status == b"PENDING"]
 
     def who(self):
-        return self.pick([(b"USERNAME", self.pick([*USERS, b"nobody", b"", b"u" * 129])), (b"PASSWORD", self.pick([b"pw", b"m1", b"", b"x", b"q" * 128]))])
+        name, password = self.pick([*USERS, b"nobody", b"", b"u" * 129]), self.pick([b"pw", b"m1", b"", b"x", b"q" * 128])
+        return self.pick([(b"USERNAME", name), (b"PASSWORD", password)])
 
     def variable(self):
         if self.chance(0.05):
@@ -281,8 +273,7 @@ class ScheduleMaker:
     def report(self, u):
         """Returns a line of the driver of this UPS."""
         forms = [
-            lambda: (b"SETINFO", self.variable(), self.pick(VALUES)),
-            lambda: (b"SETINFO", self.variable(), self.pick(VALUES)),
+            *[lambda: (b"SETINFO", self.variable(), self.pick(VALUES))] * 2,
             lambda: (b"SETINFO", b"ups.status", self.pick(VALUES[:2])),
             lambda: (b"DELINFO", self.variable()) if self.chance(0.3) else (b"PONG",),
             lambda: (self.pick([b"ADDENUM", b"DELENUM"]), self.variable(), self.pick(VALUES)),
@@ -293,8 +284,7 @@ class ScheduleMaker:
             lambda: (b"SETFLAGS", self.variable(), *(self.pick(FLAGS) for _ in range(self.random.randrange(4)))),
             lambda: (self.pick([b"ADDCMD", b"ADDCMD", b"DELCMD"]), self.pick([*COMMANDS, b"", b"k" * 65, b"a b"])),
             lambda: (b"ADDCMD", b"many.%d" % self.random.randrange(200)),
-            lambda: (b"TRACKING", self.number(self.pending(u)), self.pick([b"0", b"0", b"1", b"00", b"x"])),
-            lambda: (b"TRACKING", self.number(self.pending(u)), self.pick([b"0", b"0", b"1", b"00", b"x"])),
+            *[lambda: (b"TRACKING", self.number(self.pending(u)), self.pick([b"0", b"0", b"1", b"00", b"x"]))] * 2,
             lambda: (self.pick([b"DUMPDONE", b"DATAOK", b"DATAOK", b"DATAOK", b"PONG"]),),
             lambda: (self.pick([b"DATASTALE", b"FOO", b"SETFLAGS", b"="]),) if self.chance(0.2) else (b"DATAOK",),
         ]
