@@ -15,9 +15,9 @@ import tempfile
 import time
 from concurrent import futures
 
-from tests.support.harness import ROOT, ensure, expect, run_tests
-from tests.support.monitored import FLAG, QUICK, Closing, Rubbish, Silent, Upstream, Watch
-from tests.support.room import STATUS, Lines, Room, connected, heed_modes, said, until
+from tests.support.harness import ROOT, ended, ensure, expect, play
+from tests.support.monitored import FLAG, QUICK, USERS as MONITORS, Closing, Rubbish, Silent, Upstream, Watch
+from tests.support.room import STATUS, Room, heed_modes, play_driver, said, until
 
 PAGE = os.path.join(ROOT, "man", "mulgefa-troubleshooting.7")
 # The greatest size of the page in bytes, and how many symptoms it has at least.
@@ -44,7 +44,7 @@ ELSEWHERE = {
     "UNIT isn't started, since what was made for NUT's unit applies to it": "packaging/deb/postinst",
 }
 
-USERS = b"[admin]\npassword = pw\nactions = SET\ninstcmds = ALL\n[mon]\npassword = m1\nupsmon primary\n[guest]\npassword = g1\nupsmon secondary\n"
+USERS = b"[admin]\npassword = pw\nactions = SET\ninstcmds = ALL\n" + MONITORS
 DEVICE = b"ups.status: OL\nups.id: x\nbattery.runtime.low: 10\n"
 
 
@@ -67,27 +67,20 @@ def is_said(symptom, line):
 
 
 class Tests:
-    def __init__(self, programs, folder):
-        self.upsd, self.dummy, self.upsc, self.upsrw, self.upscmd, self.upsmon = programs
-        self.folder = folder
+    def __init__(self, *programs_and_folder):
+        self.upsd, self.dummy, self.upsc, self.upsrw, self.upscmd, self.upsmon, self.folder = programs_and_folder
         self.lines = []
 
     def run(self, *words, **options):
         """Runs a program, and keeps what it prints."""
-        done = subprocess.run(words, stdin=subprocess.DEVNULL, stdout=subprocess.PIPE, stderr=subprocess.STDOUT, text=True, timeout=60, **options)
-        self.lines += done.stdout.splitlines()
+        self.lines += ended(words, stderr=subprocess.STDOUT, text=True, **options)[1].splitlines()
 
     def monitor(self, conf, *words):
         """Runs upsmon with this file until it ends, and keeps what it prints."""
-        with self.written(conf) as folder:
-            self.run(self.upsmon, *words, "--conf", folder)
-
-    @contextlib.contextmanager
-    def written(self, conf):
         with tempfile.TemporaryDirectory(dir=self.folder) as folder:
             with open(os.path.join(folder, "upsmon.conf"), "w") as file:
                 file.write(conf)
-            yield folder
+            self.run(self.upsmon, *words, "--conf", folder)
 
     @contextlib.contextmanager
     def watching(self, conf, **options):
@@ -100,14 +93,11 @@ class Tests:
     def room(self, conf=b"", ups=b"[su700]\n[dead]\n"):
         """A room with a server and a driver for su700, and none for the others. The lines of the server are kept."""
         with Room((self.upsd, self.dummy), self.folder, ups=ups, conf=conf) as room:
-            with open(room.path("upsd.users"), "wb") as file:
-                file.write(USERS)
-            room.dummy(DEVICE)
-            room.told = Lines(room.upsd())
-            room.until(STATUS, b'VAR su700 ups.status "OL"\n')
+            room.write("upsd.users", USERS)
+            room.online(device=DEVICE)
             yield room
             time.sleep(1.2)
-            self.lines += room.told.lines
+            self.lines += room.lines.lines
 
     # From here on, scenes.
 
@@ -116,8 +106,7 @@ class Tests:
         with self.room(b"MAXAGE 3\n", b"[su700]\n[dead]\n[mute]\n") as room:
             driver = room.listener("dummy-ups-mute")
             at = f"@127.0.0.1:{room.port}"
-            mute = until(lambda: connected_driver(driver), "upsd connects to a driver")
-            mute.sendall(b'SETINFO ups.status "OL"\nSETINFO ups.id "a"b"\nDUMPDONE\nDATAOK\n')
+            mute = play_driver(driver, b'SETINFO ups.status "OL"', b'SETINFO ups.id "a"b"')
             self.run(self.upsc, f"dead{at}")
             self.run(self.upsc, f"nope{at}")
             self.run(self.upsc, f"su700{at}", "no.var")
@@ -130,10 +119,8 @@ class Tests:
             self.run(self.upscmd, "-u", "admin", "-p", "pw", f"su700{at}", "nope")
             room.until(b"GET VAR mute ups.status\n", b"ERR DATA-STALE\n")
             self.run(self.upsc, f"mute{at}")
-            room.told.next("upsd: UPS mute: data is stale")
-            with room.client() as client:
-                client.log_in(b"mon", b"m1")
-                expect(client.ask(b"LOGIN su700\n"), b"OK\n", "LOGIN")
+            room.lines.next("upsd: UPS mute: data is stale")
+            room.logged_in().close()
             with room.client() as client:
                 client.log_in(b"mon", b"m1")
                 expect(client.ask(b"FSD su700\n"), b"OK FSD-SET\n", "FSD")
@@ -146,8 +133,8 @@ class Tests:
         """A driver that refuses what it is asked, and a full server."""
         with self.room(b"MAXCONN 1\n", b"[su700]\n[stubborn]\n") as room:
             driver = room.listener("dummy-ups-stubborn")
-            stubborn = until(lambda: connected_driver(driver), "upsd connects to a driver")
-            stubborn.sendall(b'SETINFO ups.status "OL"\nSETINFO ups.id "a"\nSETFLAGS ups.id RW STRING\nSETAUX ups.id 8\nDUMPDONE\nDATAOK\n')
+            settable = b'SETINFO ups.id "a"', b"SETFLAGS ups.id RW STRING", b"SETAUX ups.id 8"
+            stubborn = play_driver(driver, b'SETINFO ups.status "OL"', *settable)
             room.until(b"GET VAR stubborn ups.id\n", b'VAR stubborn ups.id "a"\n')
             words = [self.upsrw, "-w", "-s", "ups.id=y", "-u", "admin", "-p", "pw", f"stubborn@127.0.0.1:{room.port}"]
             tool = subprocess.Popen(words, stdin=subprocess.DEVNULL, stdout=subprocess.PIPE, stderr=subprocess.STDOUT, text=True)
@@ -156,10 +143,8 @@ class Tests:
                 asked += stubborn.recv(4096)
             stubborn.sendall(b"TRACKING " + asked.split()[-1] + b" 1\n")
             self.lines += tool.communicate(timeout=60)[0].splitlines()
-            with room.client() as client:
-                client.log_in(b"mon", b"m1")
-                expect(client.ask(b"LOGIN su700\n"), b"OK\n", "LOGIN")
-                connected((room.host, room.port)).close()
+            with room.logged_in(), room.client() as more:
+                ensure(more.is_closed(), "a client is let in though the server is full")
             stubborn.close()
             driver.close()
 
@@ -182,14 +167,15 @@ class Tests:
         """A monitor whose servers are each out of order in another way."""
         with self.room() as room, Closing() as closing, Rubbish() as rubbish, Silent() as silent, Upstream() as waiting:
             at = f"127.0.0.1:{room.port}"
-            targets = ("su700@nowhere.invalid", "su700@127.0.0.1:1", f"dead@{at}", closing.target, rubbish.target, silent.target, waiting.target)
+            played = (it.target for it in (closing, rubbish, silent, waiting))
+            targets = ("su700@nowhere.invalid", "su700@127.0.0.1:1", f"dead@{at}", *played)
             conf = "".join(f"MONITOR {it} 1 mon m1 primary\n" for it in targets)
             conf += f"MONITOR su700@{at} 1 mon bad primary\nMONITOR su700@localhost:{room.port} 1 guest g1 primary\n"
             with self.watching(conf + "MINSUPPLIES 0\nPOLLFREQ 1\n") as watch:
                 watch.until_printed(f"Communications with UPS {closing.target} lost", 30)
                 waiting.statuses[b"su700"] = b"WAIT"
                 until(lambda: b"WAIT" in watch.read("err"), "upsmon warns of WAIT")
-                until(lambda: silent.target.encode() in b"".join(it for it in watch.read("err").splitlines() if b"answer" in it), "a silent server is reported")
+                until(lambda: any(silent.target in it and "answer" in it for it in watch.lines("err")), "a silent server is reported")
                 waiting.close()
                 until(lambda: f"UPS {waiting.target}: server lost".encode() in watch.read("err"), "a lost server is reported")
 
@@ -218,8 +204,7 @@ class Tests:
             server.logins = 3
             with self.watching(f"MONITOR {server.target} 1 mon m1 primary\nSHUTDOWNCMD \"exit 3\"\n{QUICK}") as watch:
                 watch.status(20)
-        with Refusing() as server:
-            server.statuses[b"su700"] = b"OB LB"
+        with Refusing(status=b"OB LB") as server:
             with self.watching(f"MONITOR {server.target} 1 mon m1 primary\nSHUTDOWNCMD true\n{QUICK}") as watch:
                 watch.status(20)
         with Upstream(status=b"OB") as server:
@@ -237,7 +222,8 @@ class Tests:
     # From here on, each method whose name begins with 'test_' is a test.
 
     def test_symptoms_are_what_programs_say(self):
-        scenes = self.clients, self.refused_requests, self.servers_that_cannot_start, self.monitors_without_a_server, self.checks, self.shutdowns
+        scenes = self.clients, self.refused_requests, self.servers_that_cannot_start
+        scenes += self.monitors_without_a_server, self.checks, self.shutdowns
         with futures.ThreadPoolExecutor(len(scenes)) as pool:
             for done in [pool.submit(scene) for scene in scenes]:
                 done.result()
@@ -279,17 +265,5 @@ def reload(watch, line):
         pass
 
 
-def connected_driver(listener):
-    """Returns the connection of upsd to a driver that the test plays."""
-    found, _ = listener.accept()
-    found.settimeout(10)
-    return found
-
-
-def main():
-    with tempfile.TemporaryDirectory() as folder:
-        return run_tests(Tests([os.path.abspath(path) for path in sys.argv[1:7]], folder), sys.argv[7:])
-
-
 if __name__ == "__main__":
-    sys.exit(main())
+    sys.exit(play(Tests, 6))
