@@ -7,60 +7,28 @@ If Debian's packages nut-server and nut-client aren't installed, what needs them
 last line is 'N passed, M failed'."""
 
 import os
-import subprocess
 import sys
-import tempfile
 import time
 
-from tests.support.harness import expect, run_tests
-from tests.support.monitored import (
-    BATTERY_LOW,
-    ESTABLISHED,
-    FLAG,
-    FORCED,
-    LOST,
-    ON_BATTERY,
-    QUICK,
-    SHUTDOWN,
-    USERS,
-    Watch,
-    put_program,
-)
+from tests.support.harness import ended, expect, play
+from tests.support.monitored import BATTERY_LOW, ESTABLISHED, FLAG, FORCED, LOST, ON_BATTERY, QUICK, SHUTDOWN, USERS, Watch, put_program
 from tests.peers.server import NutRoom, needed
 from tests.support.room import stopped, until
 
-ADMIN = b"[admin]\npassword = pw\nactions = SET\ninstcmds = ALL\n"
 HALTS = 'POWERDOWNFLAG FOLDER/flag\nSHUTDOWNCMD "touch FOLDER/halted"\n'
 
 
 class Tests:
     def __init__(self, upsmon, folder):
-        self.upsmon = upsmon
-        self.folder = folder
+        self.upsmon, self.folder = upsmon, folder
 
     def room(self):
         return NutRoom((None, None), self.folder)
 
     def begin(self, room, text):
-        """Starts NUT's driver, with this text, and its server, and waits until they report its status."""
-        driver = needed("dummy-ups", "nut-server")
-        needed("upsd", "nut-server")
-        needed("upsc", "nut-client")
-        room.configure_nut(text)
-        users = os.path.join(room.path("nut"), "upsd.users")
-        with open(users, "wb") as file:
-            file.write(ADMIN + USERS)
-        room.driver_process = room.start_nut(driver, "-a", "su700")
-        self.begin_server(room)
-        # until NUT's server has heard its driver, it shows WAIT
-        shown = text.split(b": ")[1].decode()
-        until(lambda: room.tool("upsc", "ROOM", "ups.status") == (0, shown), "NUT's upsd tells its driver's status")
+        """Starts NUT's driver, with this text, and its server, and waits until they report its status. Returns the UPS."""
+        room.nut_online(text, USERS)
         return f"su700@127.0.0.1:{room.port}"
-
-    def begin_server(self, room):
-        """Starts NUT's server, and waits until it listens."""
-        room.server_process = room.start_nut(needed("upsd", "nut-server"))
-        until(lambda: room.can_connect(room.server_process), "NUT's upsd listens")
 
     def watch(self, target, user, conf):
         name, password, role = user
@@ -85,21 +53,18 @@ class Tests:
     def expect_known_flag(self, room, watch):
         """Expects that NUT's own monitor recognizes this POWERDOWNFLAG."""
         upsmon = needed("upsmon", "nut-client")
-        path = os.path.join(room.path("nut"), "upsmon.conf")
         for name, status in (("flag", 0), ("none", 1)):
-            with open(path, "w") as file:
-                file.write(f"MONITOR su700@localhost 1 mon m1 primary\nPOWERDOWNFLAG {watch.path(name)}\nSHUTDOWNCMD true\n")
-            os.chmod(path, 0o600)
-            done = subprocess.run([upsmon, "-K"], env=room.environment(), stdin=subprocess.DEVNULL, capture_output=True, timeout=60)
-            expect(done.returncode, status, f"'upsmon -K' with the file {name}")
+            conf = f"MONITOR su700@localhost 1 mon m1 primary\nPOWERDOWNFLAG {watch.path(name)}\nSHUTDOWNCMD true\n"
+            room.write("nut/upsmon.conf", conf.encode())
+            os.chmod(room.path("nut/upsmon.conf"), 0o600)
+            expect(ended([upsmon, "-K"], env=room.environment())[0], status, f"'upsmon -K' with the file {name}")
 
     def test_two_machines(self):
         with self.room() as room:
             target = self.begin(room, b"ups.status: OL\n")
             conf = "POLLFREQ 1\nFINALDELAY 0\nHOSTSYNC 60\n" + HALTS
-            with self.watch(target, ("guest", "g1", "secondary"), conf) as guest, self.watch(
-                target, ("mon", "m1", "primary"), conf
-            ) as primary:
+            as_guest, as_primary = ("guest", "g1", "secondary"), ("mon", "m1", "primary")
+            with self.watch(target, as_guest, conf) as guest, self.watch(target, as_primary, conf) as primary:
                 room.until(b"GET NUMLOGINS su700\n", b"NUMLOGINS su700 2\n")
                 self.set_status(room, "OB LB")
                 expect((guest.status(30), primary.status(30)), (0, 0), "status of both")
@@ -110,17 +75,16 @@ class Tests:
 
     def force(self, folder):
         """Forces the shutdown that the upsmon.conf of this folder names. Returns the status, and what is written to both streams."""
-        words = [self.upsmon, "--fsd", "--conf", folder]
-        done = subprocess.run(words, stdin=subprocess.DEVNULL, capture_output=True, text=True, timeout=60)
-        return done.returncode, done.stdout, done.stderr
+        return ended([self.upsmon, "--fsd", "--conf", folder], text=True)
 
     def test_shutdown_by_hand(self):
         with self.room() as room:
             target = self.begin(room, b"ups.status: OL\n")
             numlogins = b"GET NUMLOGINS su700\n"
             with self.watch(target, ("mon", "wrong", "primary"), QUICK) as stranger:
-                refused = (1, "", f"upsmon: UPS {target}: FSD failed: FSD refused: ACCESS-DENIED\nupsmon: this machine keeps running: {target} still supplies 1\n")
-                expect(self.force(stranger.folder), refused, "a wrong password")
+                told = f"UPS {target}: FSD failed: FSD refused: ACCESS-DENIED"
+                told += f"\nupsmon: this machine keeps running: {target} still supplies 1"
+                expect(self.force(stranger.folder), (1, "", f"upsmon: {told}\n"), "a wrong password")
             with self.watch(target, ("mon", "m1", "primary"), QUICK + HALTS) as watch:
                 room.until(numlogins, b"NUMLOGINS su700 1\n")
                 expect(self.force(watch.folder), (0, f"UPS {target}: FSD set\n", ""), "the shutdown is forced")
@@ -135,9 +99,9 @@ class Tests:
         with self.room() as room:
             target = self.begin(room, b"ups.status: OB\n")
             upssched, nut = needed("upssched", "nut-client"), room.path("nut")
-            script, conf = os.path.join(nut, "cmdscript"), os.path.join(nut, "upssched.conf")
-            with open(conf, "w") as file:
-                file.write(f"CMDSCRIPT {script}\nPIPEFN {nut}/pipe\nLOCKFN {nut}/lock\nAT ONBATT * START-TIMER early-shutdown 1\n")
+            script = os.path.join(nut, "cmdscript")
+            conf = f"CMDSCRIPT {script}\nPIPEFN {nut}/pipe\nLOCKFN {nut}/lock\nAT ONBATT * START-TIMER early-shutdown 1\n"
+            room.write("nut/upssched.conf", conf.encode())
             execs = f'NOTIFYFLAG ONBATT EXEC\nNOTIFYCMD "NUT_CONFPATH={nut} {upssched}"\n'
             with self.watch(target, ("mon", "m1", "primary"), QUICK + HALTS + execs) as watch:
                 put_program(script, f"case $1 in early-shutdown) {self.upsmon} --fsd --conf {watch.folder} ;; esac")
@@ -153,7 +117,7 @@ class Tests:
                 room.driver_process.kill()
                 room.driver_process.wait()
                 watch.until_printed(LOST % target, 30)
-                room.start_nut(needed("dummy-ups", "nut-server"), "-a", "su700")
+                room.start_nuts_driver()
                 watch.until_printed(ESTABLISHED % target, 30)
                 expect(watch.lines(), [LOST % target, ESTABLISHED % target], "what upsmon prints")
 
@@ -167,7 +131,7 @@ class Tests:
                 with stopped(room.driver_process):
                     room.server_process.kill()
                     room.server_process.wait()
-                    self.begin_server(room)
+                    room.start_nuts_server()
                     told = f"upsmon: UPS {target}: {waits}"
                     until(lambda: told in watch.lines("err"), "the warning", 20)
                     # NUT's server refuses the status from the fifteenth second on; there were losses before, of the one that was killed
@@ -181,12 +145,5 @@ class Tests:
                 expect((watch.status(30), watch.read("halted")), (0, b""), "the halt")
 
 
-def main():
-    upsmon, *names = sys.argv[1:]
-    with tempfile.TemporaryDirectory() as folder:
-        tests = Tests(os.path.abspath(upsmon), folder)
-        return run_tests(tests, names, "'apt-get install nut-client nut-server' installs what they need")
-
-
 if __name__ == "__main__":
-    sys.exit(main())
+    sys.exit(play(Tests, 1, "'apt-get install nut-client nut-server' installs what they need"))

@@ -6,175 +6,97 @@
 It wants Debian's packages nut-server and nut-client, and runs their programs on loopback out of a folder of its own. The
 last line is 'N passed, M failed'."""
 
-import os
-import subprocess
+import contextlib
 import sys
-import tempfile
-import time
 
-from tests.support.harness import Failed, expect, run_tests
-from tests.support.room import free_port
+from tests.peers.server import NutRoom
+from tests.support.harness import ended, ensure, expect, play
+from tests.support.room import until
 
-DRIVER = "/lib/nut/dummy-ups"
-SERVER = "/lib/nut/upsd"
-NEEDED = [DRIVER, SERVER, "/bin/upsc", "/bin/upsrw", "/bin/upscmd"]
-
-DEVICE = """battery.charge: 90
+DEVICE = b"""ups.status: OL
+battery.charge: 90
 battery.charge.low: 20
 device.mfr: a "quoted" \\\\ name
-ups.status: OL
 ups.mfr: Dummy
 ups.model: Rehearsal
 """
+LOGIN = ["-u", "admin", "-p", "pw", "ROOM"]
 
 
-class Peers:
-    """NUT's dummy-ups and upsd, in a folder of their own."""
+class ToolRoom(NutRoom):
+    """A room with NUT's server and driver, which both projects' tools ask."""
 
-    def __init__(self, folder):
-        self.folder = folder
-        self.port = free_port()
-        self.env = {**os.environ, "NUT_CONFPATH": folder, "NUT_STATEPATH": folder, "NUT_ALTPIDPATH": folder}
-        self.started = []
-        self.write("ups.conf", f'maxretry = 1\n[su700]\ndriver = dummy-ups\nport = {folder}/su700.dev\ndesc = "Server room"\n')
-        self.write("su700.dev", DEVICE)
-        self.write("upsd.conf", f"LISTEN 127.0.0.1 {self.port}\nSTATEPATH {folder}\n")
-        self.write("upsd.users", "[admin]\npassword = pw\nactions = SET\ninstcmds = ALL\n")
+    def theirs(self, tool, *words):
+        """Returns the status and the output of NUT's tool, and no error text."""
+        return *self.tool(tool, *words), ""
 
-    def write(self, name, text):
-        path = os.path.join(self.folder, name)
-        with open(path, "w") as file:
-            file.write(text)
-        os.chmod(path, 0o600)
-
-    def start(self, *command):
-        log = open(os.path.join(self.folder, os.path.basename(command[0]) + ".log"), "w")
-        self.started.append(subprocess.Popen(command, env=self.env, stdin=subprocess.DEVNULL, stdout=log, stderr=log))
-
-    def begin(self):
-        user = subprocess.run(["id", "-un"], stdout=subprocess.PIPE, text=True).stdout.strip()
-        self.start(DRIVER, "-a", "su700", "-u", user, "-DD")
-        time.sleep(1)
-        self.start(SERVER, "-u", user, "-DD")
-
-    def stop(self):
-        for process in self.started:
-            process.terminate()
-        for process in self.started:
-            try:
-                process.wait(10)
-            except subprocess.TimeoutExpired:
-                process.kill()
-                process.wait()
-
-    def logs(self):
-        text = ""
-        for name in ("dummy-ups.log", "upsd.log"):
-            with open(os.path.join(self.folder, name)) as file:
-                text += file.read()[-1500:]
-        return text
+    def ours(self, tool, *words):
+        return ended([self.tools[tool], *self.named(words)], text=True)
 
 
 class Tests:
-    def __init__(self, tools, peers):
-        self.tools = tools
-        self.name = f"su700@127.0.0.1:{peers.port}"
-        self.at = f"127.0.0.1:{peers.port}"
+    def __init__(self, upsc, upsrw, upscmd, folder):
+        self.tools = {"upsc": upsc, "upsrw": upsrw, "upscmd": upscmd}
+        self.folder = folder
 
-    def run(self, program, *arguments):
-        done = subprocess.run([program, *arguments], stdout=subprocess.PIPE, stderr=subprocess.PIPE, text=True, timeout=30)
-        return done.returncode, done.stdout, done.stderr
+    @contextlib.contextmanager
+    def room(self):
+        with ToolRoom((None, None), self.folder) as room:
+            room.tools = self.tools
+            room.nut_online(DEVICE)
+            yield room
 
-    def ours(self, tool, *arguments):
-        return self.run(self.tools[tool], *arguments)
-
-    def theirs(self, tool, *arguments):
-        status, output, _ = self.run("/bin/" + tool, *arguments)
-        return status, output, ""
-
-    def wait(self):
-        """Waits until the server has the driver's data."""
-        for _ in range(100):
-            if self.ours("upsc", self.name, "ups.status") == (0, "OL\n", ""):
-                return
-            time.sleep(0.1)
-        raise Failed(f"the server has no data: {self.ours('upsc', self.name)}")
+    # Each method whose name begins with 'test_' is a test.
 
     def test_variables(self):
-        found = self.ours("upsc", self.name)
-        expect(found, self.theirs("upsc", self.name), "upsc NAME")
-        expect("ups.status: " in found[1], True, "ups.status is shown")
-        for line in found[1].splitlines():
-            variable = line.split(": ", 1)[0]
-            expect(self.ours("upsc", self.name, variable), self.theirs("upsc", self.name, variable), f"upsc NAME {variable}")
+        with self.room() as room:
+            found = room.ours("upsc", "ROOM")
+            expect(found, room.theirs("upsc", "ROOM"), "upsc NAME")
+            ensure("ups.status: " in found[1], "ups.status is shown")
+            for line in found[1].splitlines():
+                variable = line.split(": ", 1)[0]
+                expect(room.ours("upsc", "ROOM", variable), room.theirs("upsc", "ROOM", variable), f"upsc NAME {variable}")
 
     def test_servers_and_clients(self):
-        expect(self.ours("upsc", "-l", self.at), self.theirs("upsc", "-l", self.at), "upsc -l")
-        expect(self.ours("upsc", "-L", self.at), self.theirs("upsc", "-L", self.at), "upsc -L")
-        expect(self.ours("upsc", "-c", self.name), (0, "", ""), "upsc -c")
+        with self.room() as room:
+            for option in ("-l", "-L"):
+                expect(room.ours("upsc", option, "AT"), room.theirs("upsc", option, "AT"), f"upsc {option}")
+            expect(room.ours("upsc", "-c", "ROOM"), (0, "", ""), "upsc -c")
 
     def test_refusals(self):
-        expect(self.ours("upsc", f"other@{self.at}"), (1, "", "Error: UNKNOWN-UPS\n"), "an unknown UPS")
-        found = self.ours("upsc", self.name, "no.such")
-        expect(found, (1, "", "Error: VAR-NOT-SUPPORTED\n"), "an unknown variable")
+        with self.room() as room:
+            expect(room.ours("upsc", "other@AT"), (1, "", "Error: UNKNOWN-UPS\n"), "an unknown UPS")
+            expect(room.ours("upsc", "ROOM", "no.such"), (1, "", "Error: VAR-NOT-SUPPORTED\n"), "an unknown variable")
 
     def test_settable(self):
-        status, output, error = self.ours("upsrw", self.name)
-        expect((status, error), (0, ""), "upsrw NAME")
-        heads = [line for line in output.splitlines() if line.startswith("[")]
-        theirs = [line for line in self.theirs("upsrw", self.name)[1].splitlines() if line.startswith("[")]
-        expect(heads, theirs, "the variables that may be set")
-        expect(len(heads) > 0, True, "some may be set")
+        with self.room() as room:
+            status, output, error = room.ours("upsrw", "ROOM")
+            expect((status, error), (0, ""), "upsrw NAME")
+            heads, theirs = ([line for line in it.splitlines() if line.startswith("[")] for it in (output, room.theirs("upsrw", "ROOM")[1]))
+            expect(heads, theirs, "the variables that may be set")
+            ensure(heads, "some may be set")
 
     def test_sets(self):
-        login = ["-u", "admin", "-p", "pw", self.name]
-        expect(self.ours("upsrw", "-s", "ups.status=OB DISCHRG", *login), (0, "OK\n", ""), "upsrw -s")
-        for _ in range(100):
-            if self.ours("upsc", self.name, "ups.status")[1] == "OB DISCHRG\n":
-                break
-            time.sleep(0.1)
-        else:
-            raise Failed("the variable wasn't set")
-        expect(self.theirs("upsc", self.name, "ups.status"), (0, "OB DISCHRG\n", ""), "NUT's upsc sees it")
-        # NUT's server numbers no requests
-        tracked = self.ours("upsrw", "-w", "-s", "ups.status=OL", *login)
-        expect(tracked, (1, "", "Error: not tracked\n"), "upsrw -w")
-        wrong = self.ours("upsrw", "-s", "ups.status=OL", "-u", "admin", "-p", "x", self.name)
-        expect(wrong, (1, "", "Error: ACCESS-DENIED\n"), "a wrong password")
+        with self.room() as room:
+            # NUT's driver accepts no SET soon after its start
+            until(lambda: room.ours("upsrw", "-s", "ups.status=OB DISCHRG", *LOGIN) == (0, "OK\n", ""), "upsrw -s", 30)
+            until(lambda: room.ours("upsc", "ROOM", "ups.status") == (0, "OB DISCHRG\n", ""), "the variable is set")
+            expect(room.theirs("upsc", "ROOM", "ups.status"), (0, "OB DISCHRG\n", ""), "NUT's upsc sees it")
+            # NUT's server numbers no requests
+            expect(room.ours("upsrw", "-w", "-s", "ups.status=OL", *LOGIN), (1, "", "Error: not tracked\n"), "upsrw -w")
+            wrong = room.ours("upsrw", "-s", "ups.status=OL", "-u", "admin", "-p", "x", "ROOM")
+            expect(wrong, (1, "", "Error: ACCESS-DENIED\n"), "a wrong password")
 
     def test_commands(self):
-        status, output, error = self.ours("upscmd", "-l", self.name)
-        expect((status, error), (0, ""), "upscmd -l")
-        theirs = self.theirs("upscmd", "-l", self.name)[1].splitlines()[2:]
-        expect(output.splitlines(), theirs, "the commands")
-        command = output.splitlines()[0].split(" - ")[0]
-        login = ["-u", "admin", "-p", "pw", self.name]
-        expect(self.ours("upscmd", *login, command), (0, "OK\n", ""), f"upscmd {command}")
-        expect(self.ours("upscmd", *login, "no.such"), (1, "", "Error: CMD-NOT-SUPPORTED\n"), "an unknown command")
-
-
-def main():
-    if len(sys.argv) != 4:
-        sys.exit(__doc__)
-    missing = [program for program in NEEDED if not os.path.exists(program)]
-    if missing:
-        print(f"skipped: {missing[0]} isn't there; Debian's packages nut-server and nut-client have it")
-        print("0 passed, 0 failed")
-        return 0
-    tools = dict(zip(("upsc", "upsrw", "upscmd"), map(os.path.abspath, sys.argv[1:])))
-    with tempfile.TemporaryDirectory() as folder:
-        peers = Peers(folder)
-        try:
-            peers.begin()
-            tests = Tests(tools, peers)
-            tests.wait()
-            return run_tests(tests)
-        except Failed as found:
-            print(f"FAILED: {found}\n{peers.logs()}\n0 passed, 1 failed")
-            return 1
-        finally:
-            peers.stop()
+        with self.room() as room:
+            status, output, error = room.ours("upscmd", "-l", "ROOM")
+            expect((status, error), (0, ""), "upscmd -l")
+            theirs = room.theirs("upscmd", "-l", "ROOM")[1].splitlines()[2:]
+            expect(output.splitlines(), theirs, "the commands")
+            command = output.splitlines()[0].split(" - ")[0]
+            expect(room.ours("upscmd", *LOGIN, command), (0, "OK\n", ""), f"upscmd {command}")
+            expect(room.ours("upscmd", *LOGIN, "no.such"), (1, "", "Error: CMD-NOT-SUPPORTED\n"), "an unknown command")
 
 
 if __name__ == "__main__":
-    sys.exit(main())
+    sys.exit(play(Tests, 3, "'apt-get install nut-client nut-server' installs what they need"))
