@@ -14,7 +14,7 @@ import sys
 import tempfile
 
 from tests.support import manual
-from tests.support.harness import ensure, expect, Missing, ROOT, run_tests
+from tests.support.harness import ended, ensure, expect, Missing, ROOT, run_tests
 
 SOURCE = os.path.join(ROOT, "docs", "from-nut.md")
 PAGE = os.path.join(ROOT, "man", "from-nut.7")
@@ -134,9 +134,7 @@ def heads(page):
         text = file.read()
     if page.startswith("man8"):
         text = "".join(re.findall(r'^\.SH "?(?:OPTIONS|ENVIRONMENT VARIABLES)"?$.*?(?=^\.SH|\Z)', text, re.MULTILINE | re.DOTALL))
-    for head in re.findall(r"^\.PP\n(.*)\n\.RS 4$", text, re.MULTILINE):
-        if head.endswith(":"):
-            continue
+    for head in re.findall(r"^\.PP\n(.*[^:\n])\n\.RS 4$", text, re.MULTILINE):
         words = re.sub(r"\\f[BIR]", "", head).replace("\\-", "-").replace("\\&", "").strip('"').split()
         yield words[0].split("[")[0].split("=")[0]
     for variable in re.findall(r"^\\fB(NUT_[A-Z]+)\\fR is the path", text, re.MULTILINE):
@@ -144,7 +142,8 @@ def heads(page):
 
 
 # A directive in a line that is right except for its first word, behind a section if the file needs one.
-LINES = {"ups.conf": "[u]\n{} = 1\n", "upsd.users": "[u]\n{} = 1\n", "upsd.conf": "{} 1\n", "cmdvartab": "{} a 1\n", "upsmon.conf": "MINSUPPLIES 0\n{} 1\n"}
+LINES = {"ups.conf": "[u]\n{} = 1\n", "upsd.users": "[u]\n{} = 1\n", "upsd.conf": "{} 1\n", "cmdvartab": "{} a 1\n"}
+LINES["upsmon.conf"] = "MINSUPPLIES 0\n{} 1\n"
 
 
 class Tests:
@@ -159,10 +158,9 @@ class Tests:
     def said(self, *words):
         """Returns what a program writes to standard error, which it does at once or not at all."""
         try:
-            done = subprocess.run(words, stdin=subprocess.DEVNULL, capture_output=True, timeout=20, env={"PATH": os.environ["PATH"], "NUT_CONFPATH": "/nowhere"})
+            return ended(words, timeout=20, env={"PATH": os.environ["PATH"], "NUT_CONFPATH": "/nowhere"})[2].decode()
         except subprocess.TimeoutExpired:
             return ""
-        return done.stderr.decode()
 
     def test_options_are_supported_as_said(self):
         for program, found in self.sections().items():
@@ -175,11 +173,8 @@ class Tests:
 
     def test_directives_are_supported_as_said(self):
         for section, found in self.sections().items():
-            if section not in LINES:
-                continue
-            for name, text in found:
-                if not name.startswith("`"):
-                    continue
+            named = [it for it in found if section in LINES and it[0].startswith("`")]
+            for name, text in named:
                 with tempfile.TemporaryDirectory() as folder:
                     word = name.strip("`").replace("<variable>", "ups.id")
                     for file in LINES:

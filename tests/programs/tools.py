@@ -11,45 +11,51 @@ import json
 import os
 import resource
 import socket
-import subprocess
 import sys
-import tempfile
 import threading
 import time
 from concurrent import futures
 
-from tests.support.harness import NUTS_OPTIONS, VERSION_SHOWN, Failed, build_shim, built_without_proof, ensure, expect, refusals, run_tests
+from tests.support.harness import NUTS_OPTIONS, VERSION_SHOWN, Failed, Shimmed, built_without_proof, ended, ensure, expect, play, refusals
 from tests.support.model import LINE_MAX
 from tests.support.room import free_port
+from tests.support.server_rows import listed
 
 # every byte that a value may have
 EVERY = bytes(range(0x20, 0x7F))
 
+
+def lists(query, *rows):
+    """Returns a LIST with its answer."""
+    return {b"LIST " + query: listed(query, *rows) + b"\n"}
+
+
+def tracked(number, status):
+    """Returns the question for a tracked request with its answer."""
+    return {b"GET TRACKING " + number: b"TRACKING %b %b\n" % (number, status)}
+
+
 # what the server answers to each query; any other is an unknown command
 ANSWERS = {
-    b"LIST VAR su700": b'BEGIN LIST VAR su700\nVAR su700 battery.charge "100"\nVAR su700 ups.mfr "a \\"b\\" \\\\c"\n'
-    b'VAR su700 ups.status "OL"\nEND LIST VAR su700\n',
+    **lists(b"VAR su700", b'VAR su700 battery.charge "100"', b'VAR su700 ups.mfr "a \\"b\\" \\\\c"', b'VAR su700 ups.status "OL"'),
     b"GET VAR su700 ups.status": b'VAR su700 ups.status "OL"\n',
     b"GET VAR su700 ups.mfr": b'VAR su700 ups.mfr "a \\"b\\" \\\\c"\n',
-    b"LIST UPS": b'BEGIN LIST UPS\nUPS su700 "Server room"\nUPS b ""\nEND LIST UPS\n',
-    b"LIST CLIENT su700": b"BEGIN LIST CLIENT su700\nCLIENT su700 ::1\nCLIENT su700 10.0.0.1\nEND LIST CLIENT su700\n",
+    **lists(b"UPS", b'UPS su700 "Server room"', b'UPS b ""'),
+    **lists(b"CLIENT su700", b"CLIENT su700 ::1", b"CLIENT su700 10.0.0.1"),
     b"LIST VAR stale": b"ERR DATA-STALE\n",
     b"LIST VAR wrong": b"BEGIN LIST VAR su700\nEND LIST VAR su700\n",
     b"LIST VAR quoted": b'"BEGIN\n',
-    b"LIST VAR long": b"BEGIN LIST VAR long\nVAR long a " + b"x" * LINE_MAX + b"\nEND LIST VAR long\n",
-    b"LIST VAR past": "BEGIN LIST VAR past\nVAR past a \"caf\u00e9\"\nEND LIST VAR past\n".encode(),
-    b"LIST VAR every": b'BEGIN LIST VAR every\nVAR every a "' + EVERY.replace(b"\\", b"\\\\").replace(b'"', b'\\"') + b'"\nEND LIST VAR every\n',
-    b"LIST VAR none": b"BEGIN LIST VAR none\nEND LIST VAR none\n",
-    b"LIST RW su700": b'BEGIN LIST RW su700\nRW su700 input.sensitivity "low"\nRW su700 ups.delay "5"\nRW su700 ups.id "x"\n'
-    b"END LIST RW su700\n",
+    **lists(b"VAR long", b"VAR long a " + b"x" * LINE_MAX),
+    **lists(b"VAR past", "VAR past a \"caf\u00e9\"".encode()),
+    **lists(b"VAR every", b'VAR every a "' + EVERY.replace(b"\\", b"\\\\").replace(b'"', b'\\"') + b'"'),
+    **lists(b"VAR none"),
+    **lists(b"RW su700", b'RW su700 input.sensitivity "low"', b'RW su700 ups.delay "5"', b'RW su700 ups.id "x"'),
     b"GET TYPE su700 input.sensitivity": b"TYPE su700 input.sensitivity RW ENUM\n",
     b"GET TYPE su700 ups.delay": b"TYPE su700 ups.delay RW RANGE NUMBER\n",
     b"GET TYPE su700 ups.id": b"TYPE su700 ups.id RW STRING:16\n",
-    b"LIST ENUM su700 input.sensitivity": b'BEGIN LIST ENUM su700 input.sensitivity\nENUM su700 input.sensitivity "low"\n'
-    b'ENUM su700 input.sensitivity "high"\nEND LIST ENUM su700 input.sensitivity\n',
-    b"LIST RANGE su700 ups.delay": b'BEGIN LIST RANGE su700 ups.delay\nRANGE su700 ups.delay "0" "9"\n'
-    b'RANGE su700 ups.delay "20" "30"\nEND LIST RANGE su700 ups.delay\n',
-    b"LIST CMD su700": b"BEGIN LIST CMD su700\nCMD su700 load.off\nCMD su700 load.on\nEND LIST CMD su700\n",
+    **lists(b"ENUM su700 input.sensitivity", b'ENUM su700 input.sensitivity "low"', b'ENUM su700 input.sensitivity "high"'),
+    **lists(b"RANGE su700 ups.delay", b'RANGE su700 ups.delay "0" "9"', b'RANGE su700 ups.delay "20" "30"'),
+    **lists(b"CMD su700", b"CMD su700 load.off", b"CMD su700 load.on"),
     b"GET CMDDESC su700 load.off": b'CMDDESC su700 load.off "Turn off the load"\n',
     b"GET CMDDESC su700 load.on": b'CMDDESC su700 load.on "Turn on the load"\n',
     b"USERNAME admin": b"OK\n",
@@ -68,13 +74,9 @@ ANSWERS = {
     b"INSTCMD su700 nameless": b"OK TRACKING 5\n",
     b"INSTCMD su700 takes.time": b"OK TRACKING 999999999\n",
     b"INSTCMD su700 never.ends": b"OK TRACKING 6\n",
-    b"GET TRACKING 1": b"TRACKING 1 SUCCESS\n",
-    b"GET TRACKING 2": b"TRACKING 2 FAILED\n",
-    b"GET TRACKING 3": b"TRACKING 3 UNKNOWN\n",
-    b"GET TRACKING 4": b"TRACKING 4 success\n",
+    **tracked(b"1", b"SUCCESS"), **tracked(b"2", b"FAILED"), **tracked(b"3", b"UNKNOWN"), **tracked(b"4", b"success"),
+    **tracked(b"6", b"PENDING"), **tracked(b"7", b"SUCCESS"),
     b"GET TRACKING 5": b"SUCCESS\n",
-    b"GET TRACKING 7": b"TRACKING 7 SUCCESS\n",
-    b"GET TRACKING 6": b"TRACKING 6 PENDING\n",
     # as often as it is asked
     b"GET TRACKING 999999999": [b"TRACKING 999999999 PENDING\n"] * 2 + [b"TRACKING 999999999 SUCCESS\n"],
 }
@@ -103,6 +105,11 @@ ADMIN = ["-u", "admin", "-p", "pw"]
 LOGIN = [b"USERNAME admin", b"PASSWORD pw"]
 TRACKED = [*LOGIN, b"SET TRACKING ON"]
 
+# what some of them ask
+ASKED_SETTINGS = [b"LIST RW su700", b"GET TYPE su700 input.sensitivity", b"LIST ENUM su700 input.sensitivity", b"GET TYPE su700 ups.delay"]
+ASKED_SETTINGS += [b"LIST RANGE su700 ups.delay", b"GET TYPE su700 ups.id"]
+SET_AND_ASKED = [*TRACKED, b'SET VAR su700 ups.id "seven"', b"GET TRACKING 7"]
+
 # the tool, its arguments (AT is replaced by the server's host and port), its queries, and its output
 GOOD = [
     ("upsc", ["su700@AT"], [b"LIST VAR su700"], VARIABLES),
@@ -114,34 +121,12 @@ GOOD = [
     ("upsc", ["-j", "su700@AT"], [b"LIST VAR su700"], OBJECT),
     ("upsc", ["-j", "none@AT"], [b"LIST VAR none"], b"{}\n"),
     ("upsc", ["-j", "su700@AT", "ups.mfr"], [b"GET VAR su700 ups.mfr"], b'{"ups.mfr": "a \\"b\\" \\\\c"}\n'),
-    (
-        "upsrw",
-        ["su700@AT"],
-        [
-            b"LIST RW su700",
-            b"GET TYPE su700 input.sensitivity",
-            b"LIST ENUM su700 input.sensitivity",
-            b"GET TYPE su700 ups.delay",
-            b"LIST RANGE su700 ups.delay",
-            b"GET TYPE su700 ups.id",
-        ],
-        SETTINGS,
-    ),
+    ("upsrw", ["su700@AT"], ASKED_SETTINGS, SETTINGS),
     ("upsrw", ["-s", "ups.id=y", *ADMIN, "su700@AT"], [*LOGIN, b'SET VAR su700 ups.id "y"'], b"OK\n"),
     ("upsrw", ["-s", 'ups.id=a=b "c"', *ADMIN, "su700@AT"], [*LOGIN, b'SET VAR su700 ups.id "a=b \\"c\\""'], b"OK\n"),
-    (
-        "upscmd",
-        ["-l", "su700@AT"],
-        [b"LIST CMD su700", b"GET CMDDESC su700 load.off", b"GET CMDDESC su700 load.on"],
-        COMMANDS,
-    ),
+    ("upscmd", ["-l", "su700@AT"], [b"LIST CMD su700", b"GET CMDDESC su700 load.off", b"GET CMDDESC su700 load.on"], COMMANDS),
     ("upscmd", [*ADMIN, "su700@AT", "load.off"], [*LOGIN, b"INSTCMD su700 load.off"], b"OK\n"),
-    (
-        "upsrw",
-        ["-w", "-s", "ups.id=seven", *ADMIN, "su700@AT"],
-        [*TRACKED, b'SET VAR su700 ups.id "seven"', b"GET TRACKING 7"],
-        b"SUCCESS\n",
-    ),
+    ("upsrw", ["-w", "-s", "ups.id=seven", *ADMIN, "su700@AT"], SET_AND_ASKED, b"SUCCESS\n"),
     ("upscmd", ["-w", *ADMIN, "su700@AT", "load.off"], [*TRACKED, b"INSTCMD su700 load.off", b"GET TRACKING 1"], b"SUCCESS\n"),
 ]
 
@@ -164,29 +149,19 @@ BAD = [
     ("upscmd", ["-w", *ADMIN, "su700@AT", "nameless"], [*TRACKED, b"INSTCMD su700 nameless", b"GET TRACKING 5"], b"bad answer", 1),
     ("upsrw", ["-w", "-s", "ups.id=y", *ADMIN, "su700@AT"], [*TRACKED, b'SET VAR su700 ups.id "y"'], b"not tracked", 1),
     ("upsrw", ["-w", "-s", "ups.id=by name", *ADMIN, "su700@AT"], [*TRACKED, b'SET VAR su700 ups.id "by name"'], b"not tracked", 1),
-    ("upsc", ["a@"], None, b"bad UPS name", 1),
-    ("upsc", ["a b@AT"], None, b"bad UPS name", 1),
-    ("upsc", ["-l", "127.0.0.1:0"], None, b"bad UPS name", 1),
-    ("upsc", ["su700@[::1]"], None, b"bad UPS name", 1),
-    ("upsc", ["-l", "::1"], None, b"bad UPS name", 1),
+    *(("upsc", words, None, b"bad UPS name", 1) for words in (["a@"], ["a b@AT"], ["-l", "127.0.0.1:0"], ["su700@[::1]"], ["-l", "::1"])),
     ("upsrw", ["su700@::1"], None, b"bad UPS name", 1),
     ("upsrw", ["-s", "ups.id=y", *ADMIN, "su700@[::1]:3493"], None, b"bad UPS name", 1),
     ("upscmd", [*ADMIN, "su700@fe80::1", "load.off"], None, b"bad UPS name", 1),
-    ("upsc", [], None, b"bad arguments", 2),
-    ("upsc", ["-l", "-L"], None, b"bad arguments", 2),
-    ("upsc", ["-j"], None, b"bad arguments", 2),
-    ("upsc", ["-jl", "AT", "ups.status"], None, b"bad arguments", 2),
-    ("upsc", ["-j", "-c", "su700@AT"], None, b"bad arguments", 2),
-    ("upsc", ["-jl", "AT"], None, b"bad arguments", 2),
     ("upsc", ["-j", "stale@AT"], [b"LIST VAR stale"], b"DATA-STALE", 1),
     ("upsc", ["-j", "long@AT"], [b"LIST VAR long"], b"bad answer", 1),
     ("upsc", ["-j", "past@AT"], [b"LIST VAR past"], b"bad answer", 1),
+    *(("upsc", words, None, b"bad arguments", 2) for words in ([], ["-l", "-L"], ["-j"], ["-jl", "AT", "ups.status"])),
+    *(("upsc", words, None, b"bad arguments", 2) for words in (["-j", "-c", "su700@AT"], ["-jl", "AT"])),
     ("upsrw", ["-s", "ups.id", *ADMIN, "su700@AT"], None, b"bad arguments", 2),
-    ("upsrw", ["-u", "admin", "su700@AT"], None, b"bad arguments", 2),
+    *(("upsrw", words, None, b"bad arguments", 2) for words in (["-u", "admin", "su700@AT"], ["-w", "su700@AT"])),
     ("upscmd", [*ADMIN, "su700@AT"], None, b"bad arguments", 2),
-    ("upsrw", ["-w", "su700@AT"], None, b"bad arguments", 2),
-    ("upscmd", ["-lw", "su700@AT"], None, b"bad arguments", 2),
-    ("upscmd", ["-w", "su700@AT", "load.off"], None, b"bad arguments", 2),
+    *(("upscmd", words, None, b"bad arguments", 2) for words in (["-lw", "su700@AT"], ["-w", "su700@AT", "load.off"])),
 ]
 
 
@@ -298,20 +273,18 @@ class Crowded:
         return True
 
 
-class Tests:
-    def __init__(self, tools, folder):
-        self.tools = tools
+class Tests(Shimmed):
+    def __init__(self, upsc, upsrw, upscmd, folder):
+        self.tools = {"upsc": upsc, "upsrw": upsrw, "upscmd": upscmd}
         self.folder = folder
         self.server = Server()
 
     def run(self, tool, arguments, env=None, **streams):
         """Runs a tool. Returns its status, its output, its error text, and the queries that the server heard."""
         words = [word.replace("AT", self.server.at) if isinstance(word, str) else word for word in arguments]
-        streams = {"stdout": subprocess.PIPE, "stderr": subprocess.PIPE, **streams}
         self.server.queries = []
         self.server.left.clear()
-        done = subprocess.run([self.tools[tool], *words], env={**os.environ, **(env or {})}, timeout=60, **streams)
-        return done.returncode, done.stdout, done.stderr
+        return ended([self.tools[tool], *words], env={**os.environ, **(env or {})}, **streams)
 
     def heard(self):
         """Returns the queries of the client that has just left."""
@@ -342,10 +315,9 @@ class Tests:
     def timed(self, case):
         """Runs a tool with the server at a place. Returns what it did, as `run` does, and for how many seconds it ran."""
         tool, arguments, at = case
-        words = [self.tools[tool], *(word.replace("AT", at) for word in arguments)]
         started = time.monotonic()
-        done = subprocess.run(words, capture_output=True, timeout=60)
-        return (done.returncode, done.stdout, done.stderr), time.monotonic() - started
+        found = ended([self.tools[tool], *(word.replace("AT", at) for word in arguments)])
+        return found, time.monotonic() - started
 
     def test_servers_that_take_too_long(self):
         lost = (1, b"", b"Error: connection lost\n")
@@ -370,8 +342,9 @@ class Tests:
     def test_lines_without_an_end(self):
         """A line is a bad answer at its byte 2,049, whether more follows or not, and whatever came before it."""
         overlong = b"a" * (LINE_MAX + 1)
-        list_of_variables, list_of_commands, deed = ("upsc", ["su700@AT"]), ("upscmd", ["-l", "su700@AT"]), ("upscmd", [*ADMIN, "su700@AT", "load.off"])
-        cases = [(*ask, place.at) for place in (Teller([overlong]), Teller(itertools.repeat(b"a"))) for ask in (list_of_variables, ("upsrw", ["su700@AT"]), list_of_commands, deed)]
+        list_of_variables, deed = ("upsc", ["su700@AT"]), ("upscmd", [*ADMIN, "su700@AT", "load.off"])
+        asks = (list_of_variables, ("upsrw", ["su700@AT"]), ("upscmd", ["-l", "su700@AT"]), deed)
+        cases = [(*ask, place.at) for place in (Teller([overlong]), Teller(itertools.repeat(b"a"))) for ask in asks]
         cases.append((*list_of_variables, Teller([b"BEGIN LIST VAR su700\nVAR su700 a 1\n" + overlong]).at))
         cases.append((*deed, Teller([b"OK\n", overlong]).at))
         for case in cases:
@@ -381,7 +354,8 @@ class Tests:
 
     def test_object_is_what_a_reader_of_json_takes(self):
         self.server.whole()
-        for ups, variables in (("su700", {"battery.charge": "100", "ups.mfr": 'a "b" \\c', "ups.status": "OL"}), ("none", {}), ("every", {"a": EVERY.decode()})):
+        values = {"battery.charge": "100", "ups.mfr": 'a "b" \\c', "ups.status": "OL"}
+        for ups, variables in (("su700", values), ("none", {}), ("every", {"a": EVERY.decode()})):
             status, output, text = self.run("upsc", ["-j", f"{ups}@AT"])
             expect((status, text, output.count(b"\n"), json.loads(output)), (0, b"", 1, variables), ups)
 
@@ -452,7 +426,8 @@ class Tests:
         for tool, arguments, queries, output in GOOD:
             what = f"{tool} {' '.join(arguments)}"
             failed = (1, b"", OUTPUT_FAILED) if output else (0, b"", b"")
-            for closed, end in (((0,), (0, output, b"")), ((1,), failed), ((2,), (0, output, b"")), ((0, 1), failed), ((0, 1, 2), (failed[0], b"", b""))):
+            good = (0, output, b"")
+            for closed, end in (((0,), good), ((1,), failed), ((2,), good), ((0, 1), failed), ((0, 1, 2), (failed[0], b"", b""))):
                 found = self.run(tool, arguments, preexec_fn=lambda closed=closed: [os.close(it) for it in closed])
                 expect(found, end, f"{what} without the streams {closed}")
                 expect(self.heard(), queries, f"the queries of {what} without the streams {closed}")
@@ -480,7 +455,7 @@ class Tests:
                     expect(read, written, f"upscmd {' '.join(words)} with {line!r}")
         for tool, words, queries in (
             ("upscmd", ["-wp", "-", "-u", "admin", *deed], [*TRACKED, b"INSTCMD su700 load.off", b"GET TRACKING 1"]),
-            ("upsrw", ["-s", "ups.id=seven", "-u", "admin", "-wp", "-", "su700@AT"], [*TRACKED, b'SET VAR su700 ups.id "seven"', b"GET TRACKING 7"]),
+            ("upsrw", ["-s", "ups.id=seven", "-u", "admin", "-wp", "-", "su700@AT"], SET_AND_ASKED),
         ):
             expect(self.run(tool, words, input=b"pw\n"), (0, b"SUCCESS\n", b""), words)
             expect(self.heard(), queries, words)
@@ -534,11 +509,10 @@ class Tests:
                 expect(self.run(tool, arguments, preexec_fn=limit(STACK)), (0, output, b""), f"{tool} {' '.join(arguments)} with enough")
 
     def test_refused_memory(self):
-        shim = build_shim(self.folder)
         self.server.whole()
         for tool, arguments, _, output in GOOD:
             what = f"{tool} {' '.join(arguments)}"
-            for at, env, is_reached in refusals(shim):
+            for at, env, is_reached in refusals(self.shim):
                 found = self.run(tool, arguments, env)
                 if not is_reached():
                     expect(found, (0, output, b""), f"{what}, allocation {at}, which isn't reached")
@@ -551,13 +525,5 @@ class Tests:
                 raise Failed(f"{what}: {at - 1} allocations were seen")
 
 
-def main():
-    if len(sys.argv) != 4:
-        sys.exit(__doc__)
-    tools = dict(zip(("upsc", "upsrw", "upscmd"), map(os.path.abspath, sys.argv[1:])))
-    with tempfile.TemporaryDirectory() as folder:
-        return run_tests(Tests(tools, folder))
-
-
 if __name__ == "__main__":
-    sys.exit(main())
+    sys.exit(play(Tests, 3))
