@@ -34,6 +34,11 @@ def faulty(fault, *texts):
     return [(text, fault) for text in texts]
 
 
+def unknown(text, fault, word):
+    """Returns a row of a text in which this word is no directive."""
+    return text, fault, f"{word} isn't taken here: see from-nut(7)"
+
+
 def limit(form, part, most, *fault):
     """Returns a row of a text at a limit, which has this part so many times, and one of the text just past it."""
     return [(form.replace(b"%b", part * most), None), (form.replace(b"%b", part * (most + 1)), *fault)]
@@ -86,15 +91,15 @@ FILES = {
         *faulty("2: UnknownDirective", b"[a]\n[b] x\n", b"[a]\n[b\n", b"[a]\nb]\n", b"[a]\n[\n"),
         # before the first section only this is tested
         (b"port = x\n", "1: OutsideSection", "port: a line [NAME] has to come before it"),
-        (b"maxretry = 3\n", "1: OutsideSection", "maxretry isn't taken here: see from-nut(7)"),
-        (b"# ours\n\n  pollinterval=2", "3: OutsideSection", "pollinterval isn't taken here: see from-nut(7)"),
+        unknown(b"maxretry = 3\n", "1: OutsideSection", "maxretry"),
+        unknown(b"# ours\n\n  pollinterval=2", "3: OutsideSection", "pollinterval"),
         *faulty("1: OutsideSection", b"foo\n", b"desc\n"),
         # directives, byte for byte
-        (b"[a]\nvendorid = 3\n", "2: UnknownDirective", "vendorid isn't taken here: see from-nut(7)"),
+        unknown(b"[a]\nvendorid = 3\n", "2: UnknownDirective", "vendorid"),
         *faulty("2: UnknownDirective", b"[a]\nDesc = x\n", b"[a]\ndesc2 = x\n", b"[a]\nfoo\n"),
         # as the reader reads it: without quotes and backslashes
-        (b'[a]\n"a b" = 1\n', "2: UnknownDirective", "a b isn't taken here: see from-nut(7)"),
-        (b"[a]\nv\\en\\dor = 1\n", "2: UnknownDirective", "vendor isn't taken here: see from-nut(7)"),
+        unknown(b'[a]\n"a b" = 1\n', "2: UnknownDirective", "a b"),
+        unknown(b"[a]\nv\\en\\dor = 1\n", "2: UnknownDirective", "vendor"),
         (b'[a]\n"" = 1\n', "2: UnknownDirective", "a directive of ups.conf is meant"),
         # form
         (b"[a]\ndriver = x y\n", "2: BadForm", "driver = NAME is meant"),
@@ -153,8 +158,8 @@ FILES = {
         (b"[a]\ninstcmds = a/b\n", "2: BadName", f"a/b: {named(64)}"),
         (b'[a]\ninstcmds = ""\n', "2: BadName"),
         (b"[a]\ninstcmds = a b\n", "2: BadForm", "instcmds = COMMAND or instcmds = ALL is meant"),
-        (b"[a]\r\nallowfrom = x\r\n", "2: UnknownDirective", "allowfrom isn't taken here: see from-nut(7)"),
-        (b"allowfrom = x\n", "1: OutsideSection", "allowfrom isn't taken here: see from-nut(7)"),
+        unknown(b"[a]\r\nallowfrom = x\r\n", "2: UnknownDirective", "allowfrom"),
+        unknown(b"allowfrom = x\n", "1: OutsideSection", "allowfrom"),
         *faulty("2: UnknownDirective", b"[a]\ndesc = x\n", b"[a]\nSET\n"),
         (b"[a]\n[b]\n[a]\n", "3: Repeated"),
         # lines with a password
@@ -168,7 +173,7 @@ FILES = {
         (b"[a]\npassword = %b\xfc\n" % SECRET, "2: Unreadable", f"column 19: {ASCII}"),
         (b"[a]\n  # Password = %b\xfc\n" % SECRET, "2: Unreadable", f"column 23: {ASCII}"),
         (b'[a]\npassword = "%b\n' % SECRET, "2: Unreadable", f"{UNREAD}a quote is not closed"),
-        (b"[a]\nPassword = %b\n" % SECRET, "2: UnknownDirective", "Password isn't taken here: see from-nut(7)"),
+        unknown(b"[a]\nPassword = %b\n" % SECRET, "2: UnknownDirective", "Password"),
         (b"[a]\n%b\n" % SECRET, "2: UnknownDirective", "a directive of upsd.users is meant"),
         (b"[a]\npassword%b\n" % SECRET, "2: UnknownDirective", "a directive of upsd.users is meant"),
         (b"%b\n[a]\n" % SECRET, "1: OutsideSection", "a directive of upsd.users is meant"),
@@ -198,8 +203,8 @@ FILES = {
         *faulty("1: BadName", b"LISTEN a_b 0\n", b'LISTEN ""\n', b"LISTEN = 1\n"),
         (b"LISTEN a 65536\n", "1: BadNumber", "65536: a number from 1 to 65535 is meant"),
         (b"LISTEN a 0\n", "1: BadNumber"),
-        (b"STATEPATH x\n", "1: UnknownDirective", "STATEPATH isn't taken here: see from-nut(7)"),
-        (b"w" * 500 + b" 1\n", "1: UnknownDirective", f"{'w' * 500} isn't taken here: see from-nut(7)"),
+        unknown(b"STATEPATH x\n", "1: UnknownDirective", "STATEPATH"),
+        unknown(b"w" * 500 + b" 1\n", "1: UnknownDirective", "w" * 500),
         *faulty("1: UnknownDirective", b"maxage 5\n", b"[a]\n"),
         # limits, at each of them and just past it
         *limit(b"LISTEN %b", b"a", 64, "1: BadName"),
@@ -241,7 +246,7 @@ FILES = {
         (b"MONITOR u@h 1 m %b\n" % SECRET, "1: BadForm", MONITOR),
         (b"MONITOR u@h 1 m p primary\nMONITOR u@h 2 n %b secondary\n" % SECRET, "2: Repeated", "u@h: a line before has it"),
         (b"MONITOR u@h 1 m p primary\n%b primary\n" % SECRET, "2: UnknownDirective", "a directive of upsmon.conf is meant"),
-        (b"monitor u@h 1 m %b primary\n" % SECRET, "1: UnknownDirective", "monitor isn't taken here: see from-nut(7)"),
+        unknown(b"monitor u@h 1 m %b primary\n" % SECRET, "1: UnknownDirective", "monitor"),
         (b"MONITOR u@h 1 m %b\xfc primary\n" % SECRET, "1: Unreadable", f"column 24: {ASCII}"),
         (b"#MONITOR u@h 1 m %b\xfc primary\n" % SECRET, "1: Unreadable", f"column 25: {MENDED}"),
         # commands
@@ -254,7 +259,7 @@ FILES = {
         (b'SHUTDOWNCMD a\nSHUTDOWNCMD ""\n', "2: PastLimit"),
         *faulty("2: Repeated", b"SHUTDOWNCMD a\nSHUTDOWNCMD b\n", b"POWERDOWNFLAG a\nPOWERDOWNFLAG a\n"),
         (b"NOTIFYCMD a\nPOWERDOWNFLAG a\nNOTIFYCMD a\n", "3: Repeated"),
-        (b"RUN_AS_USER nut\n", "1: UnknownDirective", "RUN_AS_USER isn't taken here: see from-nut(7)"),
+        unknown(b"RUN_AS_USER nut\n", "1: UnknownDirective", "RUN_AS_USER"),
         # notices
         *fine(b"MINSUPPLIES 0\nNOTIFYMSG ONLINE x\nNOTIFYMSG ONBATT x\n", b'MINSUPPLIES 0\nNOTIFYMSG FSD ""\n'),
         *fine(b"MINSUPPLIES 0\nNOTIFYFLAG ONLINE SYSLOG\nNOTIFYMSG ONLINE x\n"),
@@ -302,7 +307,7 @@ FILES = {
         (b'VARDESC a "x\n', "1: Unreadable", f"{UNREAD}a quote is not closed"),
         *faulty("1: Unreadable", b'VARDESC a x\\', b'VARDESC a "caf\xc3\xa9"\n', b'VARDESC a "x\ty"\n'),
         # directives, byte for byte
-        (b"DESC a x\n", "1: UnknownDirective", "DESC isn't taken here: see from-nut(7)"),
+        unknown(b"DESC a x\n", "1: UnknownDirective", "DESC"),
         *faulty("1: UnknownDirective", b"vardesc a x\n", b"VARDESCR a x\n", b"[a]\n", b'""\n'),
         # form
         (b"CMDDESC a two words\n", "1: BadForm", 'CMDDESC NAME "TEXT" is meant'),
@@ -406,4 +411,4 @@ class Tests:
 
 
 if __name__ == "__main__":
-    sys.exit(play(Tests, 2))
+    sys.exit(play(Tests, 2, at_once=4))

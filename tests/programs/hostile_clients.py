@@ -33,6 +33,7 @@ LONGEST = b"ups.status: OL\n" + b"".join(b"%s.%03d: %s\n" % (b"x" * 60, i, b'"' 
 GREEDY_MAX_KIB = MOST * (570 + 64 + 32)
 # a table whose list has 27 KB
 LONG = b"ups.status: OL\n" + b"".join(b"ambient.%d.status: %s\n" % (i, b"x" * 100) for i in range(200))
+END_OF_LIST = b"END LIST VAR su700\n"
 STALE = b"ERR DATA-STALE\n"
 SILENT = "upsd: client 127.0.0.1 closed: silent for {} s"
 FULL = "upsd: client refused: MAXCONN {} is reached, and all clients are logged in"
@@ -74,7 +75,7 @@ def mode_of(path):
     return stat.S_IMODE(os.stat(path).st_mode)
 
 
-class Hostile:
+class Hostile(Client):
     """A client that reads nothing. Its buffers are small, and because of its short segments so are those of the server."""
 
     def __init__(self, room, request):
@@ -83,18 +84,8 @@ class Hostile:
         self.socket.setsockopt(socket.IPPROTO_TCP, socket.TCP_MAXSEG, 536)
         self.socket.settimeout(SOON)
         self.socket.connect((room.host, room.port))
-        self.socket.sendall(request)
-
-    def lists(self, count):
-        """Reads this many lists."""
         self.file = self.socket.makefile("rb")
-        while count > 0:
-            line = self.file.readline()
-            ensure(line, "the connection ended")
-            count -= line.startswith(b"END LIST")
-
-    def close(self):
-        self.socket.close()
+        self.send(request)
 
 
 def end(process):
@@ -134,12 +125,11 @@ class Tests(RoomTests):
                 # each is answered until its buffers are full, and then none takes anything
                 until(lambda: is_quiet(upsd.pid), "a server whose clients don't read has nothing to do", 60)
                 for client in clients:
-                    client.socket.sendall(b"LIST VAR su700\n" * 10)
+                    client.send(b"LIST VAR su700\n" * 10)
                 until(lambda: is_quiet(upsd.pid), "it has nothing to do again", 60)
                 expect(upsd.poll(), None, "a server whose clients don't read")
-                clients[0].lists(20)
-                clients[0].socket.sendall(b"VER\n")
-                expect(clients[0].file.readline(), VERSION, "one that reads at last")
+                clients[0].read_to(END_OF_LIST, times=20)
+                expect(clients[0].ask(b"VER\n"), VERSION, "one that reads at last")
             until(room.serves, "a new client is served")
 
     def test_what_is_kept_for_greedy_clients(self):
@@ -193,8 +183,8 @@ class Tests(RoomTests):
                     for i in range(60 + 20 * first, 80 + 20 * first):
                         asking[i] = asking_of(i)
                 for i, client in asking.items():
-                    client.lists(10)
-                    expect(client.file.readline(), b'VAR su700 ambient.%d.status "%s"\n' % (i, b"x" * 100), f"client {i}")
+                    client.read_to(END_OF_LIST, times=10)
+                    expect(client.line(), b'VAR su700 ambient.%d.status "%s"\n' % (i, b"x" * 100), f"client {i}")
 
     def test_silent_clients(self):
         """A minute of the server's clock lasts four seconds here."""

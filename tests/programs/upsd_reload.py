@@ -691,4 +691,4 @@ class Tests(RoomTests):
 
 
 if __name__ == "__main__":
-    sys.exit(play(Tests, 2, "root, a C compiler and Debian's package nut-client run them"))
+    sys.exit(play(Tests, 2, "root, a C compiler and Debian's package nut-client run them", at_once=4))

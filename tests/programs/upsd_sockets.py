@@ -9,13 +9,14 @@ import contextlib
 import errno
 import os
 import resource
+import select
 import signal
 import socket
 import sys
 import time
 from concurrent import futures
 
-from tests.support.harness import NUTS_OPTIONS, Failed, Missing, apart, built_without_proof, cannot_listen, cannot_read, ended, ensure, expect
+from tests.support.harness import NUTS_OPTIONS, Missing, apart, built_without_proof, cannot_listen, cannot_read, ended, ensure, expect
 from tests.support.harness import expect_rest, play
 from tests.support.room import Client, DEVICE, Lines, NOT_CONNECTED, ONLINE, NO_PINGS, RoomTests, SOON, STATUS, VERSION
 from tests.support.room import accepted, connected, family_of, first_lines, free_port, give_address, has_ipv6, heed_modes, play_driver
@@ -58,17 +59,13 @@ LISTENERS_OF_IPV6 = (
 )
 
 
-def with_hosts(path):
-    """Returns the words that run a program for which this file takes the place of /etc/hosts."""
-    return apart("--mount", "sh", "-c", 'mount --bind "$0" /etc/hosts && exec "$@"', path)
-
-
-def with_hosts_alone(folder):
-    """Returns the words that run a program which knows only the names in the file `hosts` of a folder: it asks no name server."""
+def with_hosts(folder, text=b""):
+    """Returns the words that run a program which knows only the names in the file `hosts` of a folder, which has this text at first:
+    it asks no name server."""
     paths = [os.path.join(folder, name) for name in ("hosts", "nsswitch.conf")]
-    for path, text in zip(paths, ("", "hosts: files\n")):
-        with open(path, "w") as file:
-            file.write(text)
+    for path, content in zip(paths, (text, b"hosts: files\n")):
+        with open(path, "wb") as file:
+            file.write(content)
     mounts = 'mount --bind "$0" /etc/hosts && mount --bind "$1" /etc/nsswitch.conf && shift && exec "$@"'
     return apart("--mount", "sh", "-c", mounts, *paths)
 
@@ -124,17 +121,6 @@ class Tests(RoomTests):
                 expect(client.ask(b"LOGOUT\n"), b"OK Goodbye\n", "farewell")
                 expect(client.line(), b"", "the end")
 
-    def test_set_and_command(self):
-        with self.room() as room:
-            room.online()
-            with room.client() as client:
-                client.log_in()
-                expect(client.ask(b'SET VAR su700 ups.id "new"\n'), b"OK\n", "SET")
-                room.until(b"GET VAR su700 ups.id\n", b'VAR su700 ups.id "new"\n')
-                expect(client.ask(b"INSTCMD su700 load.off\n"), b"OK\n", "INSTCMD")
-                room.until(STATUS, b'VAR su700 ups.status "OFF"\n')
-                expect(client.ask(b"SET VAR su700 ups.status x\n"), b"ERR READONLY\n", "SET of the status")
-
     def test_sequence(self):
         with self.room() as room:
             room.dummy(b"ups.status: OL\nTIMER 2\nups.status: OB LB\nTIMER 2\n", "seq")
@@ -156,27 +142,7 @@ class Tests(RoomTests):
                 ensure(took <= SOON or built_without_proof(), f"200 requests took {took:.2f} s beside a client that never reads")
                 expect_rest(upsd, 1, 0.5, "beside a client that never reads")
                 # once the client reads, it is answered
-                lists = 0
-                while lists < 3:
-                    lists += stuck.line() == b"END LIST VAR su700\n"
-
-    def test_client_byte_by_byte(self):
-        with self.room() as room:
-            room.online()
-            with room.client() as slow, room.client() as client:
-                slow.socket.setsockopt(socket.IPPROTO_TCP, socket.TCP_NODELAY, 1)
-                for i in range(len(STATUS)):
-                    slow.send(STATUS[i : i + 1])
-                    expect(client.ask(b"VER\n"), VERSION, "beside a slow client")
-                expect(slow.line(), ONLINE, "a slow client")
-
-    def test_half_closed_client(self):
-        with self.room() as room:
-            room.upsd()
-            with room.client() as client:
-                client.send(b"VER\nVER\n")
-                client.socket.shutdown(socket.SHUT_WR)
-                expect(client.file.read(), VERSION * 2, "answers after the client's end")
+                stuck.read_to(b"END LIST VAR su700\n", times=3)
 
     def test_driver_that_stops_in_mid_line(self):
         with self.room() as room, room.driver() as listener:
@@ -204,6 +170,7 @@ class Tests(RoomTests):
                 expect(room.ask(b"GET VAR su700 ups.id\n"), b'VAR su700 ups.id "new"\n', "a value before its success is told")
                 expect(client.ask(b"INSTCMD su700 load.off now\n"), b"OK TRACKING 2\n", "INSTCMD with a parameter")
                 room.until(b"GET TRACKING 2\n", b"TRACKING 2 SUCCESS\n")
+                expect(room.ask(STATUS), b'VAR su700 ups.status "OFF"\n', "what the command did, before its success is told")
                 with stopped(driver):
                     expect(client.ask(b"INSTCMD su700 load.on\n"), b"OK TRACKING 3\n", "a driver that is stopped")
                     expect(client.ask(b"GET TRACKING 3\n"), b"TRACKING 3 PENDING\n", "a driver that is stopped")
@@ -243,16 +210,6 @@ class Tests(RoomTests):
                     driver.sendall(b"TRACKING %d %s\n" % (number, status))
                     room.until(b"GET TRACKING %d\n" % number, b"TRACKING %d %s\n" % (number, word))
 
-    def test_driver_that_is_killed(self):
-        with self.room() as room:
-            driver, _ = room.online()
-            driver.kill()
-            driver.wait()
-            room.until(STATUS, NOT_CONNECTED)
-            # the file of its socket is left behind, and doesn't matter
-            room.dummy()
-            room.until(STATUS, ONLINE)
-
     def test_driver_that_never_reads(self):
         # the driver says nothing more, and its data must not become stale meanwhile
         with self.room(conf=NO_PINGS) as room, room.driver() as listener:
@@ -285,19 +242,6 @@ class Tests(RoomTests):
                 room.dummy(b"ups.id: %d\nups.status: OL\n" % i, ups=f"u{i}")
             for i in range(32):
                 room.until(b"GET VAR u%d ups.id\n" % i, b'VAR u%d ups.id "%d"\n' % (i, i))
-
-    def test_file_in_the_way_of_a_socket(self):
-        with self.room() as room:
-            path = room.path("dummy-ups-su700")
-            room.write("dummy-ups-su700", b"not a socket")
-            room.upsd()
-            expect(room.ask(STATUS), NOT_CONNECTED, "a file in place of a socket")
-            driver = room.dummy()
-            there = cannot_listen("dummy-ups", path, NOT_A_SOCKET)
-            expect((driver.wait(SOON), driver.stderr.read().decode()), (1, there), "a driver where a file is")
-            os.truncate(path, 0)
-            room.dummy()
-            room.until(STATUS, ONLINE)
 
     def test_dummy_removes_nothing_of_value(self):
         """A plain file with a byte, a directory, a link and a pipe stay, whatever has the name of the socket."""
@@ -374,10 +318,7 @@ class Tests(RoomTests):
         self.each_in_use("localhost", list(dict.fromkeys(found)))
 
     def test_name_of_two_addresses_in_use(self):
-        hosts = os.path.join(self.folder, "hosts")
-        with open(hosts, "w") as file:
-            file.write("127.0.0.2 twofold\n127.0.0.3 twofold\n")
-        words = with_hosts(hosts)
+        words = with_hosts(self.folder, b"127.0.0.2 twofold\n127.0.0.3 twofold\n")
         _, found, _ = ended([*words, "getent", "ahostsv4", "twofold"])
         addresses = list(dict.fromkeys(line.split()[0] for line in found.decode().splitlines()))
         expect(sorted(addresses), ["127.0.0.2", "127.0.0.3"], "the addresses of the name")
@@ -408,9 +349,9 @@ class Tests(RoomTests):
 
     def test_name_that_comes_late(self):
         """Nobody knows a host's name at the start. That is told once, clients are served meanwhile, and there once it is known."""
-        words = with_hosts_alone(self.folder)
         unknown = "failed to lookup address information: Name or service not known"
         with self.room() as room:
+            words = with_hosts(room.folder)
             upsd = [*words, *room.command("-q")]
             put_listeners(room, "late.example", "192.0.2.1")
             expect(ended(upsd), without_listener("late.example", room.port, unknown), "no address at all")
@@ -423,8 +364,7 @@ class Tests(RoomTests):
                 # it is looked up several times
                 time.sleep(3)
                 expect(client.ask(b"VER\n"), VERSION, "a client that was there before")
-                with open(os.path.join(self.folder, "hosts"), "w") as file:
-                    file.write("127.0.0.2 late.example\n")
+                room.write("hosts", b"127.0.0.2 late.example\n")
                 expect_served(("127.0.0.2", room.port))
                 expect(client.ask(b"VER\n"), VERSION, "the client that was there before")
             expect(lines.count("upsd: cannot listen"), 1, "how often it is told")
@@ -493,21 +433,15 @@ class Tests(RoomTests):
             until(room.serves, "the first connection has gone")
             # no client that is logged in makes way for another
             with room.logged_in() as first:
-                expect(first.ask(b"VER\n"), VERSION, "the first")
-                with room.logged_in() as second:
-                    expect(second.ask(b"VER\n"), VERSION, "the second")
-                    for _ in range(5):
-                        with room.client() as third:
-                            expect(third.is_closed(), True, "the third is closed")
-                until(room.serves, "a place that was left is taken again")
-                expect(first.ask(b"VER\n"), VERSION, "the first again")
-                # what is told is told at most once a second
-                time.sleep(1.5)
-                with room.logged_in() as second:
-                    expect(second.ask(b"VER\n"), VERSION, "the second again")
-                    for _ in range(5):
-                        with room.client() as third:
-                            expect(third.is_closed(), True, "the third is closed again")
+                for turn in range(2):
+                    with room.logged_in() as second:
+                        expect([it.ask(b"VER\n") for it in (first, second)], [VERSION] * 2, f"those who are there, turn {turn}")
+                        for _ in range(5):
+                            with room.client() as third:
+                                ensure(third.is_closed(), f"the third is closed, turn {turn}")
+                    until(room.serves, "a place that was left is taken again")
+                    # what is told is told at most once a second
+                    time.sleep(1.5)
             told = ["upsd: client refused: MAXCONN 2 is reached, and all clients are logged in"]
             expect(said(upsd), told * 2, "it is told once until a client was let in again")
 
@@ -541,12 +475,6 @@ class Tests(RoomTests):
             told = said(upsd)
             wanted = f"upsd: cannot accept a client: {why(errno.EMFILE)}"
             expect((len(told) in (1, 2), set(told)), (True, {wanted}), f"what is told: {told}")
-
-    def test_clients_that_come_and_go(self):
-        with self.room() as room:
-            room.upsd()
-            for _ in range(2000):
-                expect(room.ask(b"VER\n"), VERSION, "one after the other")
 
     def test_idle_server_sleeps(self):
         with self.room() as room:
@@ -706,7 +634,8 @@ class Tests(RoomTests):
             said = f"{name}: {way}\n" if way else ""
             expect((status, out), (2, b""), f"{name} {words}")
             ensure(err.startswith(b"error: ") and b"tip: to pass" not in err, f"what clap says of {name} {words}: {err}")
-            ensure(err.decode().endswith(f"\n\nFor more information, try '--help'.\n{said}{NUTS_OPTIONS.format(name)}"), f"{name} {words}: {err}")
+            below = f"\n\nFor more information, try '--help'.\n{said}{NUTS_OPTIONS.format(name)}"
+            ensure(err.decode().endswith(below), f"{name} {words}: {err}")
 
     def test_descriptions(self):
         status, off = b"GET DESC su700 ups.status\n", b"GET CMDDESC su700 load.off\n"
@@ -771,21 +700,16 @@ class Tests(RoomTests):
             path = room.path("dummy-ups-su700")
             with Client(path) as first, Client(path) as second:
                 expect(first.ask(b"DUMPALL\n"), b'SETINFO ups.status "OL"\n', "the first server")
-                while first.line() != b"DUMPDONE\n":
-                    pass
+                first.read_to(b"DUMPDONE\n")
                 expect(first.ask(b"PING\n"), b"PONG\n", "a PING")
                 expect(first.ask(b"INSTCMD load.off\n"), b'SETINFO ups.status "OFF"\n', "a command")
                 # a second server waits until the first has left
                 second.send(b"DUMPALL\n")
-                second.socket.settimeout(1.5)
-                try:
-                    raise Failed(f"a second server got {second.socket.recv(100)!r}")
-                except TimeoutError:
-                    second.socket.settimeout(SOON)
+                ready, _, _ = select.select([second.socket], [], [], 1.5)
+                expect(ready, [], "a second server that gets something")
                 first.close()
                 expect(second.line(), b'SETINFO ups.status "OFF"\n', "the second server")
-                while second.line() != b"DUMPDONE\n":
-                    pass
+                second.read_to(b"DUMPDONE\n")
                 expect_rest(driver, 1.5, 0.1, "by an idle driver")
 
     def test_dummy_and_a_server_that_passes_descriptors(self):
@@ -806,9 +730,7 @@ class Tests(RoomTests):
             with Client(path) as server:
                 server.flood(b"DUMPALL\n" * 50)
                 expect_rest(driver, 1.5, 0.1, "by a driver whose server doesn't read")
-                dumps = 0
-                while dumps < 100:
-                    dumps += server.line() == b"DUMPDONE\n"
+                server.read_to(b"DUMPDONE\n", times=100)
             with Client(path) as server:
                 expect(server.ask(b"PING\n"), b"PONG\n", "the next server")
 
@@ -882,7 +804,7 @@ def main():
     # 256 clients, and what else is open
     resource.setrlimit(resource.RLIMIT_NOFILE, (1024, resource.getrlimit(resource.RLIMIT_NOFILE)[1]))
     signal.signal(signal.SIGPIPE, signal.SIG_IGN)
-    return play(Tests, 4, "a machine with IPv6 runs them")
+    return play(Tests, 4, "a machine with IPv6 runs them", at_once=4)
 
 
 if __name__ == "__main__":

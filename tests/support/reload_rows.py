@@ -116,8 +116,7 @@ RELOADS = [
         OPEN, live(u=2),
         reload(conf(C, A, B), down(b"a"), down(b"b"), up(b"c")),
         ask(1, b"LIST UPS", listed(b"UPS", b'UPS c ""', b'UPS a ""', b'UPS b ""')), status_of(1, b"c"),
-        told(b"SETINFO ups.status OB", u=2), status_of(1, b"c", b"OB"),
-        (("driver", 0, b"PONG\n"), NOT_CONNECTED),
+        told(b"SETINFO ups.status OB", u=2), status_of(1, b"c", b"OB"), (("driver", 0, b"PONG\n"), NOT_CONNECTED),
     ], config=conf(A, B, C)),
     Row("another driver", [
         live(), OPEN, LOGIN,
@@ -150,11 +149,9 @@ RELOADS = [
         (("driver-took", 0, 0), NOT_CONNECTED), ("up", 0), (("driver-take", 0), b"DUMPALL\n"),
     ]),
     Row("another driver while requests are tracked", [
-        live(*ID), OPEN, ADMIN, TRACK, ask(1, SET_ID, b"OK TRACKING 1"), told(b"TRACKING 1 0"),
-        ask(1, SET_ID, b"OK TRACKING 2"),
+        live(*ID), OPEN, ADMIN, TRACK, ask(1, SET_ID, b"OK TRACKING 1"), told(b"TRACKING 1 0"), ask(1, SET_ID, b"OK TRACKING 2"),
         reload(REDRIVEN, down(b"su700"), drivers=[0]),
-        ask(1, b"GET TRACKING 1", b"TRACKING 1 SUCCESS", b"GET TRACKING 2", b"TRACKING 2 FAILED"), live(*ID),
-        told(b"TRACKING 2 0"),
+        ask(1, b"GET TRACKING 1", b"TRACKING 1 SUCCESS", b"GET TRACKING 2", b"TRACKING 2 FAILED"), live(*ID), told(b"TRACKING 2 0"),
         ask(1, b"GET TRACKING 2", b"TRACKING 2 FAILED", b"GET TRACKING", b"TRACKING ON", SET_ID, b"OK TRACKING 3"),
     ]),
     Row("another driver of a UPS whose shutdown is forced", [
@@ -198,9 +195,8 @@ RELOADS = [
     Row("new UPSes take the least free numbers in the order of the file", [
         live(u=1), live(u=3), OPEN,
         reload(conf(X, D, Y, B, Z), down(b"x"), up(b"b"), down(b"y"), up(b"d"), down(b"z")),
-        ask(1, b"LIST UPS", listed(b"UPS", *(b'UPS %s ""' % name for name, _ in (X, D, Y, B, Z)))), live(u=4),
-        status_of(1, b"z"), refused(1, "DRIVER-NOT-CONNECTED", b"GET VAR x ups.status", b"GET VAR y ups.status"),
-        (("up", 5), NOT_CONNECTED),
+        ask(1, b"LIST UPS", listed(b"UPS", *(b'UPS %s ""' % name for name, _ in (X, D, Y, B, Z)))), live(u=4), status_of(1, b"z"),
+        refused(1, "DRIVER-NOT-CONNECTED", b"GET VAR x ups.status", b"GET VAR y ups.status"), (("up", 5), NOT_CONNECTED),
     ], wanted=[b"Memory(NewUpses)"], config=conf(A, B, C, D)),
     Row("a number that is free, and is taken again", [
         live(), live(u=2), OPEN,
@@ -218,12 +214,11 @@ RELOADS = [
         refused(1, "VAR-NOT-SUPPORTED", b"GET VAR x ups.id"), told(*ID), ask(1, b"GET VAR x ups.id", b'VAR x ups.id "x"'),
     ]),
     Row("a client of a UPS that stays, while another goes", [
-        BOTH_LIVE, ("open", b"a"), ("open", b"b"), ("open", b"c"), monitor(1, b"su700"), monitor(2, b"old"),
-        monitor(3, b"su700"), ask(1, CLIENTS, listed(b"CLIENT su700", b"CLIENT su700 a", b"CLIENT su700 c")),
+        BOTH_LIVE, ("open", b"a"), ("open", b"b"), ("open", b"c"), monitor(1, b"su700"), monitor(2, b"old"), monitor(3, b"su700"),
+        ask(1, CLIENTS, listed(b"CLIENT su700", b"CLIENT su700 a", b"CLIENT su700 c")),
         reload(ROOM, up(b"su700"), down(), drivers=[1], connections=[2]),
-        gone(2), ask(1, CLIENTS, listed(b"CLIENT su700", b"CLIENT su700 a", b"CLIENT su700 c")),
-        ask(3, NUMLOGINS, b"NUMLOGINS su700 2"), refused(3, "ALREADY-LOGGED-IN", b"LOGIN su700"),
-        refused(3, "UNKNOWN-UPS", b"LOGIN old", b"LIST CLIENT old"),
+        gone(2), ask(1, CLIENTS, listed(b"CLIENT su700", b"CLIENT su700 a", b"CLIENT su700 c")), ask(3, NUMLOGINS, b"NUMLOGINS su700 2"),
+        refused(3, "ALREADY-LOGGED-IN", b"LOGIN su700"), refused(3, "UNKNOWN-UPS", b"LOGIN old", b"LIST CLIENT old"),
     ], config=PAIR),
     Row("a client that isn't logged in logs in to a new UPS", [
         OPEN, MONITOR,
@@ -245,8 +240,7 @@ RELOADS = [
         ask(1, b"LOGIN su700", b"OK"), refused(1, "ACCESS-DENIED", b"PRIMARY su700"),
     ]),
     Row("another password, and the one before", [
-        live(*ID), OPEN, ADMIN, GUEST, ask(2, b"USERNAME admin", b"OK", b"PASSWORD new", b"OK"),
-        refused(2, "ACCESS-DENIED", SET_ID),
+        live(*ID), OPEN, ADMIN, GUEST, ask(2, b"USERNAME admin", b"OK", b"PASSWORD new", b"OK"), refused(2, "ACCESS-DENIED", SET_ID),
         reload(conf(SU700, users={b"admin": User(b"new", ("SET",))}), up(b"su700")),
         refused(1, "ACCESS-DENIED", SET_ID), ask(2, SET_ID, b"OK"),
         reload(ROOM, up(b"su700", 25)),

@@ -33,6 +33,7 @@ VALUES = [b"OL", b"OB LB", b"", b"x", b"low", b"medium", b"high", b"50", b"-0", 
 VALUES += [b'a "b" \\c # d = e', b"y" * 512, b"y" * 513, b"\t"]
 NUMBERS = [b"0", b"-0", b"1", b"-1", b"5", b"10", b"100", b"-999999999", b"999999999", b"1000000000", b"x", b""]
 NUMBERS += [b"1.5", b"+1", b"00016", b"512", b"513"]
+NO_COMMANDS = [b"FOO", b"GET", b"LIST", b"SET", b"=", b"", b"MASTER", b"VERS", b"GE"]
 FLAGS = [b"RW", b"rw", b"STRING", b"String", b"NUMBER", b"OTHER", b""]
 UPSES_MAX = 32
 # how often the maker chooses a reload; its other choices may give more than one arrival
@@ -56,8 +57,8 @@ class Reconfigured:
         return Config(self.upses, self.users, self.max_age, self.max_conn, drivers)
 
     def change(self):
-        changes = [self.add, self.remove, self.rename, self.reorder, self.describe, self.change_driver, self.change_user, self.change_numbers]
-        self.random.choice(changes)()
+        changes_of_upses = [self.add, self.remove, self.rename, self.reorder, self.describe, self.change_driver]
+        self.random.choice([*changes_of_upses, self.change_user, self.change_numbers])()
 
     def place(self):
         return self.random.randrange(len(self.upses) or 1)
@@ -204,7 +205,7 @@ class ScheduleMaker:
             lambda: (b"PRIMARY", self.ups()),
             lambda: self.who(),
             lambda: (self.pick([b"VER", b"NETVER", b"HELP", b"STARTTLS"]),),
-            lambda: (self.pick([b"FOO", b"GET", b"LIST", b"SET", b"=", b"", b"MASTER", b"VERS", b"GE"]), *[b"VAR"] * self.random.randrange(2)),
+            lambda: (self.pick(NO_COMMANDS), *[b"VAR"] * self.random.randrange(2)),
         ]
         if self.chance(self.forced):
             words = (b"FSD", self.ups())

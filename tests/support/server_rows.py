@@ -81,12 +81,10 @@ FULL_QUEUE = live(*ID) + OPEN + ADMIN + ask(1, SET_ID, b"OK") * 240
 
 ROWS = [
     Row("a quoted value", [
-        live(b'SETINFO ups.mfr "a \\"b\\" \\\\c"'), OPEN,
-        ask(1, b"GET VAR su700 ups.mfr", b'VAR su700 ups.mfr "a \\"b\\" \\\\c"'),
+        live(b'SETINFO ups.mfr "a \\"b\\" \\\\c"'), OPEN, ask(1, b"GET VAR su700 ups.mfr", b'VAR su700 ups.mfr "a \\"b\\" \\\\c"'),
     ], wanted=[b"Memory(Report(0, 0))", b"Memory(Line(1, 0))"]),
     Row("who one is", [
-        OPEN * 3, ask(1, SET_CHARGE, err("USERNAME-REQUIRED")),
-        ask(2, b"USERNAME admin", b"OK", SET_CHARGE, err("PASSWORD-REQUIRED")),
+        OPEN * 3, ask(1, SET_CHARGE, err("USERNAME-REQUIRED")), ask(2, b"USERNAME admin", b"OK", SET_CHARGE, err("PASSWORD-REQUIRED")),
         ask(3, b"USERNAME admin", b"OK", b"PASSWORD x", b"OK", SET_CHARGE, err("ACCESS-DENIED")),
     ], wanted=[b"Memory(Line(1, 0))", b"Memory(Line(2, 0))", b"Memory(Line(3, 0))"]),
     Row("logins are counted", [
@@ -94,10 +92,9 @@ ROWS = [
         ("close", 1), ask(2, NUMLOGINS, b"NUMLOGINS su700 0"),
     ], wanted=[b"Memory(Line(1, 0))", b"Memory(Line(2, 0))"]),
     Row("logins of two, and no more", [
-        live(), ("open", b"a"), ("open", b"b"), ("open", b"c"), LOGIN,
-        ("bytes", 2, b"USERNAME mon\nPASSWORD m1\nLOGIN su700\n"), (("take", 2), b"OK\nOK\nOK\n"),
-        ask(2, CLIENTS, listed(b"CLIENT su700", b"CLIENT su700 a", b"CLIENT su700 b")), ("close", 1), ("open", b"c"),
-        ("bytes", 1, b"VER\n"), ask(3, CLIENTS, listed(b"CLIENT su700", b"CLIENT su700 b")),
+        live(), ("open", b"a"), ("open", b"b"), ("open", b"c"), LOGIN, ("bytes", 2, b"USERNAME mon\nPASSWORD m1\nLOGIN su700\n"),
+        (("take", 2), b"OK\nOK\nOK\n"), ask(2, CLIENTS, listed(b"CLIENT su700", b"CLIENT su700 a", b"CLIENT su700 b")), ("close", 1),
+        ("open", b"c"), ("bytes", 1, b"VER\n"), ask(3, CLIENTS, listed(b"CLIENT su700", b"CLIENT su700 b")),
     ], config=Config(UPS, USERS, max_conn=2)),
     Row("settings", [
         live(*ID, *SENSITIVITY, b'SETINFO ups.mfr "m"'), OPEN, ADMIN, (("driver-take", 0), b"DUMPALL\n"),
@@ -126,9 +123,8 @@ ROWS = [
         ask(1, b"LIST ENUM su700 input.sensitivity", listed(b"ENUM su700 input.sensitivity")),
     ], wanted=[b"Memory(Report(0, 0))"]),
     Row("a silent driver", [
-        live(), OPEN, (("driver-take", 0), b"DUMPALL\n"), ("moment", 5), (("driver-take", 0), b""),
-        ("moment", 6), (("driver-take", 0), b"PING\n"), ("moment", 7), (("driver-take", 0), b""),
-        ("moment", 12), (("driver-take", 0), b"PING\n"),
+        live(), OPEN, (("driver-take", 0), b"DUMPALL\n"), ("moment", 5), (("driver-take", 0), b""), ("moment", 6),
+        (("driver-take", 0), b"PING\n"), ("moment", 7), (("driver-take", 0), b""), ("moment", 12), (("driver-take", 0), b"PING\n"),
         ("moment", 15), ask(1, STATUS, ONLINE), ("moment", 16), ask(1, STATUS, err("DATA-STALE")),
     ]),
     Row("a full queue", [
@@ -247,18 +243,16 @@ ROWS = [
         ask(1, b"GET TRACKING 2", b"TRACKING 2 PENDING"),
     ]),
     Row("the numbers of two UPSes", [
-        live(*ID), live(*ID, u=1), OPEN, ADMIN, TRACK,
-        ask(1, SET_ID, b"OK TRACKING 1", b'SET VAR b ups.id "abc"', b"OK TRACKING 2"), told(b"TRACKING 1 0", u=1),
-        told(b"TRACKING 2 1"), ask(1, b"GET TRACKING 1", b"TRACKING 1 PENDING", b"GET TRACKING 2", b"TRACKING 2 PENDING"),
-        told(b"TRACKING 2 0", u=1), ("up", 0),
+        live(*ID), live(*ID, u=1), OPEN, ADMIN, TRACK, ask(1, SET_ID, b"OK TRACKING 1", b'SET VAR b ups.id "abc"', b"OK TRACKING 2"),
+        told(b"TRACKING 1 0", u=1), told(b"TRACKING 2 1"),
+        ask(1, b"GET TRACKING 1", b"TRACKING 1 PENDING", b"GET TRACKING 2", b"TRACKING 2 PENDING"), told(b"TRACKING 2 0", u=1), ("up", 0),
         ask(1, b"GET TRACKING 1", b"TRACKING 1 FAILED", b"GET TRACKING 2", b"TRACKING 2 SUCCESS"),
     ], config=Config([*UPS, (b"b", b"")], USERS)),
     Row("lines of a driver that tell of no request", [
         live(*ID), OPEN, ADMIN, TRACK, ask(1, SET_ID, b"OK TRACKING 1"),
         told(b"TRACKING", b"TRACKING 1", b"TRACKING 1 0 0", b"TRACKING x 0", b"TRACKING 1 x", b"TRACKING 1 -1", b'TRACKING 1 ""'),
-        told(b"TRACKING 1000000001 0", b"TRACKING 2 0", b"TRACKING 1 1234567890"),
-        ask(1, b"GET TRACKING 1", b"TRACKING 1 PENDING"), told(b"tracking 0000001 000"),
-        ask(1, b"GET TRACKING 1", b"TRACKING 1 SUCCESS"),
+        told(b"TRACKING 1000000001 0", b"TRACKING 2 0", b"TRACKING 1 1234567890"), ask(1, b"GET TRACKING 1", b"TRACKING 1 PENDING"),
+        told(b"tracking 0000001 000"), ask(1, b"GET TRACKING 1", b"TRACKING 1 SUCCESS"),
     ]),
     # a line of three words is heard, whatever its numbers
     Row("TRACKING shows that a driver is alive", [
@@ -267,9 +261,8 @@ ROWS = [
     ]),
     Row("a driver that answers a PING, and one whose data is stale", [
         live(), OPEN, ("moment", 15), told(b"PONG"), ("moment", 30), ask(1, STATUS, ONLINE), ("moment", 31), ("moment", 0),
-        ask(1, STATUS, err("DATA-STALE")), told(b"DATAOK"), ask(1, STATUS, ONLINE), told(b"DATASTALE"),
-        ask(1, STATUS, err("DATA-STALE")), ("down", 0), (("driver", 0, b"DATAOK\n"), NOT_CONNECTED),
-        ask(1, STATUS, err("DRIVER-NOT-CONNECTED")),
+        ask(1, STATUS, err("DATA-STALE")), told(b"DATAOK"), ask(1, STATUS, ONLINE), told(b"DATASTALE"), ask(1, STATUS, err("DATA-STALE")),
+        ("down", 0), (("driver", 0, b"DATAOK\n"), NOT_CONNECTED), ask(1, STATUS, err("DRIVER-NOT-CONNECTED")),
     ]),
     Row("addresses, and numbers that nobody has", [
         (("open", b"a b"), b"BadAddress opened=0"), (("open", b""), b"BadAddress opened=0"), (("open", b"a"), b"ok opened=1"),
@@ -282,8 +275,7 @@ ROWS = [
         live(*ID, b"ADDCMD k"), OPEN, ADMIN, ask(1, SET_ID, b"OK") * 239, ask(1, b"INSTCMD su700 k", b"OK"),
         ask(1, b'SET VAR su700 ups.id "ab"', err("SET-FAILED"), b'SET VAR su700 ups.id "a"', b"OK"),
         ask(1, b'SET VAR su700 ups.id "a"', err("SET-FAILED"), b"INSTCMD su700 k", err("INSTCMD-FAILED")),
-        (("driver-took", 0, 4097), b"TooMuchTaken waits=4096 connected=true"),
-        (("driver-took", 0, 4096), b"ok waits=0 connected=true"),
+        (("driver-took", 0, 4097), b"TooMuchTaken waits=4096 connected=true"), (("driver-took", 0, 4096), b"ok waits=0 connected=true"),
     ]),
     Row("lengths of user names and passwords", [
         OPEN,

@@ -15,7 +15,8 @@ def run_on_terminal(words, is_for_both=False, env=None):
     with open(main, "rb", 0) as terminal:
         try:
             out = other if is_for_both else subprocess.PIPE
-            done = subprocess.run(words, stdin=subprocess.DEVNULL, stdout=out, stderr=other, env={**os.environ, **(env or {})}, timeout=patience(60))
+            streams = {"stdin": subprocess.DEVNULL, "stdout": out, "stderr": other}
+            done = subprocess.run(words, **streams, env={**os.environ, **(env or {})}, timeout=patience(60))
         finally:
             os.close(other)
         told = b""
