@@ -119,7 +119,7 @@ class Tests:
         expect(self.play([], [("upsd", b"LISTEN ::1 5\nLISTEN a\n"), ("listen",)]), [b"ok", others], "other addresses")
 
     def play_run(self, name, file, *steps):
-        run = Run(name, file, steps)
+        run = Run(name, file, *steps)
         check_run(run, self.stage.play(steps_of(run)))
 
     def test_upsmon_conf(self):
@@ -154,7 +154,7 @@ class Tests:
         lines = b"".join(b'NOTIFYMSG %b "%b"\n' % it for it in texts.items())
         told = set()
         for run in RUNS:
-            other = Run(run.name, run.file + lines, ())
+            other = Run(run.name, run.file + lines)
             for check in run.checks[2:]:
                 if check.step == ("monitor notice",) and check.line != b"none":
                     kind, line, _ = check.line.split(b" ", 2)
