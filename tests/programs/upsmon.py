@@ -18,31 +18,15 @@ import time
 import unittest.mock
 
 from tests.support import manual, room_model
-from tests.support.harness import NUTS_OPTIONS, ROOT, VERSION_SHOWN, Failed, Shimmed, build_library, cannot_read, ensure, expect, refusals
-from tests.support.monitored import (
-    BATTERY_LOW,
-    ESTABLISHED,
-    FLAG,
-    FORCED,
-    LOST,
-    OF_SHUTDOWN,
-    ON_BATTERY,
-    QUICK,
-    SHUTDOWN,
-    UNAVAILABLE,
-    USERS,
-    ByteByByte,
-    Closing,
-    Endless,
-    Rubbish,
-    Silent,
-    Upstream,
-    Watch,
-    children_of,
-    play,
-    put_program,
+from tests.support.harness import (
+    NUTS_OPTIONS, ROOT, VERSION_SHOWN, build_library, cannot_read, ended, ensure, expect, named_error, read, refusals,
+    streams_without_readers, write,
 )
-from tests.support.room import SOON, STATUS, Room, accepted, free_port, until
+from tests.support.monitored import (
+    BATTERY_LOW, ESTABLISHED, FLAG, FORCED, LOST, OF_SHUTDOWN, ON_BATTERY, QUICK, SHUTDOWN, UNAVAILABLE, ByteByByte, Closing, Endless,
+    MonitorTests, Rubbish, Silent, Upstream, children_of, play, put_program,
+)
+from tests.support.room import SOON, STATUS, accepted, free_port, until
 from tests.support.room_model import Watched
 
 sys.path.append(os.path.join(ROOT, "tools"))
@@ -91,6 +75,7 @@ class Driver:
         self.end.sendall(b'SETINFO ups.status "%s"\n' % status)
 
 
+FLAGGED = 'POWERDOWNFLAG FOLDER/flag\nSHUTDOWNCMD "touch FOLDER/halted"\n'
 # an upsc whose every battery lasts longer than any machine needs
 LASTS_LONG = "echo 9999999"
 
@@ -105,31 +90,17 @@ def put_upsc(folder, script):
     return f"{path}:/usr/bin:/bin"
 
 
-def times_asked(path):
-    """Returns how often such an upsc was called, which adds a line to a file each time."""
-    with open(path) as file:
-        return len(file.readlines())
-
-
 def squeezed(lines):
     """Returns the lines, with repeated ones only once."""
     return [line for line, _ in itertools.groupby(lines)]
 
 
-class Tests(Shimmed):
-    def __init__(self, programs, folder):
-        self.upsd, self.dummy, self.upsc, self.upsmon = programs
-        self.folder = folder
+def fails(target):
+    """Returns what is printed where a UPS fails."""
+    return [ON_BATTERY % target, BATTERY_LOW % target, SHUTDOWN]
 
-    def room(self):
-        room = Room((self.upsd, self.dummy), self.folder)
-        with open(room.path("upsd.users"), "wb") as file:
-            file.write(USERS)
-        return room
 
-    def watch(self, conf, *words, **options):
-        return Watch(self.upsmon, self.folder, conf, *words, **options)
-
+class Tests(MonitorTests):
     def expect_halt(self, watch, lines, status=0, within=SOON):
         expect(watch.status(within), status, "status")
         expect(watch.lines(), lines, "what upsmon prints")
@@ -138,45 +109,36 @@ class Tests(Shimmed):
 
     def test_power_fails(self):
         with self.room() as room:
-            target = f"su700@127.0.0.1:{room.port}"
             room.dummy(b"ups.status: OB LB\nTIMER 60\n", "seq")
             room.upsd()
-            asks = [self.upsc, target, "ups.status"]
-            until(lambda: subprocess.run(asks, capture_output=True).stdout == b"OB LB\n", "upsc prints the status")
-            halts = "POWERDOWNFLAG FOLDER/flag\nSHUTDOWNCMD 'touch FOLDER/halted'\n".replace("'", '"')
-            conf = f"MONITOR {target} 1 mon m1 primary\n{QUICK}{halts}"
-            with self.watch(conf) as watch:
-                self.expect_halt(watch, [ON_BATTERY % target, BATTERY_LOW % target, SHUTDOWN])
-                expect(watch.read("flag"), FLAG, "POWERDOWNFLAG")
-                expect(watch.read("halted"), b"", "what SHUTDOWNCMD makes")
-                told = watch.lines("err")
-                expect(told[0], f"upsmon: UPS {target}: watched as primary, power value 1", "what is watched")
+            until(lambda: ended([self.upsc, room.target, "ups.status"])[1] == "OB LB\n", "upsc prints the status")
+            with self.watch(f"MONITOR {room.target} 1 mon m1 primary\n{QUICK}{FLAGGED}") as watch:
+                self.expect_halt(watch, fails(room.target))
+                expect((watch.read("flag"), watch.read("halted")), (FLAG, b""), "what the halt makes")
+                expect(watch.lines("err")[0], f"upsmon: UPS {room.target}: watched as primary, power value 1", "what is watched")
 
     def test_two_machines(self):
         with self.room() as room, Driver(room) as driver:
             room.upsd()
             driver.connect()
-            target = f"su700@127.0.0.1:{room.port}"
-            halts = 'POWERDOWNFLAG FOLDER/flag\nSHUTDOWNCMD "touch FOLDER/halted"\nPOLLFREQ 1\nHOSTSYNC 60\n'
+            target = room.target
+            halts = FLAGGED + "POLLFREQ 1\nHOSTSYNC 60\n"
             # the delay leaves the secondary time to run its command, after its logout
             with self.watch(f"MONITOR {target} 1 guest g1 secondary\nFINALDELAY 0\n" + halts) as guest, self.watch(
                 f"MONITOR {target} 1 mon m1 primary\nFINALDELAY 2\n" + halts
             ) as primary:
                 room.until(b"GET NUMLOGINS su700\n", b"NUMLOGINS su700 2\n")
                 driver.tell(b"OB LB")
-                self.expect_told_before_shutdown(guest, {ON_BATTERY % target, BATTERY_LOW % target, FORCED % target})
+                # the order of its notices depends on when it asked
+                expect(guest.status(), 0, "status")
+                told = {ON_BATTERY % target, BATTERY_LOW % target, FORCED % target}
+                expect((set(guest.lines()[:-1]), len(guest.lines()), guest.lines()[-1]), (told, 4, SHUTDOWN), "what the guest prints")
                 expect((guest.read("flag"), guest.read("halted")), (None, b""), "a secondary writes no POWERDOWNFLAG")
                 # the primary waits for the secondary, and no longer than it has to
-                self.expect_halt(primary, [ON_BATTERY % target, BATTERY_LOW % target, SHUTDOWN])
+                self.expect_halt(primary, fails(target))
                 expect((primary.read("flag"), primary.read("halted")), (FLAG, b""), "the primary writes it")
                 halted = [os.stat(it.path("halted")).st_mtime_ns for it in (guest, primary)]
                 expect(halted == sorted(halted), True, "the secondary halts first")
-
-    def expect_told_before_shutdown(self, watch, wanted):
-        """Expects it to halt after these notices. Their order depends on when it asked."""
-        expect(watch.status(), 0, "status")
-        lines = watch.lines()
-        expect((set(lines[:-1]), len(lines), lines[-1]), (wanted, len(wanted) + 1, SHUTDOWN), "what upsmon prints")
 
     def test_halting_machine_is_logged_out(self):
         """The server doesn't count a machine whose SHUTDOWNCMD runs, so that no primary waits for it."""
@@ -185,8 +147,7 @@ class Tests(Shimmed):
             driver.connect()
             asks, counts = b"GET NUMLOGINS su700\n", b"NUMLOGINS su700 %d\n"
             lasts = 'SHUTDOWNCMD "touch FOLDER/begun; sleep 5; touch FOLDER/ended"\n'
-            conf = f"MONITOR su700@127.0.0.1:{room.port} 1 guest g1 secondary\n{QUICK}{lasts}"
-            with self.watch(conf) as guest, room.client() as client:
+            with self.watch(f"MONITOR {room.target} 1 guest g1 secondary\n{QUICK}{lasts}") as guest, room.client() as client:
                 until(lambda: client.ask(asks) == counts % 1, "the machine is logged in")
                 driver.tell(b"OB LB")
                 until(lambda: guest.read("begun") is not None, "SHUTDOWNCMD is run")
@@ -195,46 +156,40 @@ class Tests(Shimmed):
                 expect(guest.status(), 0, "status")
 
     def test_primary_waits_for_hostsync(self):
-        with Upstream(status=b"OL") as server:
-            server.logins = 2
-            with self.watch(f"MONITOR {server.target} 1 mon m1 primary\n{QUICK}POWERDOWNFLAG FOLDER/flag\n") as watch:
-                until(lambda: STATUS in server.asked, "the status is asked for")
-                server.statuses[b"su700"] = b"OB LB"
-                self.expect_halt(watch, [ON_BATTERY % server.target, BATTERY_LOW % server.target, SHUTDOWN])
-                # more than HOSTSYNC, in whole seconds
-                expect(time.monotonic() - server.told[b"OB LB"] > 0.9, True, "HOSTSYNC passes")
-                expect(watch.read("flag"), FLAG, "POWERDOWNFLAG")
-                asked = b"".join(server.asked).splitlines()
-                first = [b"USERNAME mon", b"PASSWORD m1", b"LOGIN su700", b"PRIMARY su700", b"GET VAR su700 ups.status"]
-                expect(asked[:5], first, "what a link is asked first")
-                expect(asked[asked.index(b"FSD su700") + 1], b"GET NUMLOGINS su700", "what follows the FSD")
+        with self.watched(QUICK + FLAGGED, logins=2) as (server, watch):
+            server.until_asked()
+            server.statuses[b"su700"] = b"OB LB"
+            self.expect_halt(watch, fails(server.target))
+            # more than HOSTSYNC, in whole seconds
+            expect(time.monotonic() - server.told[b"OB LB"] > 0.9, True, "HOSTSYNC passes")
+            expect(watch.read("flag"), FLAG, "POWERDOWNFLAG")
+            first = [b"USERNAME mon", b"PASSWORD m1", b"LOGIN su700", b"PRIMARY su700", b"GET VAR su700 ups.status"]
+            asked = server.queries()
+            expect(asked[:5], first, "what a link is asked first")
+            expect(asked[asked.index(b"FSD su700") + 1], b"GET NUMLOGINS su700", "what follows the FSD")
 
     def test_secondary_alone(self):
-        with Upstream(status=b"OB LB") as server:
-            conf = f"MONITOR {server.target} 1 guest g1 secondary\n{QUICK}POWERDOWNFLAG FOLDER/flag\n"
-            with self.watch(conf) as watch:
-                self.expect_halt(watch, [ON_BATTERY % server.target, BATTERY_LOW % server.target, SHUTDOWN])
-                expect((watch.read("flag"), watch.read("flag.new")), (None, None), "a secondary writes no POWERDOWNFLAG")
+        with self.watched(QUICK + FLAGGED, role="secondary", status=b"OB LB") as (server, watch):
+            self.expect_halt(watch, fails(server.target))
+            expect((watch.read("flag"), watch.read("flag.new")), (None, None), "a secondary writes no POWERDOWNFLAG")
 
     def test_final_delay(self):
-        with Upstream(status=b"FSD OL") as server:
-            conf = f'MONITOR {server.target} 1 mon m1 primary\nFINALDELAY 2\nSHUTDOWNCMD "touch FOLDER/halted"\n'
-            with self.watch(conf) as watch:
-                self.expect_halt(watch, [FORCED % server.target, SHUTDOWN])
-                printed, halted = (os.stat(watch.path(name)).st_mtime for name in ("out", "halted"))
-                expect(halted - printed > 1, True, "FINALDELAY passes")
-                expect(watch.read("halted"), b"", "what SHUTDOWNCMD makes")
+        with self.watched('FINALDELAY 2\nSHUTDOWNCMD "touch FOLDER/halted"\n', status=b"FSD OL") as (server, watch):
+            self.expect_halt(watch, [FORCED % server.target, SHUTDOWN])
+            printed, halted = (os.stat(watch.path(name)).st_mtime for name in ("out", "halted"))
+            expect(halted - printed > 1, True, "FINALDELAY passes")
+            expect(watch.read("halted"), b"", "what SHUTDOWNCMD makes")
 
     def test_server_that_comes_and_goes(self):
         server = Upstream()
         port, target = server.port, server.target
         server.close()
-        with self.watch(f"MONITOR {target} 1 mon m1 secondary\nPOLLFREQ 1\nNOCOMMWARNTIME 4\n") as watch:
+        with self.watch(server.line("secondary") + "POLLFREQ 1\nNOCOMMWARNTIME 4\n") as watch:
             watch.until_printed(UNAVAILABLE % target)
             for round in (1, 2):
                 with Upstream(port) as server:
                     # the first time communication was never lost, so it isn't established again
-                    until(lambda: server.asked.count(STATUS) >= 2, "it is dialled and asked, and was heard")
+                    server.until_asked(2)
                     if round == 2:
                         watch.until_printed(ESTABLISHED % target)
                 until(lambda: watch.lines().count(LOST % target) == round, "the loss is told")
@@ -245,32 +200,25 @@ class Tests(Shimmed):
             expect(watch.process.poll(), None, "it goes on")
 
     def test_data_that_is_stale(self):
-        with Upstream() as server:
-            target = server.target
-            with self.watch(f"MONITOR {target} 1 mon m1 secondary\nPOLLFREQ 1\n") as watch:
-                for status, line in ((b"ERR DATA-STALE\n", LOST), (b"OL", ESTABLISHED), (b"ERR DATA-STALE\n", LOST)):
-                    until(lambda: STATUS in server.asked, "the status is asked for")
-                    server.asked.clear()
-                    until(lambda: STATUS in server.asked, "the status is asked for again")
-                    count = watch.lines().count(line % target)
-                    server.statuses[b"su700"] = status
-                    until(lambda: watch.lines().count(line % target) == count + 1, f"{line} is told")
-                expect(watch.lines(), [LOST % target, ESTABLISHED % target, LOST % target], "what is told")
+        with self.watched("POLLFREQ 1\n", role="secondary") as (server, watch):
+            for status, line in ((b"ERR DATA-STALE\n", LOST), (b"OL", ESTABLISHED), (b"ERR DATA-STALE\n", LOST)):
+                server.until_asked_again(2)
+                count = watch.lines().count(line % server.target)
+                server.statuses[b"su700"] = status
+                until(lambda: watch.lines().count(line % server.target) == count + 1, f"{line} is told")
+            expect(watch.lines(), [it % server.target for it in (LOST, ESTABLISHED, LOST)], "what is told")
 
     def test_dead_time(self):
-        with Upstream(status=b"OB") as server:
-            conf = f"MONITOR {server.target} 1 mon m1 secondary\n{QUICK}DEADTIME 2\n"
-            with self.watch(conf) as watch:
-                watch.until_printed(ON_BATTERY % server.target)
-                server.close()
-                self.expect_halt(watch, [ON_BATTERY % server.target, LOST % server.target, SHUTDOWN])
+        with self.watched(QUICK + "DEADTIME 2\n", role="secondary", status=b"OB") as (server, watch):
+            watch.until_printed(ON_BATTERY % server.target)
+            server.close()
+            self.expect_halt(watch, [ON_BATTERY % server.target, LOST % server.target, SHUTDOWN])
 
     def test_hostile_servers(self):
         for kind, lines in ((Closing, [LOST]), (Rubbish, [LOST]), (Endless, [LOST]), (Silent, [])):
             with kind() as hostile, Upstream() as server:
-                conf = f"MINSUPPLIES 1\nMONITOR {hostile.target} 0 mon m1 secondary\nMONITOR {server.target} 1 mon m1 secondary\n"
-                with self.watch(conf + QUICK) as watch:
-                    until(lambda: server.asked.count(STATUS) >= 3, f"{kind.__name__}: the other goes on")
+                with self.watch("MINSUPPLIES 1\n" + hostile.line("secondary", 0) + server.line("secondary") + QUICK) as watch:
+                    server.until_asked(3)
                     expect(watch.lines(), [], f"{kind.__name__}: what is told of a UPS without a status in the first seconds")
                     expect(watch.is_idle(), True, f"{kind.__name__}: processor time")
                     server.statuses[b"su700"] = b"OB LB"
@@ -279,16 +227,14 @@ class Tests(Shimmed):
                     expect(watch.lines(), told, f"{kind.__name__}: what is told")
 
     def test_server_byte_by_byte(self):
-        with ByteByByte(status=b"OB LB") as server:
-            with self.watch(f"MONITOR {server.target} 1 mon m1 primary\n{QUICK}") as watch:
-                self.expect_halt(watch, [ON_BATTERY % server.target, BATTERY_LOW % server.target, SHUTDOWN])
+        with self.watched(QUICK, status=b"OB LB", kind=ByteByByte) as (server, watch):
+            self.expect_halt(watch, fails(server.target))
 
     def test_silent_server_is_unavailable(self):
         """A silent server is unavailable before it is given up, which takes longer (tests/programs/upsmon_links.py)."""
-        with Silent() as server:
-            with self.watch(f"MONITOR {server.target} 1 mon m1 primary\nNOCOMMWARNTIME 1\n") as watch:
-                watch.until_printed(UNAVAILABLE % server.target)
-                expect(set(watch.lines()), {UNAVAILABLE % server.target}, "what is told")
+        with self.watched("NOCOMMWARNTIME 1\n", kind=Silent) as (server, watch):
+            watch.until_printed(UNAVAILABLE % server.target)
+            expect(set(watch.lines()), {UNAVAILABLE % server.target}, "what is told")
 
     def test_one_of_two_supplies(self):
         with Upstream() as server:
@@ -315,46 +261,39 @@ class Tests(Shimmed):
             ("IGNORE", False, False),
             ("IGNORE+SYSLOG+WALL+EXEC", False, False),
         ):
-            set_flags = f"NOTIFYFLAG SHUTDOWN {flags}\n" if flags else ""
-            with Upstream(status=b"FSD") as server:
-                conf = f"MONITOR {server.target} 1 mon m1 secondary\n{QUICK}{set_flags}NOTIFYFLAG FSD IGNORE\n"
-                with self.watch(conf + 'NOTIFYCMD "touch FOLDER/run #"\nSHUTDOWNCMD "sleep 0.5"\n') as watch:
-                    self.expect_halt(watch, [SHUTDOWN] if is_printed else [])
-                    if is_run:
-                        until(lambda: watch.read("run") is not None, f"NOTIFYCMD with {flags} is run")
-                    expect(watch.read("run"), b"" if is_run else None, f"NOTIFYCMD with {flags}")
+            conf = QUICK + (f"NOTIFYFLAG SHUTDOWN {flags}\n" if flags else "") + "NOTIFYFLAG FSD IGNORE\n"
+            conf += 'NOTIFYCMD "touch FOLDER/run #"\nSHUTDOWNCMD "sleep 0.5"\n'
+            with self.watched(conf, role="secondary", status=b"FSD") as (_, watch):
+                self.expect_halt(watch, [SHUTDOWN] if is_printed else [])
+                if is_run:
+                    until(lambda: watch.read("run") is not None, f"NOTIFYCMD with {flags} is run")
+                expect(watch.read("run"), b"" if is_run else None, f"NOTIFYCMD with {flags}")
 
     def test_notify_command(self):
         text = "%s `touch FOLDER/bad` $(touch FOLDER/bad) ; ' \\\" * \\\\ $HOME"
         command = "sh -c 'printf \\\"%s|%s|%s\\\\n\\\" \\\"$NOTIFYTYPE\\\" \\\"$UPSNAME\\\" \\\"$1\\\" >> FOLDER/run' a"
         conf = f'NOTIFYCMD "{command}"\nNOTIFYMSG ONBATT "{text}"\nNOTIFYMSG SHUTDOWN ""\n'
         conf += "".join(f"NOTIFYFLAG {it} EXEC\n" for it in ("ONBATT", "SHUTDOWN"))
-        with Upstream(status=b"OB") as server:
-            with self.watch(f"MONITOR {server.target} 1 mon m1 secondary\n{QUICK}{conf}") as watch:
-                until(lambda: watch.read("run"), "NOTIFYCMD is run")
-                server.statuses[b"su700"] = b"FSD OB"
-                self.expect_halt(watch, [FORCED % server.target])
-                until(lambda: len(watch.lines("run")) == 2, "NOTIFYCMD is run again")
-                said = text.replace("\\\"", '"').replace("\\\\", "\\").replace("FOLDER", watch.folder)
-                wanted = [f"ONBATT|{server.target}|{said.replace('%s', server.target)}", "SHUTDOWN||"]
-                expect(watch.lines("run"), wanted, "what NOTIFYCMD is told")
-                expect(watch.read("bad"), None, "no text is read as a command")
+        with self.watched(QUICK + conf, role="secondary", status=b"OB") as (server, watch):
+            until(lambda: watch.read("run"), "NOTIFYCMD is run")
+            server.statuses[b"su700"] = b"FSD OB"
+            self.expect_halt(watch, [FORCED % server.target])
+            until(lambda: len(watch.lines("run")) == 2, "NOTIFYCMD is run again")
+            said = text.replace("\\\"", '"').replace("\\\\", "\\").replace("FOLDER", watch.folder)
+            wanted = [f"ONBATT|{server.target}|{said.replace('%s', server.target)}", "SHUTDOWN||"]
+            expect(watch.lines("run"), wanted, "what NOTIFYCMD is told")
+            expect(watch.read("bad"), None, "no text is read as a command")
 
     def test_notify_command_that_lasts(self):
-        with Upstream(status=b"OB LB") as server:
-            execs = "".join(f"NOTIFYFLAG {it} EXEC\n" for it in ("ONBATT", "LOWBATT", "SHUTDOWN"))
-            conf = f'MONITOR {server.target} 1 mon m1 primary\n{QUICK}{execs}NOTIFYCMD "sleep 30 && true"\n'
-            begun = time.monotonic()
-            with self.watch(conf) as watch:
-                self.expect_halt(watch, [])
-                if time.monotonic() - begun > 15:
-                    raise Failed("NOTIFYCMD was waited for")
+        execs = "".join(f"NOTIFYFLAG {it} EXEC\n" for it in ("ONBATT", "LOWBATT", "SHUTDOWN"))
+        begun = time.monotonic()
+        with self.watched(f'{QUICK}{execs}NOTIFYCMD "sleep 30 && true"\n', status=b"OB LB") as (_, watch):
+            self.expect_halt(watch, [])
+            ensure(time.monotonic() - begun < 15, "NOTIFYCMD was waited for")
 
     def test_notify_command_that_is_not_there(self):
-        with Upstream(status=b"OB LB") as server:
-            conf = f"MONITOR {server.target} 1 mon m1 primary\n{QUICK}NOTIFYFLAG ONBATT SYSLOG+EXEC\n"
-            with self.watch(conf + "NOTIFYCMD FOLDER/none\n") as watch:
-                self.expect_halt(watch, [it % server.target for it in (ON_BATTERY, BATTERY_LOW)] + [SHUTDOWN])
+        with self.watched(QUICK + "NOTIFYFLAG ONBATT SYSLOG+EXEC\nNOTIFYCMD FOLDER/none\n", status=b"OB LB") as (server, watch):
+            self.expect_halt(watch, fails(server.target))
 
     def test_what_is_told_of_a_shutdown(self):
         """What it is for, and whom it doesn't wait for, also with -q."""
@@ -364,42 +303,34 @@ class Tests(Shimmed):
             (b"OB LB", 3, [low, "no longer waiting for 2 clients logged in to UPS %s"]),
             (b"FSD OB", 1, [forced]),
         ):
-            with Upstream(status=status) as server:
-                server.logins = logins
-                with self.watch(f"MONITOR {server.target} 1 mon m1 primary\n{QUICK}SHUTDOWNCMD true\n", "-q") as watch:
-                    expect(watch.status(), 0, "status")
-                    expect(watch.of_shutdown(), [it % server.target for it in wanted], f"{status} {logins}")
+            with self.watched(QUICK + "SHUTDOWNCMD true\n", "-q", status=status, logins=logins) as (server, watch):
+                expect(watch.status(), 0, "status")
+                expect(watch.of_shutdown(), [it % server.target for it in wanted], f"{status} {logins}")
 
     def test_order_of_what_is_told_of_a_shutdown(self):
         """What it is for comes after the notices of what began it, and before its own."""
         for times in (QUICK, "POLLFREQ 1\nHOSTSYNC 3\nFINALDELAY 0\n"):
-            with Upstream(status=b"OB LB") as server:
-                server.logins = 2
-                conf = f"MONITOR {server.target} 1 mon m1 primary\n{times}SHUTDOWNCMD true\n"
-                with self.watch(conf, "-q", stderr=subprocess.STDOUT) as watch:
-                    expect(watch.status(), 0, "status")
-                    found = [line for line in watch.lines() if not line.startswith(f"{OF_SHUTDOWN}no longer")]
-                    low = f"{OF_SHUTDOWN}UPS {server.target} is on battery, and its battery is low"
-                    expect(found, [ON_BATTERY % server.target, BATTERY_LOW % server.target, low, SHUTDOWN], "the lines in turn")
+            conf = f"{times}SHUTDOWNCMD true\n"
+            with self.watched(conf, "-q", status=b"OB LB", logins=2, stderr=subprocess.STDOUT) as (server, watch):
+                expect(watch.status(), 0, "status")
+                found = [line for line in watch.lines() if not line.startswith(f"{OF_SHUTDOWN}no longer")]
+                low = f"{OF_SHUTDOWN}UPS {server.target} is on battery, and its battery is low"
+                expect(found, [ON_BATTERY % server.target, BATTERY_LOW % server.target, low, SHUTDOWN], "the lines in turn")
 
     def test_what_is_told_of_a_shutdown_for_a_lost_server(self):
-        with Upstream(status=b"OB") as server:
-            conf = f"MONITOR {server.target} 1 mon m1 primary\n{QUICK}DEADTIME 3\nSHUTDOWNCMD true\n"
-            with self.watch(conf, "-q") as watch:
-                watch.until_printed(ON_BATTERY % server.target)
-                server.close()
-                expect(watch.status(20), 0, "status")
-                wanted = [f"UPS {server.target} was on battery when its status was last known", f"FSD on UPS {server.target} was not accepted"]
-                expect(watch.of_shutdown(), wanted, "what is told")
+        with self.watched(QUICK + "DEADTIME 3\nSHUTDOWNCMD true\n", "-q", status=b"OB") as (server, watch):
+            watch.until_printed(ON_BATTERY % server.target)
+            server.close()
+            expect(watch.status(20), 0, "status")
+            wanted = [f"UPS {server.target} was on battery when its status was last known", f"FSD on UPS {server.target} was not accepted"]
+            expect(watch.of_shutdown(), wanted, "what is told")
 
     def test_notify_command_that_cannot_be_started(self):
-        with Upstream(status=b"OB LB") as server:
-            conf = f"MONITOR {server.target} 1 mon m1 primary\n{QUICK}NOTIFYFLAG ONBATT SYSLOG+EXEC\nNOTIFYCMD true\n"
-            with self.watch(conf, "-q", env=self.refusing_starts(self.folder)) as watch:
-                self.expect_halt(watch, [it % server.target for it in (ON_BATTERY, BATTERY_LOW)] + [SHUTDOWN])
-                said = [line for line in watch.told() if "SHUTDOWNCMD is not set" not in line]
-                expect(len(said), 1, "what is said of it")
-                expect(said[0].startswith("upsmon: NOTIFYCMD cannot be started: "), True, said[0])
+        conf, env = QUICK + "NOTIFYFLAG ONBATT SYSLOG+EXEC\nNOTIFYCMD true\n", self.refusing_starts(self.folder)
+        with self.watched(conf, "-q", status=b"OB LB", env=env) as (server, watch):
+            self.expect_halt(watch, fails(server.target))
+            said = [line for line in watch.told() if "SHUTDOWNCMD is not set" not in line]
+            expect([it.partition(" started: ")[0] for it in said], ["upsmon: NOTIFYCMD cannot be"], "what is said of it")
 
     def test_notify_commands_are_bounded(self):
         conf = "MINSUPPLIES 0\nSHUTDOWNCMD true\nPOLLFREQ 1\nNOCOMMWARNTIME 1\nNOTIFYFLAG NOCOMM EXEC\nNOTIFYCMD \"echo . >> FOLDER/run; sleep 60 #\"\n"
@@ -421,12 +352,10 @@ class Tests(Shimmed):
             os.kill(pid, signal.SIGKILL)
 
     def test_ended_commands_leave_no_process(self):
-        with Upstream(status=b"OB") as server:
-            notes = 'NOTIFYFLAG ONBATT EXEC\nNOTIFYCMD "touch FOLDER/run #"\n'
-            conf = f"MONITOR {server.target} 1 mon m1 secondary\nPOLLFREQ 1\n{notes}"
-            with self.watch(conf) as watch:
-                until(lambda: watch.read("run") is not None, "the command is run")
-                until(lambda: not children_of(watch.process.pid), "the command is reaped")
+        conf = 'POLLFREQ 1\nNOTIFYFLAG ONBATT EXEC\nNOTIFYCMD "touch FOLDER/run #"\n'
+        with self.watched(conf, role="secondary", status=b"OB") as (_, watch):
+            until(lambda: watch.read("run") is not None, "the command is run")
+            until(lambda: not children_of(watch.process.pid), "the command is reaped")
 
     def test_shutdown_command_that_fails(self):
         for command, said in (
@@ -434,86 +363,60 @@ class Tests(Shimmed):
             ("FOLDER/none 2> FOLDER/said", "SHUTDOWNCMD ended with status 127"),
             ("kill -9 $$", "SHUTDOWNCMD ended by a signal: 9 (SIGKILL)"),
         ):
-            with Upstream(status=b"FSD") as server:
-                conf = f"MONITOR {server.target} 1 mon m1 primary\n{QUICK}POWERDOWNFLAG FOLDER/flag\n"
-                with self.watch(f'{conf}SHUTDOWNCMD "{command}"\n', "-q") as watch:
-                    self.expect_halt(watch, [FORCED % server.target, SHUTDOWN], 1)
-                    expect(watch.told(), [f"upsmon: {said}"], command)
-                    expect(watch.read("flag"), FLAG, "POWERDOWNFLAG")
+            conf = f'{QUICK}POWERDOWNFLAG FOLDER/flag\nSHUTDOWNCMD "{command}"\n'
+            with self.watched(conf, "-q", status=b"FSD") as (server, watch):
+                self.expect_halt(watch, [FORCED % server.target, SHUTDOWN], 1)
+                expect((watch.told(), watch.read("flag")), ([f"upsmon: {said}"], FLAG), command)
 
     def test_flag_that_cannot_be_written(self):
-        with Upstream(status=b"FSD") as server:
-            conf = f"MONITOR {server.target} 1 mon m1 primary\n{QUICK}POWERDOWNFLAG FOLDER/none/flag\n"
-            with self.watch(conf + 'SHUTDOWNCMD "touch FOLDER/halted"\n', "-q") as watch:
-                self.expect_halt(watch, [FORCED % server.target, SHUTDOWN])
-                said = f"POWERDOWNFLAG {watch.folder}/none/flag cannot be written: "
-                expect([line.startswith(f"upsmon: {said}") for line in watch.told()], [True, True], "what is said of it")
-                expect(watch.read("halted"), b"", "SHUTDOWNCMD is run all the same")
+        with self.watched(QUICK + FLAGGED.replace("/flag", "/none/flag"), "-q", status=b"FSD") as (server, watch):
+            self.expect_halt(watch, [FORCED % server.target, SHUTDOWN])
+            said = f"upsmon: POWERDOWNFLAG {watch.folder}/none/flag cannot be written: "
+            expect([line.startswith(said) for line in watch.told()], [True, True], "what is said of it")
+            expect(watch.read("halted"), b"", "SHUTDOWNCMD is run all the same")
 
     def test_output_that_is_closed(self):
-        halts = 'POWERDOWNFLAG FOLDER/flag\nSHUTDOWNCMD "touch FOLDER/halted"\n'
-        reader, writer = os.pipe()
-        os.close(reader)
-        with Upstream(status=b"OB LB") as server:
-            conf = f"MONITOR {server.target} 1 mon m1 primary\n{QUICK}{halts}"
-            try:
-                with open("/dev/full", "wb") as full:
-                    for streams in (
-                        {"stdout": writer},
-                        {"stdout": writer, "stderr": writer},
-                        {"stdout": full, "stderr": full},
-                        # closed from the start: no socket may get their descriptors, and be sent what is printed
-                        {"preexec_fn": lambda: (os.close(1), os.close(2))},
-                        {"preexec_fn": lambda: os.closerange(0, 3)},
-                    ):
-                        with self.watch(conf, **streams) as watch:
-                            expect(watch.status(), 0, f"status with {streams}")
-                            expect((watch.read("flag"), watch.read("halted")), (FLAG, b""), f"the halt with {streams}")
-                expect([line for line in server.asked if line.startswith((b"upsmon", b"UPS"))], [], "what the server gets of it")
-            finally:
-                os.close(writer)
+        with streams_without_readers() as streams, Upstream(status=b"OB LB") as server:
+            for name, options in streams.items():
+                with self.watch(server.line() + QUICK + FLAGGED, **options) as watch:
+                    expect(watch.status(), 0, f"status with {name}")
+                    expect((watch.read("flag"), watch.read("halted")), (FLAG, b""), f"the halt with {name}")
+            expect([line for line in server.asked if line.startswith((b"upsmon", b"UPS"))], [], "what the server gets of it")
 
     def test_reports(self):
-        conf = f"MONITOR %s 2 mon m1 secondary\n{QUICK}SHUTDOWNCMD true\n"
-        with Upstream() as server, Upstream() as other:
-            target = server.target
-            with self.watch(conf % target) as watch, self.watch(conf % other.target, "-q") as quiet:
-                for it in (server, other):
-                    until(lambda: it.asked.count(STATUS) >= 2, "the status is asked for, and was heard")
-                    it.close()
-                watch.until_printed(LOST % target)
-                quiet.until_printed(LOST % other.target)
+        for words in ((), ("-q",)):
+            with self.watched(QUICK + "SHUTDOWNCMD true\n", *words, role="secondary", power=2) as (server, watch):
+                server.until_asked(2)
+                server.close()
+                watch.until_printed(LOST % server.target)
                 wanted = [
-                    f"upsmon: UPS {target}: watched as secondary, power value 2",
+                    f"upsmon: UPS {server.target}: watched as secondary, power value 2",
                     "upsmon: this machine shuts down within 6 s of OB LB if answers take at most 2 s",
-                    f"upsmon: UPS {target}: server connected",
-                    f"upsmon: UPS {target}: server lost",
+                    f"upsmon: UPS {server.target}: server connected",
+                    f"upsmon: UPS {server.target}: server lost",
                 ]
-                expect(watch.lines("err")[:4], wanted, "reports")
-                expect(quiet.read("err"), b"", "with -q nothing is reported")
+                expect(watch.lines("err")[:4], [] if words else wanted, f"reports {words}")
 
     def test_waiting_for_a_server_takes_nothing(self):
         server = Upstream()
         server.close()
-        with self.watch(f"MONITOR {server.target} 1 mon m1 secondary\n") as watch:
+        with self.watch(server.line("secondary")) as watch:
             time.sleep(0.5)
             expect(watch.is_idle(), True, "processor time without a server")
 
     def test_command_lines(self):
         conf = ["--conf", self.folder]
         for words in (["--conf"], [*conf, "more"], ["--none"], [*conf, "-K", "-q"], [*conf, "-K", "--check"]):
-            done = subprocess.run([self.upsmon, *words], capture_output=True, timeout=60)
-            expect((done.returncode, done.stdout, done.stderr != b""), (2, b"", True), f"{words}")
-            is_unknown = b"unexpected argument" in done.stderr
-            expect(done.stderr.endswith(NUTS_OPTIONS.format("upsmon").encode()), is_unknown, f"{words}: {done.stderr!r}")
+            status, out, err = ended([self.upsmon, *words])
+            expect((status, out, err != ""), (2, "", True), f"{words}")
+            expect(err.endswith(NUTS_OPTIONS.format("upsmon")), "unexpected argument" in err, f"{words}: {err!r}")
         # NUT's options that ask for what is done anyway
+        missing = cannot_read("upsmon", "upsmon.conf", "/nowhere/upsmon.conf", errno.ENOENT)
         for words in (["-F"], ["-D"], ["-DDD", "-F"], ["-D", "-q", "-D"]):
-            done = subprocess.run([self.upsmon, "--conf", "/nowhere", *words], capture_output=True, timeout=60)
-            wanted = cannot_read("upsmon", "upsmon.conf", "/nowhere/upsmon.conf", errno.ENOENT).encode()
-            expect((done.returncode, done.stdout, done.stderr), (1, b"", wanted), words)
-        for word, shown in (("--help", b"upsmon.conf"), ("--version", f"upsmon {VERSION_SHOWN}\n".encode())):
-            done = subprocess.run([self.upsmon, word], capture_output=True, timeout=60)
-            expect((done.returncode, shown in done.stdout, done.stderr), (0, True, b""), word)
+            expect(ended([self.upsmon, "--conf", "/nowhere", *words]), (1, "", missing), words)
+        for word, shown in (("--help", "upsmon.conf"), ("--version", f"upsmon {VERSION_SHOWN}\n")):
+            status, out, err = ended([self.upsmon, word])
+            expect((status, shown in out, err), (0, True, ""), word)
 
     def test_faults_of_files(self):
         line = "MONITOR su700@h 1 mon m1 primary\n"
@@ -537,30 +440,27 @@ class Tests(Shimmed):
         ):
             with tempfile.TemporaryDirectory(dir=self.folder) as folder:
                 if text is not None:
-                    with open(os.path.join(folder, "upsmon.conf"), "w") as file:
-                        file.write(text)
+                    write(os.path.join(folder, "upsmon.conf"), text)
                 wanted = f"upsmon: upsmon.conf:{said}\nupsmon: {meant}\n"
                 if text is None:
                     wanted = cannot_read("upsmon", "upsmon.conf", os.path.join(folder, "upsmon.conf"), errno.ENOENT)
                 for words in ([], ["--check"], ["-K"]):
-                    done = subprocess.run([self.upsmon, "--conf", folder, *words], capture_output=True, timeout=60)
-                    expect((done.returncode, done.stdout, done.stderr.decode()), (1, b"", wanted), f"{text!r} {words}")
+                    expect(ended([self.upsmon, "--conf", folder, *words]), (1, "", wanted), f"{text!r} {words}")
 
     def checked(self, conf, *words, env=None, upsc=LASTS_LONG):
         """What 'upsmon --check' gives of such a file, whose folder the words and the environment name by FOLDER, where upsc
         is such a script."""
         with tempfile.TemporaryDirectory(dir=self.folder) as folder:
             env = {"PATH": put_upsc(folder, upsc), **(env or {})}
-            with open(os.path.join(folder, "upsmon.conf"), "w", opener=lambda path, flags: os.open(path, flags, 0o600)) as file:
-                file.write(conf)
+            write(os.path.join(folder, "upsmon.conf"), conf)
             words = [it.replace("FOLDER", folder) for it in words or ("--conf", "FOLDER")]
             env = {**os.environ, **{name: it.replace("FOLDER", folder) for name, it in env.items()}}
-            done = subprocess.run([self.upsmon, "--check", *words], stdin=subprocess.DEVNULL, capture_output=True, timeout=60, env=env)
+            status, out, err = ended([self.upsmon, "--check", *words], env=env)
         # no server is there, which is told of each line, and nothing else is of interest here
-        told = done.stderr.decode().splitlines(keepends=True)
+        told = err.splitlines(keepends=True)
         rest = [it for it in told if not re.fullmatch(r"upsmon: UPS \S+: connection failed: .*\n", it)]
-        is_only_that = done.returncode == 1 and len(rest) < len(told)
-        return 0 if is_only_that else done.returncode, done.stdout.decode(), "".join(rest)
+        is_only_that = status == 1 and len(rest) < len(told)
+        return 0 if is_only_that else status, out, "".join(rest)
 
     def test_check_tells_how_soon(self):
         primary, secondary = ("MONITOR %s@h 1 mon m1 %s\nSHUTDOWNCMD true\n" % it for it in (("a", "primary"), ("a", "secondary")))
@@ -680,11 +580,8 @@ class Tests(Shimmed):
         """What 'upsmon --check' gives with such words in a folder that has these files upsmon.conf in folders of these names."""
         with tempfile.TemporaryDirectory(dir=self.folder) as folder:
             for name, conf in files.items():
-                os.mkdir(os.path.join(folder, name))
-                with open(os.path.join(folder, name, "upsmon.conf"), "w") as file:
-                    file.write(conf)
-            done = subprocess.run([self.upsmon, "--check", *words], stdin=subprocess.DEVNULL, capture_output=True, timeout=60, cwd=folder)
-        return done.returncode, done.stdout.decode(), done.stderr.decode()
+                write(os.path.join(folder, name, "upsmon.conf"), conf)
+            return ended([self.upsmon, "--check", *words], cwd=folder)
 
     def test_check_finds_what_keeps_a_machine_from_stopping(self):
         """A login that a server refuses, a server that isn't there, a command that isn't a program. Each login is ended."""
@@ -692,12 +589,11 @@ class Tests(Shimmed):
         with self.room() as room, Silent() as silent, tempfile.TemporaryDirectory(dir=self.folder) as folder:
             room.dummy()
             room.upsd()
-            target = f"su700@127.0.0.1:{room.port}"
+            target = room.target
             text = os.path.join(folder, "text")
-            with open(text, "w") as file:
-                file.write("#!/bin/sh\n")
+            write(text, "#!/bin/sh\n")
             env = {**os.environ, "PATH": put_upsc(folder, LASTS_LONG)}
-            refused = f"connection failed: {os.strerror(errno.ECONNREFUSED)} (os error {errno.ECONNREFUSED})"
+            refused = f"connection failed: {named_error(errno.ECONNREFUSED)}"
             for line, shutdown, warnings in (
                 (f"{target} 1 mon m1 primary", "true", []),
                 (f"{target} 1 guest g1 secondary", "/bin/true now", []),
@@ -709,13 +605,9 @@ class Tests(Shimmed):
                 (f"{target} 1 mon m1 primary", f"{text} now", [f"SHUTDOWNCMD: {text} isn't a program"]),
                 (f"{target} 1 mon m1 primary", f"{folder}/$1", []),
             ):
-                conf = os.path.join(folder, "upsmon.conf")
-                with open(conf, "w", opener=lambda path, flags: os.open(path, flags, 0o600)) as file:
-                    file.write(f'MONITOR {line}\nSHUTDOWNCMD "{shutdown}"\n')
-                words = [self.upsmon, "--check", "--conf", folder]
-                done = subprocess.run(words, stdin=subprocess.DEVNULL, capture_output=True, text=True, timeout=60, env=env)
-                told = [f"upsmon: {it}" for it in warnings]
-                expect((done.returncode, done.stderr.splitlines()), (int(bool(told)), told), f"{line}, {shutdown}")
+                write(os.path.join(folder, "upsmon.conf"), f'MONITOR {line}\nSHUTDOWNCMD "{shutdown}"\n')
+                status, _, err = ended([self.upsmon, "--check", "--conf", folder], env=env)
+                expect((status, err), (int(bool(warnings)), "".join(f"upsmon: {it}\n" for it in warnings)), f"{line}, {shutdown}")
             expect(room.ask(b"GET NUMLOGINS su700\n"), b"NUMLOGINS su700 0\n", "who is logged in")
 
     def test_check_asks_how_early_lb_is_said(self):
@@ -772,11 +664,11 @@ class Tests(Shimmed):
                     return [line for line in watch.lines("err") if "runtime" in line]
 
                 until(told, "a warning", 15)
-                count = times_asked(asked)
+                count = read(asked).count("\n")
                 ensure(count >= 2, "it isn't asked again after it gave no answer")
                 time.sleep(3)
                 expect(told(), [late % server.target], "what is told")
-                expect(times_asked(asked), count, "how often it was asked, once it had answered")
+                expect(read(asked).count("\n"), count, "how often it was asked, once it had answered")
 
     def test_shutdown_ends_the_questions(self):
         """A UPS that is asked for how early it says LB when the shutdown begins isn't asked for again."""
@@ -790,7 +682,7 @@ class Tests(Shimmed):
                 until(lambda: os.path.exists(asked), "a question", 15)
                 server.statuses[b"su700"] = b"FSD"
                 expect(watch.status(30), 0, "the halt")
-                expect(times_asked(asked), 1, "how often it was asked")
+                expect(read(asked).count("\n"), 1, "how often it was asked")
 
     def test_folder_of_the_environment(self):
         conf = "MONITOR a@h 1 mon m1 primary\nSHUTDOWNCMD true\n"
@@ -805,16 +697,14 @@ class Tests(Shimmed):
         # an empty variable names no folder: the machine's own is used
         own = self.checked(conf, "-q", env={"NUT_CONFPATH": ""})
         expect(own, self.checked(conf, "--conf", "/etc/nut"), "an empty NUT_CONFPATH")
-        with tempfile.TemporaryDirectory(dir=self.folder) as folder:
-            done = subprocess.run([self.upsmon], capture_output=True, timeout=60, env={**os.environ, "NUT_CONFPATH": folder})
-            wanted = cannot_read("upsmon", "upsmon.conf", os.path.join(folder, "upsmon.conf"), errno.ENOENT)
-            expect((done.returncode, done.stdout, done.stderr.decode()), (1, b"", wanted), "a start without --conf")
+        found = ended([self.upsmon], env={**os.environ, "NUT_CONFPATH": "/nowhere"})
+        expect(found, cannot, "a start without --conf")
 
     def test_memory_refused(self):
         """Each allocation of a whole run is refused in turn: upsmon ends before it watches anything and reports the lack of
         memory, or it continues and halts."""
         with Upstream(status=b"FSD") as server:
-            conf = f"MONITOR {server.target} 1 mon m1 primary\n{QUICK}POWERDOWNFLAG FOLDER/flag\nSHUTDOWNCMD true\n"
+            conf = server.line() + QUICK + "POWERDOWNFLAG FOLDER/flag\nSHUTDOWNCMD true\n"
             for at, env, is_reached in refusals(self.shim):
                 with self.watch(conf, "-q", env={**os.environ, **env}) as watch:
                     status = watch.status()
@@ -825,8 +715,7 @@ class Tests(Shimmed):
                         expect((status, watch.lines()[-1], watch.read("flag")), (0, SHUTDOWN, FLAG), f"allocation {at}")
                 if not is_reached():
                     break
-            if at < 10:
-                raise Failed(f"{at - 1} allocations were seen")
+            ensure(at >= 10, f"{at - 1} allocations were seen")
 
 
 if __name__ == "__main__":

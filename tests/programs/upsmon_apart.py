@@ -17,9 +17,9 @@ import sys
 import tempfile
 import time
 
-from tests.support.harness import FullPipe, Missing, ROOT, Shimmed, ensure, expect
-from tests.support.monitored import FLAG, ON_BATTERY, QUICK, SHUTDOWN, Upstream, Watch, children_of, play
-from tests.support.room import SOON, STATUS, state_of, until
+from tests.support.harness import ROOT, FullPipe, Missing, ended, ensure, expect, read, write
+from tests.support.monitored import FLAG, ON_BATTERY, QUICK, SHUTDOWN, MonitorTests, Watch, children_of, play
+from tests.support.room import SOON, state_of, until
 
 LAUNCHER = os.path.join(ROOT, "packaging", "upsmon-apart")
 USER = "nut"
@@ -61,11 +61,6 @@ class Halter(Watch):
         self.end()
         super().__exit__(*words)
 
-    def put(self, conf):
-        """Replaces upsmon.conf."""
-        with open(self.path("upsmon.conf"), "w") as file:
-            file.write(conf.replace("FOLDER", self.folder))
-
     def shell(self):
         """Returns the shell that waits, once there is only one."""
         return until(lambda: len(children_of(self.process.pid)) == 1 and children_of(self.process.pid), "a shell waits")[0]
@@ -96,15 +91,6 @@ class Watcher(Watch):
                 self.given += piece
         return self.given
 
-    def reload(self, conf):
-        with open(self.path("upsmon.conf"), "w") as file:
-            file.write(conf.replace("FOLDER", self.folder))
-        with open(self.path("reload"), "w"):
-            pass
-
-    def until_told(self, line):
-        until(lambda: line in self.lines("err"), f"upsmon reports {line!r}")
-
 
 class Apart(Watch):
     """Both, by the script of the unit. The user nut can read upsmon.conf in a folder of its own."""
@@ -116,7 +102,7 @@ class Apart(Watch):
         for path in (folder, self.folder):
             os.chmod(path, 0o711)
         shutil.copy(program, self.path("upsmon"))
-        self.put("upsmon.conf", conf, mode)
+        self.put(conf, mode=mode)
         os.mkdir(self.path("nuts"))
         os.chown(self.path("nuts"), self.user.pw_uid, self.user.pw_gid)
         environment = {**os.environ, "UPSMON": self.path("upsmon"), "NUT_CONFPATH": self.folder, **settings}
@@ -124,12 +110,10 @@ class Apart(Watch):
         streams = {"stdout": self.open("out"), "stderr": self.open("err")}
         self.process = subprocess.Popen([LAUNCHER, *words], stdin=subprocess.DEVNULL, start_new_session=True, env=environment, **streams)
 
-    def put(self, name, conf, mode):
-        """Writes a file of root's that the group of the user may have access to."""
-        with open(self.path(name), "w") as file:
-            file.write(conf.replace("FOLDER", self.folder))
+    def put(self, conf, name="upsmon.conf", mode=0o640):
+        """Replaces a file of root's, which the group of the user may have access to."""
+        super().put(conf, name, mode)
         os.chown(self.path(name), 0, self.user.pw_gid)
-        os.chmod(self.path(name), mode)
 
     def watcher(self):
         """Returns the process that watches, once both run."""
@@ -143,46 +127,40 @@ class Apart(Watch):
 
 def name_of(pid):
     """Returns the name of a process; empty if there is none."""
-    try:
-        with open(f"/proc/{pid}/comm") as file:
-            return file.read().strip()
-    except FileNotFoundError:
-        return ""
+    with contextlib.suppress(FileNotFoundError):
+        return read(f"/proc/{pid}/comm").strip()
+    return ""
 
 
 def facts_of(pid, *names):
     """Returns these lines of what the system says of a process."""
-    with open(f"/proc/{pid}/status") as file:
-        facts = dict(line.rstrip("\n").split(":\t", 1) for line in file if ":\t" in line)
+    facts = dict(line.split(":\t", 1) for line in read(f"/proc/{pid}/status").splitlines() if ":\t" in line)
     return tuple(facts[name] for name in names)
 
 
-class Tests(Shimmed):
-    def __init__(self, programs, folder):
-        self.upsmon = programs[3]
-        self.folder = folder
+class Tests(MonitorTests):
+    def watch(self, conf, *words, start=Watcher, **options):
+        """Starts a process that only watches, or another one."""
+        return start(self.upsmon, self.folder, conf, *words, **options)
 
     def halter(self, conf=COUNTED):
-        return Halter(self.upsmon, self.folder, NOBODY + conf)
+        return self.watch(NOBODY + conf, start=Halter)
 
-    def apart(self, conf, *words, **settings):
+    def watched(self, conf=COUNTED, *words, **options):
+        """Starts what watches a server that the test plays."""
+        return super().watched(QUICK + conf, *words, **options)
+
+    def apart(self, conf=COUNTED, **options):
         """Starts both processes."""
         if os.geteuid():
             raise Missing("only root can start a process of another user")
         if shutil.which("setpriv") is None:
             raise Missing("setpriv isn't installed (Debian's package util-linux)")
         try:
-            return Apart(self.upsmon, self.folder, conf, *words, **settings)
+            pwd.getpwnam(USER)
         except KeyError:
             raise Missing(f"there is no user {USER}") from None
-
-    @contextlib.contextmanager
-    def watched(self, conf="", *words, role="primary", status=b"OL", **options):
-        """Starts a process that watches a server that the test plays."""
-        with Upstream(status=status) as server:
-            conf = f"MONITOR {server.target} 1 mon m1 {role}\n{QUICK}{conf or COUNTED}"
-            with Watcher(self.upsmon, self.folder, conf, *words, **options) as watch:
-                yield server, watch
+        return self.watched(conf, start=Apart, **options)
 
     # From here on, each method whose name begins with 'test_' is a test.
 
@@ -228,8 +206,7 @@ class Tests(Shimmed):
         with self.halter() as watch:
             former = watch.shell()
             new = NOBODY + 'POWERDOWNFLAG FOLDER/other\nSHUTDOWNCMD "touch FOLDER/new"\n'
-            with open(watch.path("other"), "wb") as file:
-                file.write(FLAG)
+            watch.put(FLAG.decode(), "other")
             watch.put(new.replace("SHUTDOWNCMD", "SHUTDOWNCMDS"))
             watch.give(b"changed\nsecond\nsecond\n")
             until(lambda: watch.lines("err"), "the fault is reported")
@@ -260,16 +237,13 @@ class Tests(Shimmed):
 
     def test_flag_of_an_earlier_shutdown(self):
         """Root's process removes it, at its start. The other one leaves it."""
-        with self.watched(status=b"OL") as (server, watch):
-            with open(watch.path("flag"), "wb") as file:
-                file.write(FLAG)
+        with self.watched() as (server, watch):
+            watch.put(FLAG.decode(), "flag")
             until(lambda: watch.read_orders(), "it watches")
-            watch.reload(f"MONITOR {server.target} 1 mon m1 primary\n{QUICK}{COUNTED}DEADTIME 20\n")
+            watch.reload(server.line() + QUICK + COUNTED + "DEADTIME 20\n")
             until(lambda: "changed" in orders_in(watch.read_orders()), "it has taken up the file")
             expect(watch.read("flag"), FLAG, "the flag")
-        left = os.path.join(self.folder, "left")
-        with open(left, "wb") as file:
-            file.write(FLAG)
+        left = write(os.path.join(self.folder, "left"), FLAG)
         with self.halter(f"POWERDOWNFLAG {left}\n{COUNTED.splitlines()[1]}\n") as watch:
             until(lambda: watch.lines("err") == [f"upsmon: POWERDOWNFLAG {left} of an earlier shutdown is removed"], "it is removed")
             expect(os.path.exists(left), False, "the flag")
@@ -292,10 +266,9 @@ class Tests(Shimmed):
     def test_change_is_ordered(self):
         """A changed file is ordered to be read, and before a halt at the latest."""
         with self.watched() as (server, watch):
-            changed = f"MONITOR {server.target} 1 mon m1 primary\n{QUICK}{COUNTED}"
             until(lambda: watch.read_orders().count(b"second\n") > 1, "the order of a second")
             expect(orders_in(watch.read_orders()), [], "the orders of a start")
-            watch.reload(f"{changed}DEADTIME 20\n")
+            watch.reload(server.line() + QUICK + COUNTED + "DEADTIME 20\n")
             watch.until_told("upsmon: reloaded: DEADTIME changed")
             until(lambda: orders_in(watch.read_orders()) == ["changed"], "it is ordered")
             server.statuses[b"su700"] = b"FSD"
@@ -306,16 +279,16 @@ class Tests(Shimmed):
         with FullPipe() as pipe, self.watched(stdout=pipe.writer) as (server, watch):
             unheard = UNHEARD.format(watch.halter.pid)
             watch.until_told(unheard)
-            watch.reload(f"MONITOR {server.target} 1 mon m1 primary\n{QUICK}{COUNTED}DEADTIME 20\n")
+            watch.reload(server.line() + QUICK + COUNTED + "DEADTIME 20\n")
             watch.until_told("upsmon: reloaded: DEADTIME changed")
             expect(watch.lines("err").count(unheard), 1, "the reports")
             server.statuses[b"su700"] = b"FSD"
             until(lambda: SHUTDOWN in watch.lines("err"), "the shutdown")
             time.sleep(1)
             expect(watch.process.poll(), None, "it goes on trying")
-            read = pipe.read()
+            first = pipe.read()
             expect(watch.status(), 0, "its end")
-            expect(orders_in(read + pipe.read()), ["changed", "halt flag"], "the orders")
+            expect(orders_in(first + pipe.read()), ["changed", "halt flag"], "the orders")
 
     def test_pipe_that_stays_full(self):
         """An order to halt that finds no room is given up after half a minute, so that the unit starts both again."""
@@ -339,10 +312,9 @@ class Tests(Shimmed):
 
     def test_page(self):
         """The page has the lines of standard error, and a drop-in that runs what the unit runs, as two processes."""
-        with open(os.path.join(ROOT, "man", "upsmon.8")) as file:
-            page = file.read().replace("\\-", "-").replace(" \\e\n   ", "")
-        with open(os.path.join(ROOT, "packaging", "mulgefa-upsmon.service")) as file:
-            (start,) = [line for line in file.read().splitlines() if line.startswith("ExecStart=")]
+        page = read(os.path.join(ROOT, "man", "upsmon.8")).replace("\\-", "-").replace(" \\e\n   ", "")
+        unit = read(os.path.join(ROOT, "packaging", "mulgefa-upsmon.service"))
+        (start,) = [line for line in unit.splitlines() if line.startswith("ExecStart=")]
         wanted = start.replace("@PREFIX@/sbin/upsmon", "/usr/lib/mulgefa/upsmon-apart")
         # the page leaves out what each line begins with
         for line in (f"\nExecStart=\n{wanted}\n", NO_WATCH, UNHEARD.format("PID"), LATE + "WHY", NOT_ORDERED.format("PID")):
@@ -351,34 +323,31 @@ class Tests(Shimmed):
     def test_command_line(self):
         """Only the script gives these options, so the help doesn't have them."""
         for words in ("--halter", "--halter x", "--halter -1", "--halter 1 --obey", "--obey --check", "--obey --fsd", "-K --obey", "-K --halter 1"):
-            done = subprocess.run([self.upsmon, *words.split()], stdin=subprocess.DEVNULL, capture_output=True, timeout=60)
-            expect((done.returncode, done.stdout, done.stderr != b""), (2, b"", True), f"upsmon {words}")
-        done = subprocess.run([self.upsmon, "--help"], stdin=subprocess.DEVNULL, capture_output=True, timeout=60)
-        expect((done.returncode, b"--obey" in done.stdout, b"--halter" in done.stdout), (0, False, False), "the help")
+            status, out, err = ended([self.upsmon, *words.split()])
+            expect((status, out, err != ""), (2, "", True), f"upsmon {words}")
+        status, out, _ = ended([self.upsmon, "--help"])
+        expect((status, "--obey" in out, "--halter" in out), (0, False, False), "the help")
 
     def test_halts_as_root(self):
         """Root's process runs SHUTDOWNCMD, once. NOTIFYCMD runs as nut, without a capability."""
-        with Upstream() as server:
-            target = server.target
-            notify = 'NOTIFYCMD "id -u > FOLDER/nuts/who; grep -h CapBnd /proc/self/status >> FOLDER/nuts/who"\nNOTIFYFLAG ONBATT SYSLOG+EXEC\n'
-            conf = f'MONITOR {target} 1 mon m1 primary\n{QUICK}{notify}POWERDOWNFLAG FOLDER/flag\nSHUTDOWNCMD "id -u >> FOLDER/halted"\n'
-            with self.apart(conf) as watch:
-                watcher = watch.watcher()
-                until(lambda: STATUS in server.asked, "the status is asked for")
-                facts = ("Uid", "CapEff", "CapBnd", "CapInh", "NoNewPrivs")
-                expect(facts_of(watcher, *facts), ("\t".join([str(watch.user.pw_uid)] * 4), *["0" * 16] * 3, "1"), "the process that watches")
-                expect(facts_of(watch.process.pid, "Uid"), ("0\t0\t0\t0",), "the one that halts")
-                server.statuses[b"su700"] = b"OB"
-                until(lambda: (watch.read("nuts/who") or b"").count(b"\n") == 2, "NOTIFYCMD")
-                expect(watch.lines("nuts/who"), [str(watch.user.pw_uid), "CapBnd:\t" + "0" * 16], "what NOTIFYCMD runs as")
-                server.statuses[b"su700"] = b"OB LB"
-                expect((watch.status(), watch.read("halted"), watch.read("flag")), (0, b"0\n", FLAG), "the halt")
-                until(lambda: state_of(watcher) in ("", "Z"), "the other one has ended")
+        notify = 'NOTIFYCMD "id -u > FOLDER/nuts/who; grep -h CapBnd /proc/self/status >> FOLDER/nuts/who"\nNOTIFYFLAG ONBATT SYSLOG+EXEC\n'
+        with self.apart(f'{notify}POWERDOWNFLAG FOLDER/flag\nSHUTDOWNCMD "id -u >> FOLDER/halted"\n') as (server, watch):
+            watcher = watch.watcher()
+            server.until_asked()
+            facts = ("Uid", "CapEff", "CapBnd", "CapInh", "NoNewPrivs")
+            expect(facts_of(watcher, *facts), ("\t".join([str(watch.user.pw_uid)] * 4), *["0" * 16] * 3, "1"), "the process that watches")
+            expect(facts_of(watch.process.pid, "Uid"), ("0\t0\t0\t0",), "the one that halts")
+            server.statuses[b"su700"] = b"OB"
+            until(lambda: (watch.read("nuts/who") or b"").count(b"\n") == 2, "NOTIFYCMD")
+            expect(watch.lines("nuts/who"), [str(watch.user.pw_uid), "CapBnd:\t" + "0" * 16], "what NOTIFYCMD runs as")
+            server.statuses[b"su700"] = b"OB LB"
+            expect((watch.status(), watch.read("halted"), watch.read("flag")), (0, b"0\n", FLAG), "the halt")
+            until(lambda: state_of(watcher) in ("", "Z"), "the other one has ended")
 
     def test_either_is_killed(self):
         """If one of the two ends, the other one does, and nothing is halted."""
         for is_watcher in (True, False):
-            with Upstream(status=b"OB") as server, self.apart(f"MONITOR {server.target} 1 mon m1 primary\n{QUICK}{COUNTED}") as watch:
+            with self.apart(status=b"OB") as (_, watch):
                 watcher, halter = watch.watcher(), watch.process.pid
                 shells = [it for it in children_of(halter) if it != watcher]
                 os.kill(watcher if is_watcher else halter, signal.SIGKILL)
@@ -390,12 +359,11 @@ class Tests(Shimmed):
 
     def test_pipe_has_no_way_in(self):
         """Another process of the user nut can't write orders, and can't kill root's."""
-        with Upstream() as server, self.apart(f"MONITOR {server.target} 1 mon m1 primary\n{QUICK}{COUNTED}") as watch:
+        with self.apart() as (_, watch):
             watcher = watch.watcher()
             script = f"echo halt > /proc/{watcher}/fd/1; kill -KILL {watch.process.pid}"
             words = ["setpriv", "--reuid", USER, "--regid", USER, "--init-groups", "sh", "-c", script]
-            done = subprocess.run(words, stdin=subprocess.DEVNULL, capture_output=True, timeout=60)
-            expect(done.returncode != 0, True, "it is refused")
+            ensure(ended(words)[0] != 0, "it is refused")
             time.sleep(1.5)
             expect((watch.process.poll(), watch.read("halted")), (None, None), "nothing is halted")
 
@@ -405,8 +373,8 @@ class Tests(Shimmed):
             (f"the user {USER} cannot read FOLDER/upsmon.conf", {"mode": 0o600}),
             ("cannot become the user nobody-at-all", {"RUN_AS_USER": "nobody-at-all"}),
         ):
-            with Upstream() as server, self.apart(f"MONITOR {server.target} 1 mon m1 primary\n{QUICK}{COUNTED}", **settings) as watch:
-                until(lambda: STATUS in server.asked, "the status is asked for")
+            with self.apart(**settings) as (server, watch):
+                server.until_asked()
                 told = f"upsmon: {what.replace('FOLDER', watch.folder)}{ALONE}"
                 expect(told in watch.lines("err"), True, f"it says so: {watch.lines('err')}")
                 expect([name_of(it) for it in children_of(watch.process.pid)], ["sh"], "its processes")
@@ -415,30 +383,28 @@ class Tests(Shimmed):
 
     def test_reload(self):
         """Both take up a changed file, also a second time: the file that asks for it stays, since the user can't remove it."""
-        with Upstream() as server:
-            conf = f"MONITOR {server.target} 1 mon m1 primary\n{QUICK}"
-            with self.apart(conf + COUNTED) as watch:
-                # a file from before the start asks for nothing
-                until(lambda: STATUS in server.asked, "the status is asked for")
-                for times, name in enumerate(("first", "second"), 1):
-                    watch.put("upsmon.conf", f'{conf}SHUTDOWNCMD "touch FOLDER/{name}"\nPOWERDOWNFLAG FOLDER/{name}-flag\n', 0o640)
-                    watch.put("reload", "", 0o644)
-                    until(lambda: sum(it.startswith("upsmon: reloaded: ") for it in watch.lines("err")) == times, "it is read again")
-                    expect(watch.read("reload"), b"", "the file that asks for it")
-                server.statuses[b"su700"] = b"FSD"
-                expect(watch.status(), 0, "its status")
-                found = [watch.read(it) for it in ("first", "first-flag", "second", "second-flag", "halted")]
-                expect(found, [None, None, b"", FLAG, None], "the halt")
+        with self.apart() as (server, watch):
+            # a file from before the start asks for nothing
+            server.until_asked()
+            for times, name in enumerate(("first", "second"), 1):
+                watch.put(f'{server.line()}{QUICK}SHUTDOWNCMD "touch FOLDER/{name}"\nPOWERDOWNFLAG FOLDER/{name}-flag\n')
+                watch.put("", "reload", 0o644)
+                until(lambda: sum(it.startswith("upsmon: reloaded: ") for it in watch.lines("err")) == times, "it is read again")
+                expect(watch.read("reload"), b"", "the file that asks for it")
+            server.statuses[b"su700"] = b"FSD"
+            expect(watch.status(), 0, "its status")
+            found = [watch.read(it) for it in ("first", "first-flag", "second", "second-flag", "halted")]
+            expect(found, [None, None, b"", FLAG, None], "the halt")
 
     def test_nothing_is_denied(self):
-        with Upstream() as server, self.apart(f"MONITOR {server.target} 1 mon m1 primary\n{QUICK}{COUNTED}", DENIED="") as watch:
+        with self.apart(DENIED="") as (_, watch):
             expect(facts_of(watch.watcher(), "CapEff", "NoNewPrivs"), ("0" * 16, "0"), "what it may still gain")
 
     def test_faulty_file(self):
         """A file with a fault ends both, with the status and the line of one process."""
-        with self.apart("MONITOR\n") as watch:
+        with self.apart("MONITOR\n") as (_, watch):
             expect(watch.status(), 1, "its status")
-            until(lambda: any(line.startswith("upsmon: upsmon.conf:1: ") for line in watch.lines("err")), f"the fault: {watch.lines('err')}")
+            until(lambda: any(line.startswith("upsmon: upsmon.conf:5: ") for line in watch.lines("err")), f"the fault: {watch.lines('err')}")
 
 
 if __name__ == "__main__":

@@ -10,21 +10,22 @@ import errno
 import os
 import re
 import socket
-import subprocess
 import sys
 import tempfile
 import time
 
-from tests.support.harness import NUTS_OPTIONS, ROOT, Shimmed, cannot_read, ensure, expect, refusals
-from tests.support.monitored import FLAG, FORCED, QUICK, SHUTDOWN, USERS, ByteByByte, Closing, Endless, Rubbish, Silent, Upstream, Watch, play
-from tests.support.room import STATUS, Room, free_port
+from tests.support.harness import NUTS_OPTIONS, ROOT, cannot_read, ended, ensure, expect, named_error, read, refusals, streams_without_readers, write
+from tests.support.monitored import (
+    FLAG, FORCED, QUICK, SHUTDOWN, USERS, ByteByByte, Closing, Endless, MonitorTests, Rubbish, Silent, Upstream, play,
+)
+from tests.support.room import STATUS, free_port
 
 PASSWORD = "not-to-be-shown"
 GOES_ON = "upsmon: this machine keeps running: "
 QUERIES = [b"USERNAME mon", f"PASSWORD {PASSWORD}".encode(), b"FSD su700"]
 # what a server is asked that accepts each query
 ALL = [*QUERIES, b"GET VAR su700 ups.status", b"LOGOUT"]
-REFUSED = f"connection failed: {os.strerror(errno.ECONNREFUSED)} (os error {errno.ECONNREFUSED})"
+REFUSED = f"connection failed: {named_error(errno.ECONNREFUSED)}"
 NO_PRIMARY = "upsmon: upsmon.conf: no MONITOR line is primary\n"
 
 
@@ -38,16 +39,13 @@ class Forced(Upstream):
 
 
 class Slow(Forced, ByteByByte):
-    pass
+    """It sends byte by byte."""
 
 
-class Dripping(Forced):
+class Dripping(Slow):
     """It sends a byte each six seconds."""
 
-    def send(self, end, data):
-        for byte in data:
-            end.sendall(bytes([byte]))
-            time.sleep(6)
+    pause = 6
 
 
 class Answering(Forced):
@@ -85,8 +83,8 @@ def failed(target, why):
     return f"upsmon: UPS {target}: FSD failed: {why}\n"
 
 
-def untold(target, why):
-    return f"upsmon: UPS {target}: FSD set, but its machines don't hear of it: {why}\n"
+def set_but(target, why):
+    return f"upsmon: UPS {target}: FSD set, but {why}\n"
 
 
 def goes_on(*targets):
@@ -97,17 +95,12 @@ def in_any_order(text):
     return "".join(sorted(text.splitlines(keepends=True)))
 
 
-class Tests(Shimmed):
-    def __init__(self, programs, folder):
-        self.upsd, self.dummy, self.upsc, self.upsmon = programs
-        self.folder = folder
-
+class Tests(MonitorTests):
     @contextlib.contextmanager
     def room(self, **options):
         """A room with a server and a driver for su700."""
-        with Room((self.upsd, self.dummy), self.folder, **options) as room:
-            with open(room.path("upsd.users"), "wb") as file:
-                file.write(USERS + b"[operator]\npassword = o1\nactions = FSD\n")
+        users = USERS + b"[operator]\npassword = o1\nactions = FSD\n"
+        with super().room(users, **options) as room:
             room.driver = room.dummy()
             room.upsd()
             room.until(STATUS, b'VAR su700 ups.status "OL"\n')
@@ -118,32 +111,30 @@ class Tests(Shimmed):
         servers it tells as they answer: lines are sorted here, but for the last one, by which the machine goes on."""
         with tempfile.TemporaryDirectory(dir=self.folder) as folder:
             if conf is not None:
-                with open(os.path.join(folder, "upsmon.conf"), "w") as file:
-                    file.write(conf)
-            words = [self.upsmon, "--fsd", "--conf", folder, *words]
-            done = subprocess.run(words, stdin=subprocess.DEVNULL, capture_output=True, text=True, timeout=60, **options)
-            ensure(PASSWORD not in done.stdout + done.stderr, "the password is shown")
-            told = done.stderr.replace(folder, "FOLDER").splitlines(keepends=True)
-            last = told.pop() if told and told[-1].startswith(GOES_ON) else ""
-            if all(": FSD " in it for it in told):
-                told.sort()
-            return done.returncode, in_any_order(done.stdout), "".join(told) + last
+                write(os.path.join(folder, "upsmon.conf"), conf)
+            status, out, err = ended([self.upsmon, "--fsd", "--conf", folder, *words], **options)
+        ensure(PASSWORD not in out + err, "the password is shown")
+        told = err.replace(folder, "FOLDER").splitlines(keepends=True)
+        last = told.pop() if told and told[-1].startswith(GOES_ON) else ""
+        if all(": FSD " in it for it in told):
+            told.sort()
+        return status, in_any_order(out), "".join(told) + last
 
     def status(self, target):
         """Returns the status that upsc shows."""
-        return subprocess.run([self.upsc, target, "ups.status"], capture_output=True, timeout=60).stdout
+        return ended([self.upsc, target, "ups.status"])[1]
 
     # From here on, each method whose name begins with 'test_' is a test.
 
     def test_shutdown_is_forced(self):
         with self.room() as room:
-            target = f"su700@127.0.0.1:{room.port}"
+            target = room.target
             halts = 'POWERDOWNFLAG FOLDER/flag\nSHUTDOWNCMD "touch FOLDER/halted"\n'
             line = line_of(target, password="m1")
-            with Watch(self.upsmon, self.folder, line + QUICK + halts) as watch:
+            with self.watch(line + QUICK + halts) as watch:
                 room.until(b"GET NUMLOGINS su700\n", b"NUMLOGINS su700 1\n")
                 expect(self.force(line), (0, is_set(target), ""), "what is told")
-                expect(self.status(target), b"FSD OL\n", "the status")
+                expect(self.status(target), "FSD OL\n", "the status")
                 expect(watch.status(), 0, "the monitor that runs halts")
                 expect(watch.lines(), [FORCED % target, SHUTDOWN], "what it prints")
                 expect((watch.read("flag"), watch.read("halted")), (FLAG, b""), "the halt")
@@ -153,8 +144,7 @@ class Tests(Shimmed):
     def test_user_who_may_only_force(self):
         """A user with 'actions = FSD' alone may do it."""
         with self.room() as room:
-            target = f"su700@127.0.0.1:{room.port}"
-            expect(self.force(line_of(target, "operator", "o1")), (0, is_set(target), ""), "what is told")
+            expect(self.force(line_of(room.target, "operator", "o1")), (0, is_set(room.target), ""), "what is told")
             expect(room.ask(b"GET NUMLOGINS su700\n"), b"NUMLOGINS su700 0\n", "no primary counts it")
 
     def test_several_lines(self):
@@ -167,7 +157,7 @@ class Tests(Shimmed):
             conf = line_of(b, password="m1") + line_of(other.target, role="secondary") + line_of(c, "guest", "g1", "secondary")
             found = self.force(f"MINSUPPLIES 0\nPOLLFREQ 1\n{conf}{line_of(a, password='m1')}")
             expect(found, (0, is_set(b) + is_set(a), f"{GOES_ON}MINSUPPLIES is 0\n"), "what is told")
-            expect([self.status(it) for it in (a, b, c)], [b"FSD OL\n", b"FSD OL\n", b"OL\n"], "the statuses")
+            expect([self.status(it) for it in (a, b, c)], ["FSD OL\n", "FSD OL\n", "OL\n"], "the statuses")
             expect(other.asked, [], "what the server of a secondary line is asked")
 
     def test_one_server_is_down(self):
@@ -180,7 +170,7 @@ class Tests(Shimmed):
             told = in_any_order("".join(failed(*it) for it in whys)) + goes_on(down, *targets[1:3])
             expect(found, (1, in_any_order(is_set(targets[0]) + is_set(targets[3])), told), "what is told")
             for server in (first, last):
-                expect(b"".join(server.asked).splitlines(), ALL, "what a server is asked")
+                expect(server.queries(), ALL, "what a server is asked")
 
     def test_silent_server(self):
         """Servers that don't answer, or trickle, are given up after ten seconds, all at once, and keep no other waiting."""
@@ -199,27 +189,29 @@ class Tests(Shimmed):
 
     def test_machines_that_are_not_told(self):
         """FSD is set, and nobody hears of it: the status is refused, or doesn't show it."""
-        for status in (b"ERR DRIVER-NOT-CONNECTED", b"ERR DATA-STALE", b"ERR VAR-NOT-SUPPORTED"):
-            with Upstream(status=status + b"\n") as server:
-                why = status.split()[1].decode() + "; they shut down once the driver is back"
-                expect(self.force(line_of(server.target)), (1, "", untold(server.target, why) + goes_on(server.target)), f"{status}")
-                expect(b"".join(server.asked).splitlines(), ALL, f"what is asked at {status}")
-        with Upstream() as server:
-            expect(self.force(line_of(server.target)), (1, "", untold(server.target, "its status is OL") + goes_on(server.target)), "OL")
-        with Answering({b"GET": b"\xff\n"}) as server:
-            found = self.force(line_of(server.target))
-            why = f"upsmon: UPS {server.target}: FSD set, but it is unknown whether its machines hear of it: bad answer\n"
-            expect(found, (1, "", why + goes_on(server.target)), "a status that can't be read")
+        back = "; they shut down once the driver is back"
+        unheard = "its machines don't hear of it: "
+        for answer, why in (
+            (b"ERR DRIVER-NOT-CONNECTED\n", f"{unheard}DRIVER-NOT-CONNECTED{back}"),
+            (b"ERR DATA-STALE\n", f"{unheard}DATA-STALE{back}"),
+            (b"ERR VAR-NOT-SUPPORTED\n", f"{unheard}VAR-NOT-SUPPORTED{back}"),
+            (b'VAR su700 ups.status "OL"\n', f"{unheard}its status is OL"),
+            (b"\xff\n", "it is unknown whether its machines hear of it: bad answer"),
+        ):
+            with Answering({b"GET": answer}) as server:
+                told = set_but(server.target, why) + goes_on(server.target)
+                expect(self.force(line_of(server.target)), (1, "", told), f"{answer}")
+                expect(server.queries(), ALL, f"what is asked at {answer}")
 
     def test_driver_is_gone(self):
         """The server accepts FSD of a UPS without a driver, and warns; its machines stop once the driver is back."""
         with self.room() as room:
-            target = f"su700@127.0.0.1:{room.port}"
             room.driver.kill()
             room.driver.wait()
             room.until(STATUS, b"ERR DRIVER-NOT-CONNECTED\n")
-            why = "DRIVER-NOT-CONNECTED; they shut down once the driver is back"
-            expect(self.force(line_of(target, password="m1")), (1, "", untold(target, why) + goes_on(target)), "what is told")
+            why = "its machines don't hear of it: DRIVER-NOT-CONNECTED; they shut down once the driver is back"
+            told = set_but(room.target, why) + goes_on(room.target)
+            expect(self.force(line_of(room.target, password="m1")), (1, "", told), "what is told")
             room.dummy()
             room.until(STATUS, b'VAR su700 ups.status "FSD OL"\n')
 
@@ -246,7 +238,7 @@ class Tests(Shimmed):
     def test_queries_come_one_by_one(self):
         with OneByOne() as server, Slow() as slow:
             expect(self.force(line_of(server.target))[0], 0, "status")
-            expect((b"".join(server.asked).splitlines(), server.early), (ALL, b""), "what is asked")
+            expect((server.queries(), server.early), (ALL, b""), "what is asked")
             expect(self.force(line_of(slow.target)), (0, is_set(slow.target), ""), "a server that sends byte by byte")
 
     def test_answers(self):
@@ -264,7 +256,7 @@ class Tests(Shimmed):
                     name = query.split()[0].decode()
                     told = failed(server.target, f"{name} refused: {why}" if answer.startswith(b"ERR") else why)
                     expect(found, (1, "", told + goes_on(server.target)), f"{answer} to {query}")
-                    expect(b"".join(server.asked).splitlines(), QUERIES[: at + 1], f"what is asked if {query} gets {answer}")
+                    expect(server.queries(), QUERIES[: at + 1], f"what is asked if {query} gets {answer}")
 
     def test_refusals(self):
         with self.room() as room:
@@ -278,29 +270,24 @@ class Tests(Shimmed):
                 target = f"{ups}@{place}"
                 found = self.force(line_of(target, user, password))
                 expect(found, (1, "", failed(target, why) + goes_on(target)), f"{user} at {ups}")
-            expect(self.status(f"su700@{place}"), b"OL\n", "the status")
+            expect(self.status(f"su700@{place}"), "OL\n", "the status")
 
-    def test_file_without_a_primary_line(self):
+    def test_files_by_which_nothing_is_forced(self):
+        """One that isn't there, one with a fault, and those without a primary line."""
         with Upstream() as server:
-            expect(self.force(line_of(server.target, role="secondary")), (1, "", NO_PRIMARY), "a secondary line alone")
-            expect(self.force("MINSUPPLIES 0\n"), (1, "", NO_PRIMARY), "no line")
-            expect(server.asked, [], "what its server is asked")
-
-    def test_faults_of_the_file(self):
-        missing = cannot_read("upsmon", "upsmon.conf", "FOLDER/upsmon.conf", errno.ENOENT)
-        expect(self.force(None), (1, "", missing), "no file")
-        with Upstream() as server:
-            found = self.force(f"{line_of(server.target)}POLLFREQ 0\n")
-            meant = "upsmon: 0: a number from 1 to 1000000 is meant\n"
-            expect(found, (1, "", f"upsmon: upsmon.conf:2: BadNumber\n{meant}"), "a fault")
+            for conf, told in (
+                (None, cannot_read("upsmon", "upsmon.conf", "FOLDER/upsmon.conf", errno.ENOENT)),
+                (server.line() + "POLLFREQ 0\n", "upsmon: upsmon.conf:2: BadNumber\nupsmon: 0: a number from 1 to 1000000 is meant\n"),
+                (server.line("secondary"), NO_PRIMARY),
+                ("MINSUPPLIES 0\n", NO_PRIMARY),
+            ):
+                expect(self.force(conf), (1, "", told), f"{conf}")
             expect(server.asked, [], "what the server is asked")
 
     def test_folder_of_the_environment(self):
         with Forced() as server, tempfile.TemporaryDirectory(dir=self.folder) as folder:
-            with open(os.path.join(folder, "upsmon.conf"), "w") as file:
-                file.write(line_of(server.target))
-            done = subprocess.run([self.upsmon, "--fsd"], capture_output=True, timeout=60, env={**os.environ, "NUT_CONFPATH": folder})
-            expect((done.returncode, done.stdout.decode(), done.stderr), (0, is_set(server.target), b""), "NUT_CONFPATH")
+            write(os.path.join(folder, "upsmon.conf"), line_of(server.target))
+            expect(ended([self.upsmon, "--fsd"], env={**os.environ, "NUT_CONFPATH": folder}), (0, is_set(server.target), ""), "NUT_CONFPATH")
 
     def test_command_lines(self):
         with Forced() as server:
@@ -328,16 +315,14 @@ class Tests(Shimmed):
             (["-u", "nut"], f"-u is not supported: {user}"),
             (["--frobnicate"], None),
         ):
-            done = subprocess.run([self.upsmon, *words], stdin=subprocess.DEVNULL, capture_output=True, text=True, timeout=60)
-            expect((done.returncode, done.stdout, done.stderr[:7], "tip: to pass" in done.stderr), (2, "", "error: ", False), f"{words}")
+            status, out, err = ended([self.upsmon, *words])
+            expect((status, out, err[:7], "tip: to pass" in err), (2, "", "error: ", False), f"{words}")
             last = (f"upsmon: {way}\n" if way else "") + NUTS_OPTIONS.format("upsmon")
-            expect(done.stderr.partition("\nupsmon: ")[1:], ("\nupsmon: ", last[len("upsmon: ") :]), f"what comes last: {words}")
+            expect(err.partition("\nupsmon: ")[1:], ("\nupsmon: ", last[len("upsmon: ") :]), f"what comes last: {words}")
 
     def test_help_has_the_forms_of_the_page(self):
-        done = subprocess.run([self.upsmon, "--help"], stdin=subprocess.DEVNULL, capture_output=True, text=True, timeout=60)
-        forms = re.findall(r"^(?:Usage:|      ) (upsmon .*)$", done.stdout, re.MULTILINE)
-        with open(os.path.join(ROOT, "man", "upsmon.8")) as file:
-            page = file.read().replace("\\-", "-")
+        forms = re.findall(r"^(?:Usage:|      ) (upsmon .*)$", ended([self.upsmon, "--help"])[1], re.MULTILINE)
+        page = read(os.path.join(ROOT, "man", "upsmon.8")).replace("\\-", "-")
         shown = re.findall(r"^\.SY (upsmon\n.*?)\n\.YS$", page, re.MULTILINE | re.DOTALL)
         words = re.compile(r"-?-[a-zA-Z]+|DIR|SECONDS|upsmon")
         expect([words.findall(it) for it in forms], [words.findall(it) for it in shown], "the forms")
@@ -345,28 +330,17 @@ class Tests(Shimmed):
     def test_output_that_is_closed(self):
         """All servers are asked, whoever reads what is told, and none is sent it."""
         down = f"su700@127.0.0.1:{free_port()}"
-        reader, writer = os.pipe()
-        os.close(reader)
-        try:
-            for streams in (
-                {"stdout": writer, "stderr": writer},
-                {"preexec_fn": lambda: (os.close(1), os.close(2))},
-                {"preexec_fn": lambda: os.closerange(0, 3)},
-            ):
-                with Forced() as server, tempfile.TemporaryDirectory(dir=self.folder) as folder:
-                    with open(os.path.join(folder, "upsmon.conf"), "w") as file:
-                        file.write(line_of(down) + line_of(server.target))
-                    done = subprocess.run([self.upsmon, "--fsd", "--conf", folder], timeout=60, **streams)
-                    expect(done.returncode, 1, f"status with {streams}")
-                    expect(b"".join(server.asked).splitlines(), ALL, f"what the server is asked with {streams}")
-        finally:
-            os.close(writer)
+        with streams_without_readers() as streams:
+            for name, options in streams.items():
+                with Forced() as server:
+                    expect(self.force(line_of(down) + line_of(server.target), **options)[0], 1, f"the status with {name}")
+                    expect(server.queries(), ALL, f"what the server is asked with {name}")
 
     def test_memory_refused(self):
         """Each allocation is refused in turn: FSD is set and told, or what failed is told and the status is 1."""
         with Forced() as server:
-            known = "it is unknown whether its machines hear of it: out of memory\n"
-            told = [failed(server.target, "out of memory"), f"upsmon: UPS {server.target}: FSD set, but {known}"]
+            unknown = "it is unknown whether its machines hear of it: out of memory"
+            told = [failed(server.target, "out of memory"), set_but(server.target, unknown)]
             reasons = ["upsmon: out of memory\n", *(it + goes_on(server.target) for it in told)]
             for at, env, is_reached in refusals(self.shim):
                 status, out, err = self.force(line_of(server.target), env={**os.environ, **env})

@@ -21,9 +21,9 @@ import sys
 import tempfile
 import time
 
-from tests.support.harness import FullPipe, apart, cannot_read, ensure, expect, patience, ROOT, Shimmed
-from tests.support.monitored import FLAG, ON_BATTERY, QUICK, SHUTDOWN, Upstream, Watch, children_of, play, put_program
-from tests.support.room import ONLINE, SOON, STATUS, Lines, Room, heed_modes, state_of, stopped, until
+from tests.support.harness import ROOT, FullPipe, apart, cannot_read, ended, ensure, expect, patience, read, read_bytes, write
+from tests.support.monitored import FLAG, ON_BATTERY, QUICK, SHUTDOWN, MonitorTests, Upstream, Watch, children_of, play, put_program
+from tests.support.room import ONLINE, SOON, STATUS, USERS, Lines, heed_modes, said, state_of, stopped, until
 
 WORD = FLAG.strip()
 HALTED = 'SHUTDOWNCMD "touch FOLDER/halted"\n'
@@ -67,34 +67,35 @@ def masked(bits):
         os.umask(before)
 
 
-class Tests(Shimmed):
-    def __init__(self, programs, folder):
-        self.upsd, self.dummy, self.upsc, self.upsmon = programs
-        self.folder = folder
-
+class Tests(MonitorTests):
     def room(self):
-        return Room((self.upsd, self.dummy), self.folder)
+        return super().room(USERS)
 
-    def watch(self, conf, *words, **options):
-        return Watch(self.upsmon, self.folder, conf, *words, **options)
+    def halting(self, conf, *words, delay=0, status=b"FSD", **options):
+        """Starts an upsmon that halts soon, as the primary of a UPS with a forced shutdown or this status."""
+        return self.watched(f"POLLFREQ 1\nHOSTSYNC 1\nFINALDELAY {delay}\n{conf}", *words, status=status, **options)
 
     @contextlib.contextmanager
-    def halting(self, conf, *words, delay=0, program=None, status=b"FSD", **options):
-        """Starts an upsmon, or this program, that halts soon, as the primary of a UPS with a forced shutdown or this status."""
-        with Upstream(status=status) as server:
-            times = f"POLLFREQ 1\nHOSTSYNC 1\nFINALDELAY {delay}\n"
-            conf = f"MONITOR {server.target} 1 mon m1 primary\n{times}{conf}"
-            with Watch(program or self.upsmon, self.folder, conf, *words, **options) as watch:
-                yield server, watch
+    def flag(self, held=None):
+        """The path of a POWERDOWNFLAG in a folder of its own, in which nothing is, or a file that holds this."""
+        with tempfile.TemporaryDirectory(dir=self.folder) as folder:
+            path = os.path.join(folder, "flag")
+            if held is not None:
+                write(path, held)
+            yield path
+            os.chmod(folder, 0o700)
+
+    def expect_halt(self, watch, *told):
+        """Expects that SHUTDOWNCMD runs, and that standard error has these lines, or lines that begin so before a colon."""
+        expect((watch.status(), watch.read("halted")), (0, b""), "the halt")
+        expect(fronts(watch.told(), told), [*told], "what is told")
+        expect([it for it in told if it[-2:] != ": " and it not in watch.told()], [], "whole lines")
 
     def key(self, folder, conf=None, **options):
         """Returns the status of 'upsmon -K', and what it writes."""
         if conf is not None:
-            with open(os.path.join(folder, "upsmon.conf"), "w") as file:
-                file.write(f"MONITOR su700@localhost 1 mon m1 primary\n{conf}")
-        words = [self.upsmon, "-K", *options.pop("words", ["--conf", folder])]
-        done = subprocess.run(words, stdin=subprocess.DEVNULL, capture_output=True, timeout=60, **options)
-        return done.returncode, done.stdout, done.stderr
+            write(os.path.join(folder, "upsmon.conf"), f"MONITOR su700@localhost 1 mon m1 primary\n{conf}")
+        return ended([self.upsmon, "-K", *options.pop("words", ["--conf", folder])], **options)
 
     # From here on, each method whose name begins with 'test_' is a test.
 
@@ -108,18 +109,14 @@ class Tests(Shimmed):
             ("upsmon", self.upsmon, "--no-such-option"),
         ):
             for most in (128, 256, STACK - 1):
-                done = subprocess.run(words, stdin=subprocess.DEVNULL, capture_output=True, timeout=60, preexec_fn=stack(most))
                 told = f"{name}: the stack is limited to {most} KiB; {STACK} are needed\n"
-                expect((done.returncode, done.stdout, done.stderr.decode()), (1, b"", told), f"{words} with {most} KiB")
+                expect(ended(words, preexec_fn=stack(most)), (1, "", told), f"{words} with {most} KiB")
 
     def test_enough_stack(self):
         """Each daemon runs with the stack that it asks for: a dump of all that fits, long lists, a reload, a fault, a halt."""
         with self.room() as room:
             names = b"".join(b"ambient.%d.status: %s\n" % (i, b"x" * 400) for i in range(400))
-            with open(room.path("su700.dev"), "wb") as file:
-                file.write(names + b"ups.status: OL\n")
-            words = [self.dummy, room.path("su700.dev"), room.path("dummy-ups-su700")]
-            dummy = room.start(words, preexec_fn=stack(STACK))
+            dummy = room.dummy(names + b"ups.status: OL\n", preexec_fn=stack(STACK))
             upsd = room.upsd(preexec_fn=stack(STACK))
             lines = Lines(upsd)
             room.until(STATUS, ONLINE, patience(SOON))
@@ -128,31 +125,25 @@ class Tests(Shimmed):
                 expect(len(client.list(b"LIST VAR su700\n")), 403, "a list")
                 expect(client.ask(b"INSTCMD su700 load.off\n"), b"OK\n", "a command")
             for text, told in ((b"[su700]\n[b]\n", "upsd: reloaded: UPS b added"), (b"[a]\n[a]\n", "upsd: not reloaded")):
-                with open(room.path("ups.conf"), "wb") as file:
-                    file.write(text)
-                open(room.path("reload"), "w").close()
+                room.reload(text)
                 lines.next(told)
             expect((dummy.poll(), upsd.poll()), (None, None), "the daemons that run")
         conf = f"POWERDOWNFLAG FOLDER/flag\nNOTIFYCMD true\nNOTIFYFLAG FSD EXEC\n{HALTED}"
         with self.halting(conf, preexec_fn=stack(STACK)) as (_, watch):
-            expect((watch.status(), watch.read("flag"), watch.read("halted")), (0, FLAG, b""), "a halt")
+            self.expect_halt(watch)
+            expect(watch.read("flag"), FLAG, "the flag")
 
     def test_full_output_holds_up_no_halt(self):
         notices = "".join(f"NOTIFYFLAG {it} SYSLOG+EXEC\n" for it in ("ONBATT", "LOWBATT", "SHUTDOWN"))
+        conf = f"{QUICK}{notices}NOTIFYCMD FOLDER/none\nPOWERDOWNFLAG FOLDER/flag\n{HALTED}"
         for names in (("stdout",), ("stderr",), ("stdout", "stderr")):
-            with FullPipe() as pipe, Upstream(status=b"OB LB") as server:
-                conf = f"MONITOR {server.target} 1 mon m1 primary\n{QUICK}{notices}NOTIFYCMD FOLDER/none\n"
-                streams = {name: pipe.writer for name in names}
-                with self.watch(f"{conf}POWERDOWNFLAG FOLDER/flag\n{HALTED}", **streams) as watch:
-                    expect(watch.status(), 0, f"status with a full pipe as {names}")
-                    expect((watch.read("flag"), watch.read("halted")), (FLAG, b""), f"the halt with a full pipe as {names}")
+            with FullPipe() as pipe, self.watched(conf, status=b"OB LB", **{name: pipe.writer for name in names}) as (_, watch):
+                expect(watch.status(), 0, f"status with a full pipe as {names}")
+                expect((watch.read("flag"), watch.read("halted")), (FLAG, b""), f"the halt with a full pipe as {names}")
 
     def test_full_output_holds_up_no_failed_halt(self):
         with FullPipe() as pipe, self.halting('SHUTDOWNCMD "exit 3"\n', stdout=pipe.writer, stderr=pipe.writer) as (_, watch):
             expect(watch.status(), 1, "status")
-        with FullPipe() as pipe:
-            done = subprocess.run([self.upsmon, "--conf", self.folder], stderr=pipe.writer, timeout=60)
-            expect(done.returncode, 1, "status without a configuration")
 
     def test_full_output_holds_up_no_shutdown_command(self):
         """A stream that takes nothing is /dev/null for a command that writes much, and the other one stays."""
@@ -173,20 +164,16 @@ class Tests(Shimmed):
                 expect((watch.status(), watch.read("halted")), (0, b""), f"the halt without a reader of {names}")
 
     def test_lines_that_were_let_go_are_counted(self):
-        with FullPipe() as pipe, Upstream() as server:
-            target = server.target
-            with self.watch(f"MONITOR {target} 1 mon m1 secondary\nPOLLFREQ 1\n", stdout=pipe.writer) as watch:
-                for status in (b"OB", b"OL", b"OB"):
-                    server.statuses[b"su700"] = status
-                    seen = server.asked.count(STATUS)
-                    # the next answer has it, and has been heard once another query comes
-                    until(lambda: server.asked.count(STATUS) >= seen + 2, "the status is asked for")
-                expect(pipe.read(), b"", "nothing is printed where there is no room")
-                server.statuses[b"su700"] = b"OL"
-                told = f"upsmon: 3 log lines dropped (output blocked)\nUPS {target} on line power\n".encode()
-                until(lambda: told == pipe.read() or watch.process.poll(), "what was let go is told")
-                server.statuses[b"su700"] = b"OB"
-                until(lambda: (ON_BATTERY % target + "\n").encode() == pipe.read(), "the next line comes alone")
+        with FullPipe() as pipe, self.watched("POLLFREQ 1\n", role="secondary", stdout=pipe.writer) as (server, watch):
+            for status in (b"OB", b"OL", b"OB"):
+                server.statuses[b"su700"] = status
+                server.until_asked_again(2)
+            expect(pipe.read(), b"", "nothing is printed where there is no room")
+            server.statuses[b"su700"] = b"OL"
+            told = f"upsmon: 3 log lines dropped (output blocked)\nUPS {server.target} on line power\n".encode()
+            until(lambda: told == pipe.read() or watch.process.poll(), "what was let go is told")
+            server.statuses[b"su700"] = b"OB"
+            until(lambda: (ON_BATTERY % server.target + "\n").encode() == pipe.read(), "the next line comes alone")
 
     def test_full_error_output_of_the_server(self):
         with FullPipe() as pipe, self.room() as room:
@@ -201,132 +188,110 @@ class Tests(Shimmed):
 
     def test_full_error_output_at_the_end(self):
         with FullPipe() as pipe:
-            for words in ([self.upsd, "--conf", self.folder, "-s", self.folder], [self.dummy, "none.dev", "none"], [self.upsd, "-x"]):
-                done = subprocess.run(words, stdin=subprocess.DEVNULL, stderr=pipe.writer, timeout=60)
-                expect(done.returncode in (1, 2), True, f"{words}")
+            conf = ("--conf", self.folder)
+            for status, words in (
+                (1, [self.upsd, *conf, "-s", self.folder]),
+                (1, [self.dummy, "none.dev", "none"]),
+                (1, [self.upsmon, *conf]),
+                (2, [self.upsd, "-x"]),
+            ):
+                expect(ended(words, stderr=pipe.writer)[0], status, f"{words}")
 
     def test_stale_flag(self):
         for held in (FLAG, WORD):
-            with Upstream() as server, tempfile.TemporaryDirectory(dir=self.folder) as folder:
-                flag = os.path.join(folder, "flag")
-                with open(flag, "wb") as file:
-                    file.write(held)
-                conf = f"MONITOR {server.target} 1 mon m1 primary\nPOWERDOWNFLAG {flag}\n{HALTED}"
-                with self.watch(conf) as watch:
-                    until(lambda: STATUS in server.asked, "the status is asked for")
-                    expect(os.path.exists(flag), False, "a flag of an earlier shutdown")
-                    said = f"upsmon: POWERDOWNFLAG {flag} of an earlier shutdown is removed"
-                    expect(said in watch.lines("err"), True, "that it is removed")
+            with self.flag(held) as flag, self.watched(f"POWERDOWNFLAG {flag}\n{HALTED}") as (server, watch):
+                server.until_asked()
+                expect(os.path.exists(flag), False, "a flag of an earlier shutdown")
+                watch.until_told(f"upsmon: POWERDOWNFLAG {flag} of an earlier shutdown is removed")
 
     def test_stale_flag_without_descriptors(self):
         """An upsmon that reads its file removes a flag that was left, even if it has too few descriptors to watch."""
-        with tempfile.TemporaryDirectory(dir=self.folder) as folder:
-            flag, ended = os.path.join(folder, "flag"), 0
-            conf = f"MONITOR su700@127.0.0.1:1 1 mon m1 primary\nPOWERDOWNFLAG {flag}\n{HALTED}"
-            for few in range(4, 13):
-                with open(flag, "wb") as file:
-                    file.write(FLAG)
-                limit = functools.partial(resource.setrlimit, resource.RLIMIT_NOFILE, (few, few))
+        ended_early = 0
+        for few in range(4, 13):
+            limit = functools.partial(resource.setrlimit, resource.RLIMIT_NOFILE, (few, few))
+            with self.flag(FLAG) as flag:
+                conf = f"MONITOR su700@127.0.0.1:1 1 mon m1 primary\nPOWERDOWNFLAG {flag}\n{HALTED}"
                 with self.watch(conf, "-q", preexec_fn=limit) as watch:
                     until(lambda: watch.process.poll() is not None or not os.path.exists(flag), f"{few} descriptors")
                     if "upsmon: upsmon.conf: cannot read" not in watch.lines("err"):
                         expect(os.path.exists(flag), False, f"a flag of an earlier shutdown with {few} descriptors")
                         with contextlib.suppress(subprocess.TimeoutExpired):
-                            ended += watch.process.wait(1) == 1
-            ensure(ended > 1, f"{ended} ended before they watched")
+                            ended_early += watch.process.wait(1) == 1
+        ensure(ended_early > 1, f"{ended_early} ended before they watched")
 
     def test_foreign_flag(self):
         # devices without a driver
         devices = [functools.partial(os.mknod, mode=kind | 0o600) for kind in (stat.S_IFCHR, stat.S_IFBLK)]
         for lay in (self.file_of(b"mine\n"), self.file_of(b"\n"), os.mkfifo, os.mkdir, self.link, self.socket_at, *devices):
-            with tempfile.TemporaryDirectory(dir=self.folder) as folder:
-                flag = os.path.join(folder, "flag")
+            with self.flag() as flag:
                 try:
                     lay(flag)
                 except PermissionError:
                     ensure(lay in devices, f"{lay} is refused")
                     continue
-                before = self.look(folder)
-                with self.halting(f"POWERDOWNFLAG {flag}\n{HALTED}", "-q") as (server, watch):
-                    expect(watch.status(), 0, "status")
-                    expect(watch.read("halted"), b"", "SHUTDOWNCMD is run all the same")
-                    told = [f"upsmon: POWERDOWNFLAG {flag} {FOREIGN}", f"upsmon: POWERDOWNFLAG {flag} {FOREIGN}"]
-                    expect(watch.told(), told, "what is told")
-                expect(self.look(folder), before, f"what lies there: {lay}")
+                before = self.look(flag)
+                with self.halting(f"POWERDOWNFLAG {flag}\n{HALTED}", "-q") as (_, watch):
+                    self.expect_halt(watch, *[f"upsmon: POWERDOWNFLAG {flag} {FOREIGN}"] * 2)
+                expect(self.look(flag), before, f"what lies there: {lay}")
 
     def test_empty_flag(self):
         """An empty file is no flag, and becomes it at the halt, even if upsmon may not read it. What was written to it before stays."""
         for mode, held in ((0o600, b""), (0o000, b""), (0o600, b"mine\n")):
-            with tempfile.TemporaryDirectory(dir=self.folder) as folder:
-                flag = os.path.join(folder, "flag")
-                self.file_of(b"")(flag)
+            with self.flag(b"") as flag:
                 os.chmod(flag, mode)
-                conf = f"POWERDOWNFLAG {flag}\n{HALTED}"
-                with self.halting(conf, "-q", delay=2, preexec_fn=heed_modes) as (_, watch):
+                with self.halting(f"POWERDOWNFLAG {flag}\n{HALTED}", "-q", delay=2, preexec_fn=heed_modes) as (_, watch):
                     watch.until_printed(SHUTDOWN)
                     with stopped(watch.process):
-                        expect(set(self.look(folder)), {"flag", "flag.new"}, "what lies there before the halt")
+                        expect(set(self.look(flag)), {"flag", "flag.new"}, "what lies there before the halt")
                         expect(self.key(watch.folder)[0], 1, "the flag isn't set")
                         if held:
-                            self.file_of(held)(flag)
-                    told = [f"upsmon: POWERDOWNFLAG {flag} {FOREIGN}"] if held else []
-                    expect((watch.status(), watch.told(), watch.read("halted")), (0, told, b""), "the halt")
+                            write(flag, held)
+                    self.expect_halt(watch, *[f"upsmon: POWERDOWNFLAG {flag} {FOREIGN}"] * bool(held))
                     expect(self.key(watch.folder)[0], 1 if held else 0, "whether the flag is set")
-                with open(flag, "rb") as file:
-                    expect(file.read(), held or FLAG, f"what the file holds, of mode {mode:o}")
+                expect(read_bytes(flag), held or FLAG, f"what the file holds, of mode {mode:o}")
 
     def file_of(self, held):
-        def lay(path):
-            with open(path, "wb") as file:
-                file.write(held)
-
-        return lay
+        return lambda path: write(path, held)
 
     def link(self, path):
         """A link to a flag: the file that it leads to isn't upsmon's to remove."""
-        self.file_of(FLAG)(path + ".other")
+        write(path + ".other", FLAG)
         os.symlink(path + ".other", path)
 
     def socket_at(self, path):
         with socket.socket(socket.AF_UNIX) as it:
             it.bind(path)
 
-    def look(self, folder):
-        """Returns the visible state of each file of a folder."""
+    def look(self, path):
+        """Returns the visible state of each file of the folder that this file is in."""
         seen = {}
-        for name in os.listdir(folder):
-            at = os.lstat(os.path.join(folder, name))
+        for name in os.listdir(os.path.dirname(path)):
+            at = os.lstat(os.path.join(os.path.dirname(path), name))
             seen[name] = (at.st_mode, at.st_ino, at.st_mtime_ns, at.st_size)
         return seen
 
     def test_flag_is_its_owners(self):
-        with tempfile.TemporaryDirectory(dir=self.folder) as folder:
-            flag = os.path.join(folder, "flag")
+        with self.flag() as flag:
             # left behind by an upsmon that was killed while it wrote
-            self.file_of(b"upsm")(flag + ".new")
+            write(flag + ".new", b"upsm")
             with self.halting(f"POWERDOWNFLAG {flag}\n{HALTED}", preexec_fn=lambda: os.umask(0)) as (_, watch):
                 expect(watch.status(), 0, "status")
-            with open(flag, "rb") as file:
-                expect(file.read(), FLAG, "what the flag holds")
-            expect(oct(stat.S_IMODE(os.stat(flag).st_mode)), "0o600", "the flag's mode")
+            expect((read_bytes(flag), oct(stat.S_IMODE(os.stat(flag).st_mode))), (FLAG, "0o600"), "what the flag holds, and its mode")
             expect(os.path.exists(flag + ".new"), False, "the new file")
 
     def test_flag_is_ready(self):
         """The new file is there before the halt, and no flag yet. If something else has its name at the halt, or nothing, it is
         written then."""
         for change in (lambda new: None, os.remove, self.file_of(b"upsm"), self.pipe_at):
-            with tempfile.TemporaryDirectory(dir=self.folder) as folder:
-                flag = os.path.join(folder, "flag")
+            with self.flag() as flag:
                 with self.halting(f"POWERDOWNFLAG {flag}\n{HALTED}", "-q", delay=2) as (_, watch):
                     watch.until_printed(SHUTDOWN)
                     with stopped(watch.process):
-                        expect(set(self.look(folder)), {"flag.new"}, "what lies there before the halt")
+                        expect(set(self.look(flag)), {"flag.new"}, "what lies there before the halt")
                         expect(self.key(watch.folder)[0], 1, "the flag isn't set")
                         change(flag + ".new")
-                    expect((watch.status(), watch.told()), (0, []), "the halt")
-                with open(flag, "rb") as file:
-                    expect(file.read(), FLAG, "what the flag holds")
-                expect(set(self.look(folder)), {"flag"}, "what lies there after the halt")
+                    self.expect_halt(watch)
+                expect((read_bytes(flag), set(self.look(flag))), (FLAG, {"flag"}), "what the flag holds, and what lies there")
 
     def pipe_at(self, path):
         os.remove(path)
@@ -349,15 +314,10 @@ class Tests(Shimmed):
 
     def test_flag_that_cannot_be_written(self):
         """It is told at the start, and at the halt."""
-        with tempfile.TemporaryDirectory(dir=self.folder) as folder:
-            flag = os.path.join(folder, "flag")
-            os.chmod(folder, 0o500)
+        with self.flag() as flag:
+            os.chmod(os.path.dirname(flag), 0o500)
             with self.halting(f"POWERDOWNFLAG {flag}\n{HALTED}", "-q", preexec_fn=heed_modes) as (_, watch):
-                expect(watch.status(), 0, "status")
-                expect(watch.read("halted"), b"", "SHUTDOWNCMD is run all the same")
-                wanted = [f"upsmon: POWERDOWNFLAG {flag} cannot be written: "] * 2
-                expect(fronts(watch.told(), wanted), wanted, "what is told")
-            os.chmod(folder, 0o700)
+                self.expect_halt(watch, *[f"upsmon: POWERDOWNFLAG {flag} cannot be written: "] * 2)
 
     def test_check_tells_of_the_flag(self):
         """It says what the start says of the flag, removes none, and leaves no file."""
@@ -382,10 +342,10 @@ class Tests(Shimmed):
             ):
                 if lay is not None:
                     lay(path)
-                before = self.look(folder), self.look(closed)
+                before = self.look(flag), self.look(os.path.join(closed, "flag"))
                 told = [it % path for it in wanted]
                 expect(fronts(self.checked(f"POWERDOWNFLAG {path}\n", role), told), told, f"what is told of {path} on a {role}")
-                after = self.look(folder), self.look(closed)
+                after = self.look(flag), self.look(os.path.join(closed, "flag"))
                 # a file was made there meanwhile, so a folder's time may differ
                 expect([set(it) for it in after], [set(it) for it in before], f"what lies there: {path}")
                 expect(after[0].get("flag"), before[0].get("flag"), "the flag")
@@ -396,60 +356,48 @@ class Tests(Shimmed):
     def checked(self, conf, role):
         """Returns what 'upsmon --check' warns of for a machine that needs no UPS."""
         with tempfile.TemporaryDirectory(dir=self.folder) as folder:
-            with open(os.path.join(folder, "upsmon.conf"), "w") as file:
-                file.write(f"MONITOR su700@localhost 1 mon m1 {role}\nMINSUPPLIES 0\nSHUTDOWNCMD true\n{conf}")
-            words = [self.upsmon, "--check", "--conf", folder]
-            done = subprocess.run(words, stdin=subprocess.DEVNULL, capture_output=True, timeout=60, preexec_fn=heed_modes)
-            expect(done.returncode, 0, "status")
-        return done.stderr.decode().splitlines()
+            conf = f"MONITOR su700@localhost 1 mon m1 {role}\nMINSUPPLIES 0\nSHUTDOWNCMD true\n{conf}"
+            write(os.path.join(folder, "upsmon.conf"), conf)
+            status, _, err = ended([self.upsmon, "--check", "--conf", folder], preexec_fn=heed_modes)
+        expect(status, 0, "status")
+        return err.splitlines()
 
     def test_flag_that_cannot_be_removed(self):
         """A flag of an earlier shutdown in a folder in which upsmon may not write: it stays, and the machine is halted."""
-        with tempfile.TemporaryDirectory(dir=self.folder) as folder:
-            flag = os.path.join(folder, "flag")
-            self.file_of(FLAG)(flag)
-            os.chmod(folder, 0o500)
-            before = self.look(folder)
+        with self.flag(FLAG) as flag:
+            os.chmod(os.path.dirname(flag), 0o500)
+            before = self.look(flag)
             with self.halting(f"POWERDOWNFLAG {flag}\n{HALTED}", "-q", preexec_fn=heed_modes) as (_, watch):
-                expect(watch.status(), 0, "status")
-                expect(watch.read("halted"), b"", "SHUTDOWNCMD is run all the same")
-                wanted = [f"upsmon: POWERDOWNFLAG {flag} cannot be removed: ", f"upsmon: POWERDOWNFLAG {flag} cannot be written: "]
-                expect(fronts(watch.told(), wanted), wanted, "what is told")
-            expect(self.look(folder), before, "what lies there")
-            os.chmod(folder, 0o700)
+                self.expect_halt(watch, *(f"upsmon: POWERDOWNFLAG {flag} cannot be {it}: " for it in ("removed", "written")))
+            expect(self.look(flag), before, "what lies there")
 
     def test_is_the_flag_set(self):
-        with tempfile.TemporaryDirectory(dir=self.folder) as folder:
-            flag = os.path.join(folder, "flag")
-            conf = f"POWERDOWNFLAG {flag}\n"
-            expect(self.key(folder, ""), (1, b"", b""), "no POWERDOWNFLAG")
-            expect(self.key(folder, conf), (1, b"", b""), "no flag")
-            for held, status in ((FLAG, 0), (WORD, 0), (b"upsmon-shutdown-files", 1), (b"", 1), (b"mine\n", 1)):
-                self.file_of(held)(flag)
-                expect(self.key(folder, conf), (status, b"", b""), f"{held!r}")
-            self.file_of(FLAG)(flag)
+        with self.flag() as flag:
+            folder, conf = os.path.dirname(flag), f"POWERDOWNFLAG {flag}\n"
+            expect(self.key(folder, ""), (1, "", ""), "no POWERDOWNFLAG")
+            expect(self.key(folder, conf), (1, "", ""), "no flag")
+            for held, status in ((b"upsmon-shutdown-files", 1), (b"", 1), (b"mine\n", 1), (WORD, 0), (FLAG, 0)):
+                write(flag, held)
+                expect(self.key(folder, conf), (status, "", ""), f"{held!r}")
             named = {**os.environ, "NUT_CONFPATH": folder}
-            expect(self.key(folder, env=named, words=[]), (0, b"", b""), "NUT_CONFPATH")
-            told = b"upsmon: upsmon.conf:2: BadNumber\nupsmon: x: a number from 1 to 1000000 is meant\n"
-            expect(self.key(folder, "POLLFREQ x\n", env=named, words=[]), (1, b"", told), "a fault")
+            expect(self.key(folder, env=named, words=[]), (0, "", ""), "NUT_CONFPATH")
+            told = "upsmon: upsmon.conf:2: BadNumber\nupsmon: x: a number from 1 to 1000000 is meant\n"
+            expect(self.key(folder, "POLLFREQ x\n", env=named, words=[]), (1, "", told), "a fault")
             told = cannot_read("upsmon", "upsmon.conf", folder + "/none/upsmon.conf", errno.ENOENT)
-            expect(self.key(folder, words=["--conf", folder + "/none"]), (1, b"", told.encode()), "no file")
+            expect(self.key(folder, words=["--conf", folder + "/none"]), (1, "", told), "no file")
             path = os.path.join(folder, "upsmon.conf")
-            os.remove(path)
             # nobody writes to it, so a read would wait for ever
-            os.mkfifo(path)
-            told = cannot_read("upsmon", "upsmon.conf", path, "not a plain file")
-            expect(self.key(folder), (1, b"", told.encode()), "a pipe in place of the file")
+            self.pipe_at(path)
+            expect(self.key(folder), (1, "", cannot_read("upsmon", "upsmon.conf", path, "not a plain file")), "a pipe in place of the file")
             os.remove(path)
-            os.remove(flag)
-            os.mkfifo(flag)
-            expect(self.key(folder, conf), (1, b"", b""), "a pipe")
+            self.pipe_at(flag)
+            expect(self.key(folder, conf), (1, "", ""), "a pipe")
 
     def test_is_the_flag_set_in_a_file_with_a_fault(self):
         """A fault that came into the file while upsmon was running keeps no UPS from cutting its power."""
         with tempfile.TemporaryDirectory(dir=self.folder) as folder:
             flag, other = (os.path.join(folder, it) for it in ("flag", "other"))
-            self.file_of(FLAG)(flag)
+            write(flag, FLAG)
             taken = "upsmon: CERTPATH isn't taken here: see from-nut(7)\n"
             repeated = "upsmon: POWERDOWNFLAG: a line before has it\n"
             power = "upsmon: the power values of the MONITOR lines sum to less than MINSUPPLIES, which is 1 unless it is set\n"
@@ -470,9 +418,9 @@ class Tests(Shimmed):
                 (f"POWERDOWNFLAG {flag}\nMINSUPPLIES 2\n", 0, f"0: PastLimit\n{power}"),
             ):
                 found, out, err = self.key(folder, conf)
-                expect((found, out), (status, b""), f"{conf}, which {err!r}")
+                expect((found, out), (status, ""), f"{conf}, which {err!r}")
                 if fault is not None:
-                    expect(err.decode(), f"upsmon: upsmon.conf:{fault}", conf)
+                    expect(err, f"upsmon: upsmon.conf:{fault}", conf)
 
     def test_warnings(self):
         asks, late = "is above", "POLLFREQ %d and 2 s for an answer are above DEADTIME %d"
@@ -488,28 +436,22 @@ class Tests(Shimmed):
             (HALTED + "DEADTIME 6\n", 0o600, [late % (5, 6)]),
             (HALTED + "DEADTIME 7\n", 0o600, []),
         ):
-            with Upstream() as server, masked(0o666 & ~mode):
-                with self.watch(f"MONITOR {server.target} 1 mon m1 primary\n{conf}", "-q") as watch:
-                    until(lambda: STATUS in server.asked, "the status is asked for")
-                    said = watch.lines("err")
-                    expect(len(said), len(wanted), f"{conf} {mode:o}: {said}")
-                    for line, front in zip(said, wanted):
-                        expect(line.startswith(f"upsmon: {front}"), True, line)
+            with masked(0o666 & ~mode), self.watched(conf, "-q") as (server, watch):
+                server.until_asked()
+                told = [f"upsmon: {front}" for front in wanted]
+                expect(fronts(watch.lines("err"), told), told, f"{conf} {mode:o}")
 
     def test_readable_users(self):
         for mode, wanted in ((0o640, []), (0o604, ["upsd: upsd.users holds passwords, and everybody can read it (mode 604)"])):
             with self.room() as room:
                 os.chmod(room.path("upsd.users"), mode)
-                with open(room.path("err"), "wb") as err:
-                    room.upsd("-q", stderr=err)
-                with open(room.path("err")) as file:
-                    expect(file.read().splitlines(), wanted, f"mode {mode:o}")
+                upsd = room.upsd("-q")
+                expect(said(upsd), wanted, f"mode {mode:o}")
 
     @contextlib.contextmanager
     def without_starts(self, **settings):
         """The name of a file that is there, and the environment of a program that can start no process while it is."""
-        none = os.path.join(self.folder, "none-starts")
-        self.file_of(b"")(none)
+        none = write(os.path.join(self.folder, "none-starts"), b"")
         try:
             yield none, self.refusing_starts(none, **settings)
         finally:
@@ -520,21 +462,17 @@ class Tests(Shimmed):
         with self.without_starts() as (none, env), self.halting(HALTED, "-q", env=env) as (_, watch):
             until(lambda: any(it.startswith(NOT_YET) for it in watch.lines("err")), "that it can't be started")
             os.remove(none)
-            expect(watch.status(), 0, "status")
-            wanted = [NO_SHELL, NOT_YET]
-            expect(fronts(watch.told(), wanted), wanted, "it is tried again, and told once")
-            expect(watch.read("halted"), b"", "the halt")
+            # it is tried again, and told once
+            self.expect_halt(watch, NO_SHELL, NOT_YET)
 
     def test_shell_that_never_comes(self):
         naps = {"REFUSE": "sleep", "REFUSE_COUNT": self.shim + ".naps"}
         conf = "POWERDOWNFLAG FOLDER/flag\nSHUTDOWNCMD true\n"
         with self.without_starts(**naps) as (_, env), self.halting(conf, "-q", env=env) as (_, watch):
-            expect(watch.status(), 1, "status")
-            expect(watch.read("flag"), FLAG, "POWERDOWNFLAG")
             wanted = [NO_SHELL, NOT_YET, NOT_STARTED]
+            expect((watch.status(), watch.read("flag")), (1, FLAG), "status, and POWERDOWNFLAG")
             expect(fronts(watch.told(), wanted), wanted, "what is told")
-            with open(self.shim + ".naps") as file:
-                expect(file.read(), "30\n", "how often it waits for a second")
+            expect(read(self.shim + ".naps"), "30\n", "how often it waits for a second")
 
     @contextlib.contextmanager
     def halting_without_memory(self, command=HALTED, **streams):
@@ -544,7 +482,7 @@ class Tests(Shimmed):
         env = self.refusing_memory(gone)
         with self.halting(f"POWERDOWNFLAG FOLDER/flag\n{command}", "-q", delay=3, env=env, **streams) as (_, watch):
             watch.until_printed(SHUTDOWN)
-            self.file_of(b"")(gone)
+            write(gone, b"")
             try:
                 yield watch, gone
             finally:
@@ -553,8 +491,8 @@ class Tests(Shimmed):
 
     def test_halt_without_memory(self):
         with self.halting_without_memory() as (watch, _):
-            expect(watch.status(), 0, "status")
-            expect((watch.read("flag"), watch.read("halted"), watch.told()), (FLAG, b"", []), "the halt")
+            self.expect_halt(watch)
+            expect(watch.read("flag"), FLAG, "the flag")
 
     def test_halt_without_memory_and_readers(self):
         with FullPipe() as pipe, self.halting_without_memory(command=LOUD, stderr=pipe.writer) as (watch, _):
@@ -568,8 +506,7 @@ class Tests(Shimmed):
             until(lambda: any(it.startswith(NOT_YET) for it in watch.lines("err")), "the start is tried again", 20)
             expect((watch.read("flag"), watch.read("halted")), (FLAG, None), "what is done without memory")
             os.remove(gone)
-            expect(watch.status(), 0, f"status: {watch.lines('err')}")
-            expect(watch.read("halted"), b"", "the halt")
+            expect((watch.status(), watch.read("halted")), (0, b""), f"the halt: {watch.lines('err')}")
 
     def test_folder_of_the_path_that_never_answers(self):
         """A name is looked up, a UPS asked, and NOTIFYCMD and SHUTDOWNCMD run, although upsmon itself would wait for ever if it
@@ -577,7 +514,6 @@ class Tests(Shimmed):
         with tempfile.TemporaryDirectory(dir=self.folder) as folder, Upstream(status=b"FSD") as server:
             dead, answers = (os.path.join(folder, it) for it in ("dead", "answers"))
             os.mkdir(dead)
-            os.mkdir(answers)
             for name, script in (("getent", "echo 127.0.0.1 STREAM"), ("upsc", "echo 1")):
                 put_program(os.path.join(answers, name), script)
             path = f"{dead}:{answers}:{os.environ['PATH']}"
@@ -586,14 +522,12 @@ class Tests(Shimmed):
             notes = "NOTIFYFLAG SHUTDOWN SYSLOG+EXEC\nNOTIFYCMD \"touch FOLDER/noted; true\"\n"
             conf = f"MONITOR {target} 1 mon m1 primary\n{QUICK}{notes}{HALTED}"
             with self.watch(conf, "-q", env=env) as watch:
-                expect((watch.status(), watch.read("halted"), watch.told()), (0, b"", []), "the halt")
+                self.expect_halt(watch)
                 until(lambda: watch.read("noted") == b"", "NOTIFYCMD is run")
-            with open(os.path.join(folder, "upsmon.conf"), "w") as file:
-                file.write(conf)
-            words = [self.upsmon, "--check", "--conf", folder]
-            done = subprocess.run(words, stdin=subprocess.DEVNULL, capture_output=True, timeout=60, env=env)
+            write(os.path.join(folder, "upsmon.conf"), conf)
+            _, _, err = ended([self.upsmon, "--check", "--conf", folder], env=env)
             warning = f"upsmon: UPS {target}: battery.runtime.low is 1 s, but this machine may shut down as late as"
-            expect(fronts(done.stderr.decode().splitlines(), [warning]), [warning], "what is told of the UPS")
+            expect(fronts(err.splitlines(), [warning]), [warning], "what is told of the UPS")
 
     def test_halt_without_dev_null(self):
         """SHUTDOWNCMD runs although /dev/null isn't there, with streams that take nothing and with others."""
@@ -616,33 +550,30 @@ class Tests(Shimmed):
 
     def wrapped(self, name, command):
         """Returns the path of a program that runs this command with its own arguments behind."""
-        path = os.path.join(self.folder, name)
-        put_program(path, f'exec {shlex.join(command)} "$@"')
-        return path
+        return put_program(os.path.join(self.folder, name), f'exec {shlex.join(command)} "$@"')
 
     def test_shell_that_was_ended(self):
         with self.halting(HALTED, "-q", delay=3) as (_, watch):
             watch.until_printed(SHUTDOWN)
             self.end_shell(watch)
             until(lambda: watch.told() == [REPLACED], "that another shell waits")
-            expect(watch.status(), 0, "status")
-            expect((watch.read("halted"), watch.told()), (b"", [REPLACED]), "another one runs SHUTDOWNCMD")
+            self.expect_halt(watch, REPLACED)
 
     def test_shell_that_was_ended_long_before(self):
         """Another shell waits in its place within a second or two, and what ended is waited for."""
-        with Upstream() as server, self.watch(f"MONITOR {server.target} 1 mon m1 primary\n{QUICK}{HALTED}", "-q") as watch:
-            until(lambda: STATUS in server.asked, "the status is asked for")
-            (ended,) = children_of(watch.process.pid)
+        with self.watched(QUICK + HALTED, "-q") as (server, watch):
+            server.until_asked()
+            (former,) = children_of(watch.process.pid)
             self.end_shell(watch)
             until(lambda: watch.told() == [REPLACED], "that another shell waits")
-            until(lambda: children_of(watch.process.pid) not in ([ended], []), "it waits")
+            until(lambda: children_of(watch.process.pid) not in ([former], []), "it waits")
             server.statuses[b"su700"] = b"FSD"
             expect((watch.status(), watch.read("halted")), (0, b""), "the halt")
 
     def test_shell_that_was_stopped(self):
         """A shell that is stopped alone is continued, and upsmon says so once for each time."""
-        with Upstream() as server, self.watch(f"MONITOR {server.target} 1 mon m1 primary\n{QUICK}{HALTED}", "-q") as watch:
-            until(lambda: STATUS in server.asked, "the status is asked for")
+        with self.watched(QUICK + HALTED, "-q") as (server, watch):
+            server.until_asked()
             (shell,) = children_of(watch.process.pid)
             for times in (1, 2):
                 os.kill(shell, signal.SIGSTOP)
@@ -678,8 +609,7 @@ class Tests(Shimmed):
         ignore = {"preexec_fn": lambda: signal.signal(signal.SIGCHLD, signal.SIG_IGN)}
         for command in (HALTED, 'SHUTDOWNCMD "touch FOLDER/halted; exit 3"\n'):
             with self.halting(command, "-q", **ignore) as (_, watch):
-                expect((watch.status(), watch.read("halted")), (0, b""), "the halt")
-                expect(watch.told(), [UNTOLD], "what is told")
+                self.expect_halt(watch, UNTOLD)
 
     def end_shell(self, watch):
         """Kills the shell that waits for the halt."""
@@ -690,8 +620,8 @@ class Tests(Shimmed):
     def test_shell_that_waits_ends_with_its_monitor(self):
         """However upsmon ends, its shell ends too and runs nothing, whether it gets the signal itself or not."""
         for number, at_all in ((signal.SIGTERM, False), (signal.SIGTERM, True), (signal.SIGKILL, False)):
-            with Upstream() as server, self.watch(f"MONITOR {server.target} 1 mon m1 primary\n{HALTED}") as watch:
-                until(lambda: STATUS in server.asked, "the status is asked for")
+            with self.watched(HALTED) as (server, watch):
+                server.until_asked()
                 (shell,) = children_of(watch.process.pid)
                 if at_all:
                     watch.signal(number)
@@ -711,11 +641,11 @@ class Tests(Shimmed):
             expect(watch.lines("open"), ["0", "1", "2", "3"], "its descriptors")
 
     def test_terminated(self):
-        with self.room() as room, Upstream() as server:
+        with self.room() as room, self.watched(HALTED) as (server, watch):
             programs = [room.upsd(), room.dummy()]
             room.until(STATUS, ONLINE)
-            with self.watch(f"MONITOR {server.target} 1 mon m1 primary\n{HALTED}") as watch, room.client() as client:
-                until(lambda: STATUS in server.asked, "the status is asked for")
+            server.until_asked()
+            with room.client() as client:
                 for program in (*programs, watch.process):
                     program.terminate()
                     expect(program.wait(10), -signal.SIGTERM, "how it ends")

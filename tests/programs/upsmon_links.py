@@ -18,28 +18,13 @@ import tempfile
 import threading
 import time
 
-from tests.support.harness import Failed, Missing, Shimmed, apart, build_library, ensure, expect
+from tests.support.harness import Missing, apart, build_library, ended, ensure, expect, named_error, write
 from tests.support.model import LINE_MAX
 from tests.support.monitored import (
-    BATTERY_LOW,
-    ESTABLISHED,
-    LOST,
-    ON_BATTERY,
-    QUICK,
-    SHUTDOWN,
-    USERS,
-    Closing,
-    Endless,
-    Nonsense,
-    Rubbish,
-    Upstream,
-    Urgent,
-    Watch,
-    children_of,
-    play,
-    put_program,
+    BATTERY_LOW, ESTABLISHED, LOST, ON_BATTERY, QUICK, SHUTDOWN, Closing, Endless, MonitorTests, Nonsense, Rubbish, Upstream, Urgent,
+    children_of, play, put_program,
 )
-from tests.support.room import STATUS, Room, has_ipv6, raise_loopback, until
+from tests.support.room import STATUS, has_ipv6, raise_loopback, stopped, until
 
 # how long a server may take for an answer while a UPS is on battery and while none is, and for a connection, in seconds
 SHORT, LONG, PATIENCE = 5, 10, 5
@@ -88,9 +73,9 @@ class Moody(Upstream):
 class Slow(Moody):
     """A server that takes a second and a half more for each answer to a query for a status than it has on battery."""
 
-    def __init__(self):
+    def __init__(self, **options):
         self.slow = []
-        super().__init__()
+        super().__init__(**options)
 
     def answer(self, line):
         if line == STATUS:
@@ -124,35 +109,24 @@ def warnings_of(watch):
     return [line for line in watch.lines("err") if re.search(": (server reports WAIT|an answer took|reconnected to the server)", line)]
 
 
-class Tests(Shimmed):
-    def __init__(self, programs, folder):
-        self.programs = programs
-        self.upsd, self.dummy, self.upsc, self.upsmon = programs
-        self.folder = folder
-
-    def watch(self, conf, *words, **options):
-        return Watch(self.upsmon, self.folder, conf, *words, **options)
-
-    def room(self):
-        room = Room((self.upsd, self.dummy), self.folder)
-        with open(room.path("upsd.users"), "wb") as file:
-            file.write(USERS)
-        return room
+class Tests(MonitorTests):
+    def expect_reported(self, watch, target, line):
+        """Waits until this is the last report about a UPS."""
+        until(lambda: reports_of(watch, target)[-1:] == [line], f"{line!r} is reported")
 
     # From here on, each method whose name begins with 'test_' is a test.
 
     def test_silent_server_is_given_up(self):
         """Two servers become silent, one of them with its UPS on battery, before two monitors."""
-        with Moody() as calm, Moody(status=b"OB") as failing:
-            with self.watch(f"MONITOR {calm.target} 1 mon m1 primary\nPOLLFREQ 1\n") as first, self.watch(
-                f"MONITOR {failing.target} 1 mon m1 primary\nPOLLFREQ 1\nDEADTIME 60\n"
-            ) as second:
-                for server in (calm, failing):
-                    until(lambda: server.asked.count(STATUS) >= 2, "the status is asked for")
-                    server.is_silent = True
-                # the server whose UPS is on battery is given up sooner
-                for server, watch, limit in ((failing, second, SHORT), (calm, first, LONG)):
-                    self.expect_given_up(server, watch, limit)
+        calm = self.watched("POLLFREQ 1\n", kind=Moody)
+        failing = self.watched("POLLFREQ 1\nDEADTIME 60\n", kind=Moody, status=b"OB")
+        with calm as (calm_server, first), failing as (failing_server, second):
+            for server in (calm_server, failing_server):
+                server.until_asked(2)
+                server.is_silent = True
+            # the server whose UPS is on battery is given up sooner
+            self.expect_given_up(failing_server, second, SHORT)
+            self.expect_given_up(calm_server, first, LONG)
 
     def expect_given_up(self, server, watch, limit):
         watch.until_printed(LOST % server.target, limit + 10)
@@ -165,48 +139,48 @@ class Tests(Shimmed):
         # the link that was made meanwhile may still be waited for
         server.drop()
         watch.until_printed(ESTABLISHED % server.target, limit + 10)
-        until(lambda: reports_of(watch, server.target)[-1] == "server connected", "that it is back is reported")
+        self.expect_reported(watch, server.target, "server connected")
         expect(watch.lines().count(LOST % server.target), 1, "how often the loss is told")
 
     def test_call_begins_with_the_address_that_served(self):
         """Of the two addresses of `localhost`, the first one takes no call."""
-        if not has_ipv6():
-            raise Missing("this machine has no IPv6")
-        with Moody(host="::1") as server, deaf(server.port):
-            target = f"su700@localhost:{server.port}"
-            with self.watch(f"MONITOR {target} 1 mon m1 primary\nPOLLFREQ 1\n") as watch:
-                until(lambda: STATUS in server.asked, "the second address is reached", 30)
-                until(lambda: "server connected" in reports_of(watch, target), "that it is reached is reported")
-                dropped = time.monotonic()
-                server.drop()
-                until(lambda: server.ends, "it is called again", 30)
-                passed = time.monotonic() - dropped
-                ensure(passed < PATIENCE, f"the first address isn't dialled before it: {passed:.1f} s")
+        with self.second_address(deaf) as (server, watch):
+            dropped = time.monotonic()
+            server.drop()
+            until(lambda: server.ends, "it is called again", 30)
+            passed = time.monotonic() - dropped
+            ensure(passed < PATIENCE, f"the first address isn't dialled before it: {passed:.1f} s")
 
     def test_address_that_never_serves(self):
         """Of the two addresses of `localhost`, the first one takes each call, and never answers."""
+        with self.second_address(lambda port: socket.create_server(("127.0.0.1", port))) as (server, _):
+            server.drop()
+            until(lambda: server.ends, "it is called first from now on", PATIENCE)
+
+    @contextlib.contextmanager
+    def second_address(self, first):
+        """Watches a server at the second address of `localhost`, once it serves, where the first one is such a place."""
         if not has_ipv6():
             raise Missing("this machine has no IPv6")
-        with Moody(host="::1") as server, socket.create_server(("127.0.0.1", server.port)):
+        with Moody(host="::1") as server, first(server.port):
             target = f"su700@localhost:{server.port}"
             with self.watch(f"MONITOR {target} 1 mon m1 primary\nPOLLFREQ 1\n") as watch:
-                until(lambda: STATUS in server.asked, "the second address is called", LONG + 10)
-                until(lambda: "server connected" in reports_of(watch, target), "that it serves is reported")
-                server.drop()
-                until(lambda: server.ends, "it is called first from now on", PATIENCE)
+                server.until_asked(1, 30)
+                self.expect_reported(watch, target, "server connected")
+                yield server, watch
 
     def test_name_whose_address_never_serves(self):
         """The name is looked up again once its address has closed the link."""
         with tempfile.TemporaryDirectory(dir=self.folder) as names, Closing(host="127.0.0.2") as closing, Moody(
             port=closing.port, host="127.0.0.3"
         ) as server:
-            getent, target = os.path.join(names, "getent"), f"su700@{KNOWN}:{closing.port}"
-            put_program(getent, "echo 127.0.0.2 STREAM", 0o755)
+            target = f"su700@{KNOWN}:{closing.port}"
+            getent = put_program(os.path.join(names, "getent"), "echo 127.0.0.2 STREAM")
             conf = f"MONITOR {target} 1 mon m1 primary\nPOLLFREQ 1\n"
             with self.watch(conf, env={**os.environ, "PATH": names}) as watch:
                 until(lambda: reports_of(watch, target), "that the address closes the link is reported")
-                put_program(getent, "echo 127.0.0.3 STREAM", 0o755)
-                until(lambda: STATUS in server.asked, "the new address is called", 30)
+                put_program(getent, "echo 127.0.0.3 STREAM")
+                server.until_asked(1, 30)
 
     def test_host_is_looked_up_by_a_program(self):
         """What is told of a host if the program isn't there, can't be run, fails, or can't be started at all."""
@@ -232,34 +206,30 @@ class Tests(Shimmed):
     def test_no_watch_is_left(self):
         """What is reported if no socket can be watched."""
         env = {**os.environ, "LD_PRELOAD": self.shim, "REFUSE": "watch"}
-        with Moody() as server, self.watch(f"MONITOR {server.target} 1 mon m1 primary\n", env=env) as watch:
+        with self.watched("", env=env) as (server, watch):
             until(lambda: reports_of(watch, server.target), "a report")
-            why = f"{os.strerror(errno.ENOSPC)} (os error {errno.ENOSPC})"
-            expect(reports_of(watch, server.target), [f"cannot connect to the server: {why}"], "reports")
+            expect(reports_of(watch, server.target), [f"cannot connect to the server: {named_error(errno.ENOSPC)}"], "reports")
 
     def test_server_that_stands_still(self):
         with self.room() as room:
-            target = f"su700@127.0.0.1:{room.port}"
-            room.dummy(b"ups.status: OB\n", "dev")
+            target = room.target
+            room.dummy(b"ups.status: OB\n")
             server = room.upsd()
             room.until(STATUS, b'VAR su700 ups.status "OB"\n')
             with self.watch(f"MONITOR {target} 1 mon m1 primary\nPOLLFREQ 1\nDEADTIME 60\n") as watch:
                 watch.until_printed(ON_BATTERY % target)
-                server.send_signal(signal.SIGSTOP)
-                try:
+                with stopped(server):
                     watch.until_printed(LOST % target, 20)
                     lost = f"server lost: no answer for {SHORT} s"
                     ensure(lost in reports_of(watch, target), f"it is reported: {reports_of(watch, target)}")
-                finally:
-                    server.send_signal(signal.SIGCONT)
                 watch.until_printed(ESTABLISHED % target, 20)
-                until(lambda: reports_of(watch, target)[-1] == "server connected", "that it is back is reported")
+                self.expect_reported(watch, target, "server connected")
 
     def test_refusals(self):
         """A wrong password: upsd refuses what needs a user, and each refusal is reported once a link."""
         with self.room() as room:
-            target = f"su700@127.0.0.1:{room.port}"
-            room.dummy(b"ups.status: OL\n", "dev")
+            target = room.target
+            room.dummy()
             server = room.upsd()
             conf = f"MONITOR {target} 1 mon wrong primary\nPOLLFREQ 1\n"
             refused = [f"{word} refused: ACCESS-DENIED" for word in ("LOGIN", "PRIMARY")]
@@ -268,8 +238,7 @@ class Tests(Shimmed):
                     until(lambda: refused[-1] in reports_of(it, target), "the refusals are told")
                 time.sleep(2.5)
                 told = [line for line in reports_of(watch, target) if "refused: ACCESS" in line]
-                expect(told, refused, "what is told once")
-                expect(reports_of(quiet, target), refused, "what is told once with -q")
+                expect((told, reports_of(quiet, target)), (refused, refused), "what is told once, also with -q")
                 server.kill()
                 server.wait()
                 room.upsd()
@@ -278,31 +247,30 @@ class Tests(Shimmed):
 
     def test_refusals_of_a_status_and_of_fsd(self):
         """With `-q` only the refusal of FSD is told: a notice tells of a UPS without a status."""
-        for words in ((), ("-q",)):
-            with Moody() as server:
-                self.expect_refusals_of_a_status_and_of_fsd(server, words)
-
-    def expect_refusals_of_a_status_and_of_fsd(self, server, words):
         stale, unknown = "status refused: DATA-STALE", "status refused: UNKNOWN-UPS"
-        conf = f"MONITOR {server.target} 1 mon m1 primary\nPOLLFREQ 1\nHOSTSYNC 2\nFINALDELAY 0\n"
-        with self.watch(conf, *words) as watch:
-            wanted = [] if words else ["server connected"]
-            for error, line in ((b"DATA-STALE", stale), (b"UNKNOWN-UPS", unknown), (None, None), (b"DATA-STALE", stale)):
-                server.statuses[b"su700"] = b"ERR " + error + b"\n" if error else b"OL"
-                server.asked.clear()
-                until(lambda: server.asked.count(STATUS) >= 3, "the status is asked for again")
-                wanted += [line] if line and not words else []
-                expect(reports_of(watch, server.target), wanted, f"what is told {words}")
-            server.refused[b"FSD"] = b"ERR ACCESS-DENIED\n"
-            server.statuses[b"su700"] = b"OB LB"
-            expect(watch.status(), 0, "status")
-            ensure(server.asked.count(b"FSD su700\n") >= 2, "FSD is asked for again")
-            expect(reports_of(watch, server.target), [*wanted, "FSD refused: ACCESS-DENIED"], f"what is told at the end {words}")
+        for words in ((), ("-q",)):
+            with self.watched("POLLFREQ 1\nHOSTSYNC 2\nFINALDELAY 0\n", *words, kind=Moody) as (server, watch):
+                wanted = [] if words else ["server connected"]
+                for answer, line in (
+                    (b"ERR DATA-STALE\n", stale),
+                    (b"ERR UNKNOWN-UPS\n", unknown),
+                    (b"OL", None),
+                    (b"ERR DATA-STALE\n", stale),
+                ):
+                    server.statuses[b"su700"] = answer
+                    server.until_asked_again(3)
+                    wanted += [line] if line and not words else []
+                    expect(reports_of(watch, server.target), wanted, f"what is told {words}")
+                server.refused[b"FSD"] = b"ERR ACCESS-DENIED\n"
+                server.statuses[b"su700"] = b"OB LB"
+                expect(watch.status(), 0, "status")
+                ensure(server.asked.count(FSD) >= 2, "FSD is asked for again")
+                expect(reports_of(watch, server.target), [*wanted, "FSD refused: ACCESS-DENIED"], f"what is told at the end {words}")
 
     def test_server_that_is_slow(self):
         """An answer that comes after the time that a server has on battery is told once, until the server was lost, also with -q.
         It is read all the same."""
-        with Slow() as server, self.watch(f"MONITOR {server.target} 1 mon m1 primary\nPOLLFREQ 1\n", "-q") as watch:
+        with self.watched("POLLFREQ 1\n", "-q", kind=Slow) as (server, watch):
             for count in (1, 2):
                 until(lambda: len(server.slow) >= 2 * count, "two slow answers", 40)
                 until(lambda: len(warnings_of(watch)) >= count, "that is told", 40)
@@ -313,64 +281,56 @@ class Tests(Shimmed):
     def test_server_that_waits_for_its_driver(self):
         """A status with WAIT after another is told once, also with -q, and however often the link is lost meanwhile."""
         for words in ((), ("-q",)):
-            with Moody(status=b"WAIT") as server:
-                conf = f"MONITOR {server.target} 1 mon m1 primary\nPOLLFREQ 1\nDEADTIME 8\n"
-                with self.watch(conf, *words) as watch:
-                    for count, status in enumerate((b"WAIT", b"OB", b"WAIT", b"AWAIT", b"ALARM WAIT", b"ERR DATA-STALE\n", b"WAIT", b"OL")):
-                        server.statuses[b"su700"] = status
-                        if count in (2, 6):
-                            server.drop()
-                        server.asked.clear()
-                        until(lambda: server.asked.count(STATUS) >= 3, f"the status is asked for: {status}", 20)
-                        wanted = 0 if count < 2 else 1 if count < 4 else 2
-                        expect(warnings_of(watch), [WAITS % server.target] * wanted, f"what is told of {status}, {words}")
+            with self.watched("POLLFREQ 1\nDEADTIME 8\n", *words, kind=Moody, status=b"WAIT") as (server, watch):
+                for count, status in enumerate((b"WAIT", b"OB", b"WAIT", b"AWAIT", b"ALARM WAIT", b"ERR DATA-STALE\n", b"WAIT", b"OL")):
+                    server.statuses[b"su700"] = status
+                    if count in (2, 6):
+                        server.drop()
+                    server.until_asked_again(3, 20)
+                    wanted = 0 if count < 2 else 1 if count < 4 else 2
+                    expect(warnings_of(watch), [WAITS % server.target] * wanted, f"what is told of {status}, {words}")
 
     def test_server_that_waits_for_its_driver_stops_no_machine(self):
         """After OB, WAIT and then nothing the machine goes on after DEADTIME, as the warning says; after OB and nothing it
         doesn't."""
         for status, is_halted in ((b"OB", True), (b"WAIT", False)):
-            with Moody(status=b"OB") as server:
-                conf = f"MONITOR {server.target} 1 mon m1 primary\nPOLLFREQ 1\nDEADTIME 3\nHOSTSYNC 1\nFINALDELAY 0\n"
-                with self.watch(conf) as watch:
-                    watch.until_printed(ON_BATTERY % server.target)
-                    server.statuses[b"su700"] = status
-                    server.asked.clear()
-                    until(lambda: server.asked.count(STATUS) >= 3, "the status is asked for")
-                    server.close()
-                    watch.until_printed(LOST % server.target, 20)
-                    if is_halted:
-                        expect(watch.status(20), 0, "the halt")
-                    else:
-                        time.sleep(6)
-                        expect((watch.process.poll(), warnings_of(watch)), (None, [WAITS % server.target]), "it goes on")
+            with self.watched(QUICK + "DEADTIME 3\n", kind=Moody, status=b"OB") as (server, watch):
+                watch.until_printed(ON_BATTERY % server.target)
+                server.statuses[b"su700"] = status
+                server.until_asked_again(3)
+                server.close()
+                watch.until_printed(LOST % server.target, 20)
+                if is_halted:
+                    expect(watch.status(20), 0, "the halt")
+                else:
+                    time.sleep(6)
+                    expect((watch.process.poll(), warnings_of(watch)), (None, [WAITS % server.target]), "it goes on")
 
     def test_server_that_is_lost_after_fsd(self):
         """A primary that waits for others is told each time that the server which accepted its FSD is back. A server that
         comes and goes without serving isn't."""
-        with Moody(status=b"OB LB") as server:
-            server.logins = 2
-            conf = f"MONITOR {server.target} 1 mon m1 primary\nPOLLFREQ 1\nHOSTSYNC 60\nFINALDELAY 0\n"
-            with self.watch(conf, "-q") as watch:
-                for count in (0, 1, 2):
-                    until(lambda: server.asked.count(COUNT) >= 2, "who is logged in is counted")
-                    expect(warnings_of(watch), [RETURNED % server.target] * count, f"what is told after {count} losses")
-                    expect(server.asked.count(FSD), 1 if count == 0 else 0, "how often FSD is asked for")
-                    server.asked.clear()
-                    server.is_silent = count == 0
+        conf = "POLLFREQ 1\nHOSTSYNC 60\nFINALDELAY 0\n"
+        with self.watched(conf, "-q", kind=Moody, status=b"OB LB", logins=2) as (server, watch):
+            for count in (0, 1, 2):
+                until(lambda: server.asked.count(COUNT) >= 2, "who is logged in is counted")
+                expect(warnings_of(watch), [RETURNED % server.target] * count, f"what is told after {count} losses")
+                expect(server.asked.count(FSD), 1 if count == 0 else 0, "how often FSD is asked for")
+                server.asked.clear()
+                server.is_silent = count == 0
+                server.drop()
+                if server.is_silent:
+                    until(lambda: server.ends, "it is called again")
+                    server.is_silent = False
                     server.drop()
-                    if server.is_silent:
-                        until(lambda: server.ends, "it is called again")
-                        server.is_silent = False
-                        server.drop()
-                server.logins = 1
-                expect(watch.status(20), 0, "the halt")
+            server.logins = 1
+            expect(watch.status(20), 0, "the halt")
 
     def test_server_that_is_started_again_after_fsd(self):
         """upsd is killed once it has accepted FSD, and started again: a secondary that isn't back isn't waited for, which is
         told before the shutdown goes on."""
         with self.room() as room:
-            target = f"su700@127.0.0.1:{room.port}"
-            room.dummy(b"ups.status: OB LB\n", "dev")
+            target = room.target
+            room.dummy(b"ups.status: OB LB\n")
             server = room.upsd()
             room.until(STATUS, b'VAR su700 ups.status "OB LB"\n')
             conf = f"MONITOR {target} 1 mon m1 primary\nPOLLFREQ 1\nHOSTSYNC 60\nFINALDELAY 0\n"
@@ -395,8 +355,7 @@ class Tests(Shimmed):
         closes, unread = "server closed the connection before answering", "server gave an unexpected answer"
         for kind, why in ((Closing, closes), (Rubbish, unread), (Nonsense, unread), (Endless, unread)):
             with kind() as server, Upstream() as other:
-                conf = f"MINSUPPLIES 1\nMONITOR {server.target} 0 mon m1 secondary\nMONITOR {other.target} 1 mon m1 secondary\n"
-                with self.watch(conf + QUICK) as watch:
+                with self.watch("MINSUPPLIES 1\n" + server.line("secondary", 0) + other.line("secondary") + QUICK) as watch:
                     begun = time.monotonic()
                     until(lambda: len(server.ends) >= 4, "it is called again", 20)
                     # after pauses of 1, 2 and 4 seconds
@@ -406,26 +365,25 @@ class Tests(Shimmed):
                     ensure(watch.is_idle(3, 0.15), f"processor time: {kind.__name__}")
 
     def test_server_that_is_no_longer_understood(self):
-        with Moody() as server, self.watch(f"MONITOR {server.target} 1 mon m1 secondary\n{QUICK}") as watch:
-            until(lambda: server.asked.count(STATUS) >= 2, "the status is asked for")
+        with self.watched(QUICK, role="secondary", kind=Moody) as (server, watch):
+            server.until_asked(2)
             server.refused[b"GET"] = b"VAR other ups.status OL\n"
             lost = "server lost: unexpected answer"
             until(lambda: lost in reports_of(watch, server.target), "that is reported")
             watch.until_printed(LOST % server.target)
             server.refused.clear()
             watch.until_printed(ESTABLISHED % server.target)
-            until(lambda: reports_of(watch, server.target)[-1] == "server connected", "that it is back is reported")
+            self.expect_reported(watch, server.target, "server connected")
             expect(reports_of(watch, server.target)[:2], ["server connected", lost], "reports")
 
     def test_line_without_an_end(self):
         """A server that answers, and then sends a line that never ends, is given up at 2,049 bytes of it, long before its time is
         over; at 2,048 it still has its time."""
         for length, is_given_up in ((LINE_MAX, False), (LINE_MAX + 1, True)):
-            with Moody() as server, self.watch(f"MONITOR {server.target} 1 mon m1 secondary\n{QUICK}") as watch:
-                until(lambda: server.asked.count(STATUS) >= 2, "the status is asked for")
+            with self.watched(QUICK, role="secondary", kind=Moody) as (server, watch):
+                server.until_asked(2)
                 server.refused[b"GET"] = b"x" * length
-                server.asked.clear()
-                until(lambda: STATUS in server.asked, "it is asked for again")
+                server.until_asked_again()
                 time.sleep(3)
                 lost = ["server lost: unexpected answer"] if is_given_up else []
                 expect(reports_of(watch, server.target)[1:2], lost, f"what is told after {length} bytes")
@@ -433,23 +391,23 @@ class Tests(Shimmed):
     def test_driver_that_comes_late(self):
         """At a boot the server is there before the driver is: nothing is told of a loss, and the first status at once."""
         with self.room() as room:
-            target = f"su700@127.0.0.1:{room.port}"
+            target = room.target
             room.upsd()
             with self.watch(f"MONITOR {target} 1 mon m1 primary\nPOLLFREQ 1\n") as watch:
                 until(lambda: any("status refused" in line for line in reports_of(watch, target)), "the status is refused")
                 time.sleep(2)
-                room.dummy(b"ups.status: OB\n", "dev")
+                room.dummy(b"ups.status: OB\n")
                 watch.until_printed(ON_BATTERY % target)
                 expect(watch.lines(), [ON_BATTERY % target], "what is told")
 
     def test_first_seconds(self):
         """That UPSes without a status are lost is told after the first seconds, and that of one which had a status at once."""
         with Moody(status=b"ERR DATA-STALE\n") as stale, Closing() as closing, Moody() as heard:
-            servers = (stale, closing, heard)
-            lines = "".join(f"MONITOR {it.target} 1 mon m1 secondary\n" for it in servers)
+            lines = "".join(it.line("secondary") for it in (stale, closing, heard))
             begun = time.time()
-            with self.watch(f"{lines}POLLFREQ 1\n") as watch:
-                until(lambda: heard.asked.count(STATUS) >= 2 and stale.asked.count(STATUS) >= 2, "the statuses are asked for")
+            with self.watch(lines + "POLLFREQ 1\n") as watch:
+                for server in (heard, stale):
+                    server.until_asked(2)
                 heard.drop()
                 watch.until_printed(LOST % heard.target, FIRST - 3)
                 watch.until_printed(ESTABLISHED % heard.target, 5)
@@ -468,9 +426,9 @@ class Tests(Shimmed):
 
     def test_losses_are_told_before_a_shutdown(self):
         with Moody(status=b"ERR DATA-STALE\n") as stale, Moody() as other:
-            conf = f"MINSUPPLIES 1\nMONITOR {stale.target} 0 mon m1 secondary\nMONITOR {other.target} 1 mon m1 secondary\n{QUICK}"
-            with self.watch(conf) as watch:
-                until(lambda: stale.asked.count(STATUS) >= 2 and other.asked.count(STATUS) >= 2, "the statuses are asked for")
+            with self.watch("MINSUPPLIES 1\n" + stale.line("secondary", 0) + other.line("secondary") + QUICK) as watch:
+                for server in (stale, other):
+                    server.until_asked(2)
                 other.statuses[b"su700"] = b"OB FSD"
                 expect(watch.status(), 0, "status")
                 expect(watch.lines()[-2:], [LOST % stale.target, SHUTDOWN], "what is told last")
@@ -480,7 +438,7 @@ class Tests(Shimmed):
         next second, when each link is looked at again."""
         library = build_library("hasten", self.folder)
         env = {**os.environ, "LD_PRELOAD": library, "HASTE": str(1 / 60)}
-        with Urgent() as server, self.watch(f"MONITOR {server.target} 1 mon m1 primary\n{QUICK}", env=env) as watch:
+        with self.watched(QUICK, kind=Urgent, env=env) as (server, watch):
             server.watch = watch
             until(lambda: "server connected" in reports_of(watch, server.target), "each of its lines is read", 20)
             ensure(watch.is_idle(), "urgent data keep the monitor busy")
@@ -492,86 +450,78 @@ class Tests(Shimmed):
     def test_monitor_that_stands_still(self):
         """A UPS on battery that answers again halts no machine, though DEADTIME passed while the monitor was stopped:
         neither if its server kept the link, nor if it closed it meanwhile, nor if it is late to come back."""
-        with Moody(status=b"OB") as kept, Moody(status=b"OB") as closed, Moody(status=b"OB") as late:
-            conf = "MONITOR {} 1 mon m1 primary\nPOLLFREQ 1\nDEADTIME 5\nFINALDELAY 0\n"
-            with contextlib.ExitStack() as stack:
-                watches = [stack.enter_context(self.watch(conf.format(it.target))) for it in (kept, closed, late)]
-                for watch, server in zip(watches, (kept, closed, late)):
-                    watch.until_printed(ON_BATTERY % server.target)
-                    until(lambda: server.asked.count(STATUS) >= 2, "the status is asked for")
-                for watch in watches:
-                    watch.signal(signal.SIGSTOP)
-                time.sleep(1)
-                closed.drop()
-                late.is_silent = True
-                time.sleep(7)
-                for server in (kept, closed, late):
-                    server.asked.clear()
-                for watch in watches:
-                    watch.signal(signal.SIGCONT)
-                time.sleep(0.5)
-                late.is_silent = False
-                late.drop()
-                time.sleep(3)
-                for watch, server in zip(watches, (kept, closed, late)):
-                    until(lambda: server.asked.count(STATUS) >= 2, "the status is asked for again")
-                    expect((watch.process.poll(), SHUTDOWN in watch.lines()), (None, False), "it goes on")
-                # it still halts if there is a reason
-                kept.statuses[b"su700"] = b"OB LB"
-                closed.is_silent = late.is_silent = True
-                for watch, server in zip(watches, (kept, closed, late)):
-                    expect(watch.status(30), 0, "status")
-                    expect(watch.lines()[-1], SHUTDOWN, "what upsmon prints last")
-                ensure(BATTERY_LOW % kept.target in watches[0].lines(), "the low battery is told")
+        conf = "POLLFREQ 1\nDEADTIME 5\nFINALDELAY 0\n"
+        with contextlib.ExitStack() as stack:
+            pairs = [stack.enter_context(self.watched(conf, kind=Moody, status=b"OB")) for _ in range(3)]
+            kept, closed, late = (server for server, _ in pairs)
+            for server, watch in pairs:
+                watch.until_printed(ON_BATTERY % server.target)
+                server.until_asked(2)
+            for _, watch in pairs:
+                watch.signal(signal.SIGSTOP)
+            time.sleep(1)
+            closed.drop()
+            late.is_silent = True
+            time.sleep(7)
+            for server, _ in pairs:
+                server.asked.clear()
+            for _, watch in pairs:
+                watch.signal(signal.SIGCONT)
+            time.sleep(0.5)
+            late.is_silent = False
+            late.drop()
+            time.sleep(3)
+            for server, watch in pairs:
+                server.until_asked(2)
+                expect((watch.process.poll(), SHUTDOWN in watch.lines()), (None, False), "it goes on")
+            # it still halts if there is a reason
+            kept.statuses[b"su700"] = b"OB LB"
+            closed.is_silent = late.is_silent = True
+            for _, watch in pairs:
+                expect(watch.status(30), 0, "status")
+                expect(watch.lines()[-1], SHUTDOWN, "what upsmon prints last")
+            ensure(BATTERY_LOW % kept.target in pairs[0][1].lines(), "the low battery is told")
 
     def test_shutdown_after_a_stall(self):
         """The seconds that a monitor missed don't shorten the time that it gives the others to stop."""
-        with Moody() as server:
-            server.logins = 2
-            conf = f"MONITOR {server.target} 1 mon m1 primary\nPOLLFREQ 1\nHOSTSYNC 3\nFINALDELAY 1\n"
-            with self.watch(conf) as watch:
-                until(lambda: server.asked.count(STATUS) >= 2, "the status is asked for")
-                watch.signal(signal.SIGSTOP)
+        with self.watched("POLLFREQ 1\nHOSTSYNC 3\nFINALDELAY 1\n", kind=Moody, logins=2) as (server, watch):
+            server.until_asked(2)
+            with watch.stopped():
                 time.sleep(7)
                 server.statuses[b"su700"] = b"OB LB"
                 server.asked.clear()
-                watch.signal(signal.SIGCONT)
-                expect(watch.status(20), 0, "status")
-                ensure(FSD in server.asked, "FSD is asked for")
-                ensure(time.monotonic() - server.told[b"OB LB"] > 3, "HOSTSYNC and FINALDELAY pass")
+            expect(watch.status(20), 0, "status")
+            ensure(FSD in server.asked, "FSD is asked for")
+            ensure(time.monotonic() - server.told[b"OB LB"] > 3, "HOSTSYNC and FINALDELAY pass")
 
     def test_stall_in_a_shutdown(self):
         """A monitor that is stopped while it waits for the others gives them HOSTSYNC once it goes on, and then FINALDELAY; one
         that is stopped after the notice SHUTDOWN waits no longer than FINALDELAY."""
-        with Moody(status=b"FSD") as server:
-            server.logins = 2
-            conf = f"MONITOR {server.target} 1 mon m1 primary\nPOLLFREQ 1\nHOSTSYNC 4\nFINALDELAY 3\n"
-            with self.watch(conf) as watch:
-                until(lambda: FSD in server.asked, "FSD is asked for")
-                with watch.stopped():
-                    time.sleep(8)
-                    begun = time.time()
-                expect(watch.status(20), 0, "status")
-                ended = time.time()
-                # the notice is the last line
-                told = os.stat(watch.path("out")).st_mtime
-                expect(watch.lines()[-1], SHUTDOWN, "what upsmon prints last")
-                ensure(told - begun > 2.5, f"HOSTSYNC passes after the stall: {told - begun}")
-                ensure(ended - told > 1.5, "FINALDELAY passes after the notice")
-            with self.watch(conf.replace("HOSTSYNC 4\nFINALDELAY 3", "HOSTSYNC 1\nFINALDELAY 6")) as watch:
-                watch.until_printed(SHUTDOWN)
-                with watch.stopped():
-                    time.sleep(7)
-                # if it waited for FINALDELAY anew, it would take 6 s
-                expect(watch.status(4), 0, "status right after FINALDELAY")
+        with self.watched("POLLFREQ 1\nHOSTSYNC 4\nFINALDELAY 3\n", kind=Moody, status=b"FSD", logins=2) as (server, watch):
+            until(lambda: FSD in server.asked, "FSD is asked for")
+            with watch.stopped():
+                time.sleep(8)
+                begun = time.time()
+            expect(watch.status(20), 0, "status")
+            ended_at = time.time()
+            # the notice is the last line
+            told = os.stat(watch.path("out")).st_mtime
+            expect(watch.lines()[-1], SHUTDOWN, "what upsmon prints last")
+            ensure(told - begun > 2.5, f"HOSTSYNC passes after the stall: {told - begun}")
+            ensure(ended_at - told > 1.5, "FINALDELAY passes after the notice")
+        with self.watched("POLLFREQ 1\nHOSTSYNC 1\nFINALDELAY 6\n", kind=Moody, status=b"FSD", logins=2) as (_, watch):
+            watch.until_printed(SHUTDOWN)
+            with watch.stopped():
+                time.sleep(7)
+            # if it waited for FINALDELAY anew, it would take 6 s
+            expect(watch.status(4), 0, "status right after FINALDELAY")
 
     def test_dead_name_server(self):
         """This program plays the test again in a network of its own, whose name server never answers."""
         command = apart("--mount", "--net")
         inside = [sys.executable, "-m", "tests.programs.upsmon_links", "--inside", self.folder, *self.programs]
-        run = subprocess.run([*command, *inside], stdin=subprocess.DEVNULL, capture_output=True, timeout=120)
-        if run.returncode:
-            raise Failed((run.stdout + run.stderr).decode().strip())
+        status, out, err = ended([*command, *inside], timeout=120)
+        ensure(status == 0, out + err)
 
 
 class NameServer:
@@ -583,8 +533,7 @@ class NameServer:
         files = {"resolv.conf": "nameserver 127.0.0.1\n", "nsswitch.conf": "hosts: files dns\n", "hosts": f"127.0.0.1 {KNOWN}\n"}
         for name, text in files.items():
             own = os.path.join(folder, name)
-            with open(own, "w") as file:
-                file.write(text)
+            write(own, text)
             subprocess.run(["mount", "--bind", own, os.path.join("/etc", name)], check=True)
         self.socket = socket.socket(socket.AF_INET, socket.SOCK_DGRAM)
         self.socket.bind(("127.0.0.1", 53))
@@ -598,8 +547,7 @@ class NameServer:
 
     def forget_hosts(self):
         """From now on no name is known without the name server."""
-        with open(self.hosts, "w"):
-            pass
+        write(self.hosts, "")
 
 
 class Inside(Tests):
@@ -612,7 +560,7 @@ class Inside(Tests):
             target = f"su700@{KNOWN}:{server.port}"
             conf = f"MONITOR {target} 1 mon m1 primary\n{lost}POLLFREQ 1\nFINALDELAY 1\n"
             with self.watch(conf + 'SHUTDOWNCMD "touch FOLDER/halted"\n') as watch:
-                until(lambda: server.asked.count(STATUS) >= 2, "a name is found, and the status asked for")
+                server.until_asked(2)
                 names.forget_hosts()
                 server.drop()
                 watch.until_printed(ESTABLISHED % target)

@@ -8,14 +8,13 @@ The last line is 'N passed, M failed'."""
 
 import contextlib
 import os
-import subprocess
 import sys
 import time
 
 from tests.support import manual
-from tests.support.harness import expect, Shimmed
-from tests.support.monitored import FLAG, ON_BATTERY, QUICK, SHUTDOWN, Upstream, Watch, children_of, play, put_program
-from tests.support.room import ONLINE, Room, SOON, STATUS, USERS, descriptors, until
+from tests.support.harness import ended, expect, read, write
+from tests.support.monitored import FLAG, ON_BATTERY, QUICK, SHUTDOWN, MonitorTests, Upstream, Watch, children_of, play, put_program
+from tests.support.room import ONLINE, STATUS, USERS, descriptors, until
 
 OLD = 'SHUTDOWNCMD "touch FOLDER/old"\n'
 NEW = 'SHUTDOWNCMD "touch FOLDER/new"\n'
@@ -24,28 +23,8 @@ REFUSED = "upsmon: not reloaded: "
 KEPT = REFUSED + "the earlier configuration stays in force"
 
 
-def line_of(server, power=1):
-    """Returns the MONITOR line of a server."""
-    return f"MONITOR {server.target} {power} mon m1 primary\n"
-
-
 class Reloaded(Watch):
     """A running upsmon whose file changes."""
-
-    def ask(self):
-        """Asks for a reload."""
-        with open(self.path("reload"), "w"):
-            pass
-
-    def reload(self, conf):
-        """Replaces upsmon.conf, and asks for a reload."""
-        with open(self.path("upsmon.conf"), "w") as file:
-            file.write(conf.replace("FOLDER", self.folder))
-        self.ask()
-
-    def until_told(self, line, within=SOON):
-        until(lambda: line in self.lines("err") or self.process.poll() is not None, f"upsmon reports {line!r}", within)
-        expect(line in self.lines("err"), True, f"upsmon reports {line!r} before it ends: {self.lines('err')}")
 
     def until_in_turn(self, *wanted):
         """Waits until upsmon has reported these lines, one right below the other."""
@@ -53,52 +32,52 @@ class Reloaded(Watch):
 
     def until_refused(self, fault):
         """Waits until upsmon has reported the fault of its file as a start does, and below that it keeps the earlier configuration."""
-        done = subprocess.run([self.process.args[0], "--conf", self.folder], capture_output=True, timeout=60)
-        at_start = done.stderr.decode().splitlines()
-        expect((done.returncode, at_start[:1], len(at_start)), (1, [fault], 2), "a start with the same file")
+        status, _, err = ended([self.process.args[0], "--conf", self.folder])
+        at_start = err.splitlines()
+        expect((status, at_start[:1], len(at_start)), (1, [fault], 2), "a start with the same file")
         self.until_in_turn(*at_start, KEPT)
 
     def until_reloaded(self, changes):
         self.until_told(f"upsmon: reloaded: {changes}")
 
 
-def until_asked(server, more=1):
-    """Waits until a server was asked for the status, so many times more."""
-    seen = server.asked.count(STATUS)
-    until(lambda: server.asked.count(STATUS) >= seen + more, "the status is asked for")
-
-
-class Tests(Shimmed):
-    def __init__(self, programs, folder):
-        self.programs = programs[:2]
-        self.upsmon = programs[3]
-        self.folder = folder
-
+class Tests(MonitorTests):
     def watch(self, conf, *words, **options):
         return Reloaded(self.upsmon, self.folder, conf, *words, **options)
+
+    def expect_halt_by(self, watch, name):
+        """Expects that the SHUTDOWNCMD of one file alone runs, which makes a file of this name."""
+        expect(watch.status(20), 0, "status")
+        expect([it for it in ("old", "new") if watch.read(it) is not None], [name], "the halt")
+
+    @contextlib.contextmanager
+    def asked(self, *words, conf=QUICK + OLD, **options):
+        """Watches a server whose UPS is on line, until its status was asked for."""
+        with self.watched(conf, *words, **options) as (server, watch):
+            server.until_asked()
+            yield server, watch
 
     # From here on, each method whose name begins with 'test_' is a test.
 
     def test_lines_come_and_go(self):
-        with Upstream() as first, Upstream() as second, self.watch(line_of(first) + QUICK + OLD) as watch:
-            until_asked(first)
-            watch.reload(line_of(first) + line_of(second) + QUICK + OLD)
+        with Upstream() as first, Upstream() as second, self.watch(first.line() + QUICK + OLD) as watch:
+            first.until_asked()
+            watch.reload(first.line() + second.line() + QUICK + OLD)
             watch.until_reloaded(f"MONITOR {second.target} added")
-            until_asked(first, 2)
-            until_asked(second, 2)
-            watch.reload("MINSUPPLIES 1\n" + line_of(second, 2) + QUICK + OLD)
+            first.until_asked_again(2)
+            second.until_asked_again(2)
+            watch.reload("MINSUPPLIES 1\n" + second.line(power=2) + QUICK + OLD)
             watch.until_reloaded(f"MONITOR {second.target} changed, MONITOR {first.target} removed")
-            until_asked(second, 2)
+            second.until_asked_again(2)
             seen = len(first.asked)
-            until_asked(second, 2)
+            second.until_asked_again(2)
             expect(len(first.asked), seen, "what the server of a line is asked that is gone")
             expect(watch.lines(), [], "notices")
             expect(watch.read("reload"), None, "the file that asked")
 
     def test_what_is_reported(self):
-        with Upstream() as server, self.watch(line_of(server) + QUICK + OLD) as watch:
-            until_asked(server)
-            watch.reload(line_of(server) + "POLLFREQ 2\nHOSTSYNC 1\nFINALDELAY 0\nNOTIFYFLAG ONLINE IGNORE\n" + NEW)
+        with self.asked() as (server, watch):
+            watch.reload(server.line() + "POLLFREQ 2\nHOSTSYNC 1\nFINALDELAY 0\nNOTIFYFLAG ONLINE IGNORE\n" + NEW)
             watch.until_reloaded("SHUTDOWNCMD changed, POLLFREQ changed, NOTIFYFLAG changed")
             watch.until_told("upsmon: POLLFREQ 2 is above HOSTSYNC 1: primary and secondaries will not wait for each other")
             watch.until_told("upsmon: this machine shuts down within 6 s of OB LB if answers take at most 2 s")
@@ -111,66 +90,58 @@ class Tests(Shimmed):
             "NOTIFYMSG": "ONLINE x", "NOTIFYFLAG": "ONLINE IGNORE",
         }
         words = [it for it in manual.directives("upsmon.conf") if it != "MONITOR"]
-        with Upstream() as server, self.watch(line_of(server) + QUICK + OLD) as watch:
-            until_asked(server)
-            watch.reload(line_of(server) + "".join(f"{word} {changed[word]}\n" for word in words))
+        with self.asked() as (server, watch):
+            watch.reload(server.line() + "".join(f"{word} {changed[word]}\n" for word in words))
             watch.until_reloaded(", ".join(f"{word} changed" for word in words))
 
     def test_quiet(self):
-        with Upstream() as server, self.watch(line_of(server) + QUICK + OLD, "-q") as watch:
-            until_asked(server)
+        with self.asked("-q") as (server, watch):
             watch.reload("POLLFREQ x\n")
             watch.until_refused("upsmon: upsmon.conf:1: BadNumber")
-            watch.reload(line_of(server) + QUICK + NEW)
+            watch.reload(server.line() + QUICK + NEW)
             until(lambda: server.asked.count(USERNAME) == 2, "the links begin anew")
             expect(len(watch.lines("err")), 3, f"what is told: {watch.lines('err')}")
 
     def test_nothing_changed(self):
-        with Upstream() as server, self.watch(line_of(server) + QUICK + OLD) as watch:
-            until_asked(server)
-            watch.reload("# the same\n" + QUICK + "DEADTIME 15\n" + line_of(server) + OLD)
+        with self.asked() as (server, watch):
+            watch.reload("# the same\n" + QUICK + "DEADTIME 15\n" + server.line() + OLD)
             watch.until_reloaded("nothing changed")
-            until_asked(server, 2)
+            server.until_asked_again(2)
             expect(server.asked.count(USERNAME), 1, "how often upsmon logs in")
 
     def test_fault(self):
         """A file with a fault leaves everything as it was: the links, and what is run at the halt."""
-        with Upstream() as server, self.watch(line_of(server) + QUICK + OLD) as watch:
-            until_asked(server)
-            watch.reload(line_of(server) + "FINALDELAY x\n" + NEW)
+        with self.asked() as (server, watch):
+            watch.reload(server.line() + "FINALDELAY x\n" + NEW)
             watch.until_refused("upsmon: upsmon.conf:2: BadNumber")
-            watch.reload("CERTPATH x\n" + line_of(server) + NEW)
+            watch.reload("CERTPATH x\n" + server.line() + NEW)
             watch.until_refused("upsmon: upsmon.conf:1: UnknownDirective")
             os.remove(watch.path("upsmon.conf"))
-            watch.ask()
+            watch.reload()
             watch.until_refused("upsmon: upsmon.conf: cannot read")
             # nobody writes to it, so a read would wait for ever
             os.mkfifo(watch.path("upsmon.conf"))
-            watch.ask()
+            watch.reload()
             watch.until_refused("upsmon: upsmon.conf: cannot read")
-            until_asked(server, 2)
+            server.until_asked_again(2)
             expect(server.asked.count(USERNAME), 1, "how often upsmon logs in")
             server.statuses[b"su700"] = b"OB LB"
-            expect(watch.status(), 0, "status")
-            expect((watch.read("old"), watch.read("new")), (b"", None), "the halt")
+            self.expect_halt_by(watch, "old")
 
     def test_command_of_the_new_file(self):
-        with Upstream() as server, self.watch(line_of(server) + QUICK + OLD) as watch:
-            until_asked(server)
+        with self.asked() as (server, watch):
             for changes, conf in (("SHUTDOWNCMD changed", NEW), ("NOTIFYCMD changed", NEW + "NOTIFYCMD true\n")):
                 before = children_of(watch.process.pid)
-                watch.reload(line_of(server) + QUICK + conf)
+                watch.reload(server.line() + QUICK + conf)
                 watch.until_reloaded(changes)
                 until(lambda: len(children_of(watch.process.pid)) == 1, "the earlier shell is waited for")
                 expect(children_of(watch.process.pid) != before, True, "another shell waits")
             server.statuses[b"su700"] = b"OB LB"
-            expect(watch.status(), 0, "status")
-            expect((watch.read("old"), watch.read("new")), (None, b""), "the halt")
+            self.expect_halt_by(watch, "new")
 
     def test_no_command_any_more(self):
-        with Upstream() as server, self.watch(line_of(server) + QUICK + OLD) as watch:
-            until_asked(server)
-            watch.reload(line_of(server) + QUICK)
+        with self.asked() as (server, watch):
+            watch.reload(server.line() + QUICK)
             watch.until_reloaded("SHUTDOWNCMD changed")
             watch.until_told("upsmon: SHUTDOWNCMD is not set: nothing will shut down this machine")
             until(lambda: children_of(watch.process.pid) == [], "the shell is waited for")
@@ -179,24 +150,22 @@ class Tests(Shimmed):
 
     def test_flag(self):
         """The flag of another name is removed, as at a start; one whose name stays is left alone."""
-        with Upstream() as server, self.watch(line_of(server) + QUICK + OLD + "POWERDOWNFLAG FOLDER/a\n") as watch:
-            until_asked(server)
+        with Upstream() as server, self.watch(server.line() + QUICK + OLD + "POWERDOWNFLAG FOLDER/a\n") as watch:
+            server.until_asked()
             for name in "ab":
-                with open(watch.path(name), "wb") as file:
-                    file.write(FLAG)
-            watch.reload(line_of(server) + QUICK + NEW + "POWERDOWNFLAG FOLDER/a\n")
+                write(watch.path(name), FLAG)
+            watch.reload(server.line() + QUICK + NEW + "POWERDOWNFLAG FOLDER/a\n")
             watch.until_reloaded("SHUTDOWNCMD changed")
             expect(watch.read("a"), FLAG, "a flag of the same name")
-            watch.reload(line_of(server) + QUICK + NEW + "POWERDOWNFLAG FOLDER/b\n")
+            watch.reload(server.line() + QUICK + NEW + "POWERDOWNFLAG FOLDER/b\n")
             watch.until_reloaded("POWERDOWNFLAG changed")
             watch.until_told(f"upsmon: POWERDOWNFLAG {watch.path('b')} of an earlier shutdown is removed")
             expect(watch.read("b"), None, "a flag of another name")
-            watch.reload(line_of(server) + QUICK + NEW + "POWERDOWNFLAG FOLDER/none/b\n")
+            watch.reload(server.line() + QUICK + NEW + "POWERDOWNFLAG FOLDER/none/b\n")
             warning = f"upsmon: POWERDOWNFLAG {watch.path('none/b')} cannot be written: No such file or directory (os error 2)"
             watch.until_told(warning)
-            os.mkdir(watch.path("none"))
-            watch.open("none/b").close()
-            watch.reload(line_of(server) + QUICK + OLD + "POWERDOWNFLAG FOLDER/none/b\n")
+            watch.put("", "none/b")
+            watch.reload(server.line() + QUICK + OLD + "POWERDOWNFLAG FOLDER/none/b\n")
             watch.until_reloaded("SHUTDOWNCMD changed")
             expect(watch.lines("err").count(warning), 1, "that it can't be written")
             server.statuses[b"su700"] = b"OB LB"
@@ -204,106 +173,95 @@ class Tests(Shimmed):
 
     def test_on_battery(self):
         """A reload waits until the UPS is back on line, and says so once."""
-        with Upstream(status=b"OB") as server, self.watch(line_of(server) + QUICK + OLD) as watch:
+        with self.watched(QUICK + OLD, status=b"OB") as (server, watch):
             watch.until_printed(ON_BATTERY % server.target)
-            watch.reload(line_of(server) + QUICK + NEW)
+            watch.reload(server.line() + QUICK + NEW)
             told = f"upsmon: not reloaded yet: UPS {server.target} is on battery"
             watch.until_told(told)
-            until_asked(server, 3)
+            server.until_asked_again(3)
             expect((watch.lines("err").count(told), server.asked.count(USERNAME)), (1, 1), "how often it is told, and logs in")
             server.statuses[b"su700"] = b"OL"
             watch.until_reloaded("SHUTDOWNCMD changed")
 
     def test_lost_on_battery(self):
         """A UPS that was last heard of on battery isn't forgotten for a reload: its machine is halted."""
-        server = Upstream(status=b"OB")
-        with self.watch(line_of(server) + QUICK + "DEADTIME 6\n" + OLD) as watch:
+        with self.watched(QUICK + "DEADTIME 6\n" + OLD, status=b"OB") as (server, watch):
             watch.until_printed(ON_BATTERY % server.target)
             server.close()
-            watch.reload(line_of(server) + QUICK + "DEADTIME 6\n" + NEW)
+            watch.reload(server.line() + QUICK + "DEADTIME 6\n" + NEW)
             watch.until_told(f"upsmon: not reloaded yet: UPS {server.target} is on battery")
-            expect(watch.status(20), 0, "status")
-            expect((watch.read("old"), watch.read("new")), (b"", None), "the halt")
+            self.expect_halt_by(watch, "old")
             watch.until_told(REFUSED + "a shutdown has begun")
 
     def test_line_on_battery_is_removed(self):
         """A UPS that is no longer to be watched holds up nothing."""
-        with Upstream() as first, Upstream(status=b"OB") as second, self.watch(line_of(first) + line_of(second) + QUICK + OLD) as watch:
+        with Upstream() as first, Upstream(status=b"OB") as second, self.watch(first.line() + second.line() + QUICK + OLD) as watch:
             watch.until_printed(ON_BATTERY % second.target)
-            watch.reload(line_of(first) + QUICK + OLD)
+            watch.reload(first.line() + QUICK + OLD)
             watch.until_reloaded(f"MONITOR {second.target} removed")
 
     def test_forced_shutdown_of_one_of_two(self):
         """A UPS with a forced shutdown is waited for, too, where the other supplies enough."""
-        with Upstream() as first, Upstream(status=b"FSD OL") as second, self.watch(line_of(first) + line_of(second) + QUICK + OLD) as watch:
+        with Upstream() as first, Upstream(status=b"FSD OL") as second, self.watch(first.line() + second.line() + QUICK + OLD) as watch:
             watch.until_printed(f"UPS {second.target}: forced shutdown in progress")
-            watch.reload(line_of(first) + line_of(second) + QUICK + NEW)
+            watch.reload(first.line() + second.line() + QUICK + NEW)
             watch.until_told(f"upsmon: not reloaded yet: UPS {second.target} has a forced shutdown")
             # a fault takes its place, and nothing waits any more
             watch.reload("POLLFREQ x\n")
             watch.until_refused("upsmon: upsmon.conf:1: BadNumber")
             second.statuses[b"su700"] = b"OL"
-            until_asked(second, 3)
+            second.until_asked_again(3)
             expect(second.asked.count(USERNAME), 1, "how often upsmon logs in")
 
     def test_lost_on_line(self):
         """A server that is gone holds up no reload if its UPS was on line."""
         server = Upstream()
-        with Upstream() as other, self.watch(line_of(server) + line_of(other) + QUICK + OLD) as watch:
+        with Upstream() as other, self.watch(server.line() + other.line() + QUICK + OLD) as watch:
             # twice, so that the first answer was heard
-            until_asked(server, 2)
+            server.until_asked_again(2)
             server.close()
             watch.until_printed(f"Communications with UPS {server.target} lost")
-            watch.reload(line_of(other) + QUICK + OLD)
+            watch.reload(other.line() + QUICK + OLD)
             watch.until_reloaded(f"MONITOR {server.target} removed")
 
     def test_shutdown(self):
-        with Upstream(status=b"FSD") as server:
-            with self.watch(line_of(server) + "POLLFREQ 1\nHOSTSYNC 1\nFINALDELAY 4\n" + OLD) as watch:
-                watch.until_printed(SHUTDOWN)
-                watch.reload(line_of(server) + NEW)
-                watch.until_told(REFUSED + "a shutdown has begun")
-                expect(watch.status(), 0, "status")
-                expect((watch.read("old"), watch.read("new")), (b"", None), "the halt")
+        with self.watched("POLLFREQ 1\nHOSTSYNC 1\nFINALDELAY 4\n" + OLD, status=b"FSD") as (server, watch):
+            watch.until_printed(SHUTDOWN)
+            watch.reload(server.line() + NEW)
+            watch.until_told(REFUSED + "a shutdown has begun")
+            self.expect_halt_by(watch, "old")
 
     def test_without_a_shell(self):
         """If the shell of the new SHUTDOWNCMD can't be started, the earlier one goes on waiting."""
         none = os.path.join(self.folder, "reload-none-starts")
-        with Upstream() as server, self.watch(line_of(server) + QUICK + OLD, "-q", env=self.refusing_starts(none)) as watch:
-            until_asked(server)
-            with open(none, "w"):
-                pass
-            watch.reload(line_of(server) + QUICK + NEW)
+        with self.asked("-q", env=self.refusing_starts(none)) as (server, watch):
+            write(none, "")
+            watch.reload(server.line() + QUICK + NEW)
             until(lambda: KEPT in watch.lines("err"), "that it can't be started")
             front = "upsmon: SHUTDOWNCMD cannot be started: "
             expect([it.startswith(front) for it in watch.lines("err")], [True, False], f"what is told: {watch.lines('err')}")
             expect(len(children_of(watch.process.pid)), 1, "the earlier shell")
             os.remove(none)
             server.statuses[b"su700"] = b"OB LB"
-            expect(watch.status(), 0, "status")
-            expect((watch.read("old"), watch.read("new")), (b"", None), "the halt")
+            self.expect_halt_by(watch, "old")
 
     def test_without_memory(self):
         """Without memory upsmon says so and goes on as before. Once there is some, a reload that is asked for anew comes."""
         gone = os.path.join(self.folder, "reload-gone")
-        with Upstream() as server, self.watch(line_of(server) + QUICK + OLD, env=self.refusing_memory(gone)) as watch:
-            until_asked(server)
-            with open(gone, "w"):
-                pass
-            watch.reload(line_of(server) + QUICK + NEW)
+        with self.asked(env=self.refusing_memory(gone)) as (server, watch):
+            write(gone, "")
+            watch.reload(server.line() + QUICK + NEW)
             watch.until_in_turn("upsmon: out of memory", KEPT)
             expect(len(children_of(watch.process.pid)), 1, "the earlier shell")
             os.remove(gone)
-            watch.ask()
+            watch.reload()
             watch.until_reloaded("SHUTDOWNCMD changed")
 
     def test_folder_of_two_programs(self):
         """Where upsd has the folder too, the file is left to it for a while."""
-        with Upstream() as server, self.watch(line_of(server) + QUICK + OLD) as watch:
-            until_asked(server)
-            with watch.open("upsd.conf"):
-                pass
-            watch.reload(line_of(server) + QUICK + NEW)
+        with self.asked() as (server, watch):
+            watch.put("", "upsd.conf")
+            watch.reload(server.line() + QUICK + NEW)
             watch.until_reloaded("SHUTDOWNCMD changed")
             expect(watch.read("reload"), b"", "the file, for upsd")
             until(lambda: watch.read("reload") is None, "the file is removed")
@@ -312,13 +270,11 @@ class Tests(Shimmed):
 
     def test_file_is_left_after_a_stall(self):
         """Seconds that upsmon missed are no looks at the file: where upsd has the folder too, it is left to it for as long as ever."""
-        with Upstream() as server, self.watch(line_of(server) + QUICK + OLD) as watch:
-            until_asked(server)
-            with watch.open("upsd.conf"):
-                pass
+        with self.asked() as (server, watch):
+            watch.put("", "upsd.conf")
             with watch.stopped():
                 time.sleep(5)
-                watch.ask()
+                watch.reload()
             # at the second look
             watch.until_reloaded("nothing changed")
             expect(watch.read("reload"), b"", "the file, for upsd")
@@ -326,14 +282,12 @@ class Tests(Shimmed):
 
     def test_file_that_is_gone(self):
         """Where upsd has the folder too, upsmon reads its file a look after it saw the request, even if upsd has removed that."""
-        with Upstream() as server, self.watch(line_of(server) + QUICK + OLD) as watch:
-            until_asked(server)
-            with watch.open("upsd.conf"):
-                pass
+        with self.asked() as (server, watch):
+            watch.put("", "upsd.conf")
             changed, took = "upsmon: reloaded: SHUTDOWNCMD changed", False
             for _ in range(5):
                 before = watch.lines("err").count(changed)
-                watch.reload(line_of(server) + QUICK + (OLD if before % 2 else NEW))
+                watch.reload(server.line() + QUICK + (OLD if before % 2 else NEW))
                 # upsmon has looked once or twice by then; on a slow machine perhaps never, or more often, and is asked again
                 time.sleep(1.2)
                 with contextlib.suppress(FileNotFoundError):
@@ -348,17 +302,14 @@ class Tests(Shimmed):
 
     def test_password_of_two_programs(self):
         """upsmon logs in by its new password when upsd of the same folder knows that, whichever looks for the file first."""
-        with Room(self.programs, self.folder) as room:
+        with self.room(USERS) as room:
 
             def set_password(word):
-                with open(room.path("upsd.users"), "wb") as file:
-                    file.write(USERS.replace(b"password = m1", b"password = " + word))
-                with open(room.path("upsmon.conf"), "w") as file:
-                    file.write(f"MONITOR su700@{room.host}:{room.port} 1 mon {word.decode()} primary\n{QUICK}{OLD}")
+                write(room.path("upsd.users"), USERS.replace(b"password = m1", b"password = " + word))
+                write(room.path("upsmon.conf"), f"MONITOR su700@{room.host}:{room.port} 1 mon {word.decode()} primary\n{QUICK}{OLD}")
 
             def count_reports(name, report):
-                with open(room.path(name)) as file:
-                    return file.read().splitlines().count(report)
+                return read(room.path(name)).splitlines().count(report)
 
             set_password(b"first")
             with open(room.path("upsd.err"), "wb") as upsd, open(room.path("upsmon.err"), "wb") as upsmon:
@@ -374,8 +325,7 @@ class Tests(Shimmed):
             for turn in range(1, 6):
                 time.sleep((begun + 0.2 * turn - time.monotonic()) % 1)
                 set_password(b"next%d" % turn)
-                with open(room.path("reload"), "w"):
-                    pass
+                write(room.path("reload"), "")
                 until(lambda: count_reports("upsd.err", "upsd: reloaded: users") == turn, "upsd knows the password")
                 until(lambda: count_reports("upsmon.err", changed) == turn, "upsmon knows the password")
                 # the earlier link is gone, and the new one has been made
@@ -386,30 +336,27 @@ class Tests(Shimmed):
         """A host whose name was found once is called at its address after a reload, too, whatever the name server says then."""
         names = os.path.join(self.folder, "reload-names")
         asked = os.path.join(names, "asked")
-        os.mkdir(names)
         script = f"echo >> {asked}\n[ $(wc -l < {asked}) = 1 ] || exit 2\necho 127.0.0.1 STREAM"
         put_program(os.path.join(names, "getent"), script)
         env = {**os.environ, "PATH": f"{names}:{os.environ['PATH']}"}
         with Upstream() as server, Upstream() as other:
-            first, second = (f"MONITOR {name}@ups.example:{it.port} 1 mon m1 primary\n" for name, it in (("su700", server), ("su700", other)))
+            first, second = (f"MONITOR su700@ups.example:{it.port} 1 mon m1 primary\n" for it in (server, other))
             with self.watch(first + QUICK + OLD, env=env) as watch:
-                until_asked(server)
+                server.until_asked()
                 watch.reload(first + second + QUICK + OLD)
                 watch.until_reloaded(f"MONITOR su700@ups.example:{other.port} added")
                 until(lambda: server.asked.count(USERNAME) == 2, "the link is made anew")
-                until_asked(other)
-                with open(asked) as file:
-                    expect(len(file.readlines()), 1, "how often the name is looked up")
+                other.until_asked()
+                expect(read(asked).count("\n"), 1, "how often the name is looked up")
 
     def test_many(self):
         """Reloads leave neither descriptors nor processes behind."""
-        with Upstream() as server, self.watch(line_of(server) + QUICK + OLD) as watch:
-            until_asked(server)
+        with self.asked() as (server, watch):
             counts = []
             for power in (2, 3, 4):
-                watch.reload(line_of(server, power) + QUICK + OLD)
+                watch.reload(server.line(power=power) + QUICK + OLD)
                 until(lambda: sum("reloaded" in it for it in watch.lines("err")) == power - 1, "a reload")
-                until_asked(server, 2)
+                server.until_asked_again(2)
                 until(lambda: len(children_of(watch.process.pid)) == 1, "the earlier shell is waited for")
                 counts.append(descriptors(watch.process.pid))
                 until(lambda: descriptors(watch.process.pid) == counts[0], f"as many descriptors as {counts[0]}")

@@ -29,10 +29,39 @@ VERSION = "1.0"
 VERSION_SHOWN = f"(Mulgefa) {VERSION} profile 1.3"
 
 
+def read_bytes(path):
+    """Returns what a file holds."""
+    with open(path, "rb") as file:
+        return file.read()
+
+
+def read(path):
+    """Returns the text of a file."""
+    return read_bytes(path).decode(errors="replace")
+
+
+def write(path, data, mode=None):
+    """Writes a text or bytes to a file, with this mode if one is given, in a folder that is made if there is none. Returns the
+    path."""
+    os.makedirs(os.path.dirname(path) or ".", exist_ok=True)
+    with open(path, "wb") as file:
+        file.write(data.encode() if isinstance(data, str) else data)
+    if mode is not None:
+        os.chmod(path, mode)
+    return path
+
+
+def ended(words, **options):
+    """Runs a program to its end, without input and for at most a minute if the options don't say otherwise. Returns its status, and
+    what it wrote to both streams as text."""
+    streams = {"stdout": subprocess.PIPE, "stderr": subprocess.PIPE, **({} if "input" in options else {"stdin": subprocess.DEVNULL})}
+    done = subprocess.run(words, **{**streams, "timeout": 60, **options})
+    return done.returncode, *((it or b"").decode(errors="replace") for it in (done.stdout, done.stderr))
+
+
 def processor_time(pid):
     """Returns how many seconds of processor time a process has used."""
-    with open(f"/proc/{pid}/stat") as file:
-        fields = file.read().rsplit(")", 1)[1].split()
+    fields = read(f"/proc/{pid}/stat").rsplit(")", 1)[1].split()
     return (int(fields[11]) + int(fields[12])) / os.sysconf("SC_CLK_TCK")
 
 
@@ -98,12 +127,7 @@ class Missing(Exception):
 def built_without_proof():
     """Whether tools/tried has built the programs that this test was given. They hold AddressSanitizer, which takes most of the
     address space, and are some ten times slower than proved ones."""
-    return any(map(holds_sanitizer, filter(os.path.isfile, sys.argv[1:])))
-
-
-def holds_sanitizer(program):
-    with open(program, "rb") as file:
-        return b"AddressSanitizer" in file.read()
+    return any(b"AddressSanitizer" in read_bytes(it) for it in filter(os.path.isfile, sys.argv[1:]))
 
 
 def patience(seconds):
@@ -153,16 +177,19 @@ def ensure(holds, what):
         raise Failed(what)
 
 
+def named_error(number):
+    """Returns what a program writes of a system error."""
+    return f"{os.strerror(number)} (os error {number})"
+
+
 def cannot_read(program, file, path, why):
     """Returns what a program writes of a file that it can't read, why being a text or the number of a system error."""
-    reason = f"{os.strerror(why)} (os error {why})" if isinstance(why, int) else why
-    return f"{program}: {file}: cannot read\n{program}: {path}: {reason}\n"
+    return f"{program}: {file}: cannot read\n{program}: {path}: {named_error(why) if isinstance(why, int) else why}\n"
 
 
 def cannot_listen(program, where, why):
     """Returns what a program writes of an address or a socket at which it can't listen, why being as for `cannot_read`."""
-    reason = f"{os.strerror(why)} (os error {why})" if isinstance(why, int) else why
-    return f"{program}: cannot listen on {where}\n{program}: {reason}\n"
+    return f"{program}: cannot listen on {where}\n{program}: {named_error(why) if isinstance(why, int) else why}\n"
 
 
 def build_library(name, folder):
@@ -200,6 +227,25 @@ class Shimmed:
         return {**os.environ, "LD_PRELOAD": self.shim, "REFUSE": "memory", "REFUSE_ONCE": file}
 
 
+@contextlib.contextmanager
+def streams_without_readers():
+    """Yields options with which a program is started whose output nobody gets, each with a name: a pipe that nobody reads, a full
+    disk, and streams that are closed from the start, whose descriptors no socket may get."""
+    reader, writer = os.pipe()
+    os.close(reader)
+    try:
+        with open("/dev/full", "wb") as full:
+            yield {
+                "standard output that nobody reads": {"stdout": writer},
+                "both streams that nobody reads": {"stdout": writer, "stderr": writer},
+                "both on a full disk": {"stdout": full, "stderr": full},
+                "both closed": {"preexec_fn": lambda: os.closerange(1, 3)},
+                "all closed": {"preexec_fn": lambda: os.closerange(0, 3)},
+            }
+    finally:
+        os.close(writer)
+
+
 class FullPipe:
     """A pipe that takes nothing more until it is read."""
 
@@ -229,14 +275,6 @@ class FullPipe:
         return found.lstrip(b"x")
 
 
-def was_reached(count, at):
-    """Whether a run, which wrote the number of its calls into this file, reached the call with this number."""
-    if not os.path.exists(count):
-        return False
-    with open(count) as file:
-        return int(file.read()) >= at
-
-
 def refusal(shim, kind, at):
     """Returns the environment of a run in which a call fails, given by its kind and its number from 1 on."""
     return {"LD_PRELOAD": shim, "REFUSE": kind, "REFUSE_AT": str(at)}
@@ -248,7 +286,7 @@ def refusing(shim, kind, at):
     count = shim + ".count"
     if os.path.exists(count):
         os.remove(count)
-    return refusal(shim, kind, at) | {"REFUSE_COUNT": count}, functools.partial(was_reached, count, at)
+    return refusal(shim, kind, at) | {"REFUSE_COUNT": count}, lambda: os.path.exists(count) and int(read(count)) >= at
 
 
 def refusals(shim, kind="allocation"):

@@ -1,5 +1,6 @@
 """A running upsmon, and servers for it that the tests play."""
 
+import contextlib
 import os
 import shutil
 import signal
@@ -10,8 +11,8 @@ import tempfile
 import threading
 import time
 
-from tests.support.harness import Failed, expect, patience, processor_time, run_tests
-from tests.support.room import SOON, family_of, free_port, stopped, until
+from tests.support.harness import Failed, Shimmed, expect, patience, processor_time, read, read_bytes, run_tests, write
+from tests.support.room import SOON, STATUS, Room, family_of, free_port, stopped, until
 
 FLAG = b"upsmon-shutdown-file\n"
 ON_BATTERY = "UPS %s on battery"
@@ -37,16 +38,13 @@ def play(tests, install="", at_once=1):
 
 
 def put_program(path, script, mode=0o755):
-    """Makes a program out of a script for the shell."""
-    with open(path, "w") as file:
-        file.write(f"#!/bin/sh\n{script}\n")
-    os.chmod(path, mode)
+    """Makes a program out of a script for the shell. Returns its path."""
+    return write(path, f"#!/bin/sh\n{script}\n", mode)
 
 
 def children_of(pid):
     """Returns the numbers of the processes that a process started and that weren't waited for."""
-    with open(f"/proc/{pid}/task/{pid}/children") as file:
-        return [int(it) for it in file.read().split()]
+    return [int(it) for it in read(f"/proc/{pid}/task/{pid}/children").split()]
 
 
 class Watch:
@@ -54,8 +52,7 @@ class Watch:
 
     def __init__(self, program, folder, conf, *words, **options):
         self.folder = tempfile.mkdtemp(dir=folder)
-        with open(self.path("upsmon.conf"), "w") as file:
-            file.write(conf.replace("FOLDER", self.folder))
+        self.put(conf)
         streams = {"stdin": subprocess.DEVNULL, "stdout": self.open("out"), "stderr": self.open("err"), **options}
         # a session of its own, so that what it started is ended with it
         self.process = subprocess.Popen([program, "--conf", self.folder, *words], start_new_session=True, **streams)
@@ -70,10 +67,8 @@ class Watch:
 
     def signal(self, number):
         """Sends a signal to it and to all that it has started."""
-        try:
+        with contextlib.suppress(ProcessLookupError):
             os.killpg(self.process.pid, number)
-        except ProcessLookupError:
-            pass
 
     def stopped(self):
         """Stops it and all that it has started, for a while."""
@@ -88,10 +83,19 @@ class Watch:
     def read(self, name):
         """Returns the contents of a file of the folder, or None if there is none."""
         try:
-            with open(self.path(name), "rb") as file:
-                return file.read()
+            return read_bytes(self.path(name))
         except FileNotFoundError:
             return None
+
+    def put(self, conf, name="upsmon.conf", mode=None):
+        """Replaces a file of the folder, which the text calls FOLDER."""
+        write(self.path(name), conf.replace("FOLDER", self.folder), mode)
+
+    def reload(self, conf=None):
+        """Asks for a reload, of this upsmon.conf if one is given."""
+        if conf is not None:
+            self.put(conf)
+        write(self.path("reload"), "")
 
     def lines(self, name="out"):
         return self.read(name).decode().splitlines()
@@ -104,9 +108,13 @@ class Watch:
         """Returns those that do, without their beginning."""
         return [line[len(OF_SHUTDOWN) :] for line in self.lines("err") if line.startswith(OF_SHUTDOWN)]
 
-    def until_printed(self, line, within=SOON):
-        until(lambda: line in self.lines() or self.process.poll() is not None, f"upsmon prints {line!r}", within)
-        expect(line in self.lines(), True, f"upsmon prints {line!r} before it ends")
+    def until_printed(self, line, within=SOON, name="out"):
+        until(lambda: line in self.lines(name) or self.process.poll() is not None, f"upsmon writes {line!r}", within)
+        expect(line in self.lines(name), True, f"upsmon writes {line!r} before it ends: {self.lines(name)}")
+
+    def until_told(self, line, within=SOON):
+        """Waits for a line on standard error."""
+        self.until_printed(line, within, "err")
 
     def status(self, within=SOON):
         """Returns its exit status, once it has ended."""
@@ -143,13 +151,27 @@ class Upstream:
     def __exit__(self, *_):
         self.close()
 
+    def line(self, role="primary", power=1):
+        """Returns the MONITOR line of a machine that watches its UPS."""
+        return f"MONITOR {self.target} {power} mon m1 {role}\n"
+
+    def queries(self):
+        """Returns the lines that it was asked, without their ends."""
+        return b"".join(self.asked).splitlines()
+
+    def until_asked(self, times=1, within=SOON):
+        """Waits until the status was asked for so many times."""
+        until(lambda: self.asked.count(STATUS) >= times, "the status is asked for", within)
+
+    def until_asked_again(self, times=1, within=SOON):
+        """Waits until the status was asked for so many times more. What a query after the next one follows was heard."""
+        self.until_asked(self.asked.count(STATUS) + times, within)
+
     def close(self):
         # a thread waits in accept, which closing alone doesn't end
         for end in (self.listener, *self.ends):
-            try:
+            with contextlib.suppress(OSError):
                 end.shutdown(socket.SHUT_RDWR)
-            except OSError:
-                pass
             end.close()
 
     def let_in(self):
@@ -162,14 +184,11 @@ class Upstream:
             threading.Thread(target=self.converse, args=(end,), daemon=True).start()
 
     def converse(self, end):
-        try:
-            with end, end.makefile("rb") as file:
-                self.greet(end)
-                for line in file:
-                    self.asked.append(line)
-                    self.send(end, self.answer(line))
-        except (OSError, ValueError):
-            pass
+        with contextlib.suppress(OSError, ValueError), end, end.makefile("rb") as file:
+            self.greet(end)
+            for line in file:
+                self.asked.append(line)
+                self.send(end, self.answer(line))
 
     def greet(self, end):
         """Does what comes before any query: nothing here, but a subclass may send or close."""
@@ -189,13 +208,16 @@ class Upstream:
 
 
 class ByteByByte(Upstream):
+    # between two bytes, in seconds
+    pause = 0.002
+
     def greet(self, end):
         end.setsockopt(socket.IPPROTO_TCP, socket.TCP_NODELAY, 1)
 
     def send(self, end, data):
         for byte in data:
             end.sendall(bytes([byte]))
-            time.sleep(0.002)
+            time.sleep(self.pause)
 
 
 class Closing(Upstream):
@@ -239,3 +261,27 @@ class Endless(Upstream):
 class Silent(Upstream):
     def answer(self, line):
         return b""
+
+
+class MonitorTests(Shimmed):
+    """Tests of a running upsmon, with the built programs and a folder for all that they write."""
+
+    def __init__(self, programs, folder):
+        self.programs, self.folder = programs, folder
+        self.upsd, self.dummy, self.upsc, self.upsmon = programs
+
+    def room(self, users=USERS, **options):
+        """Returns a room whose server knows a primary and a secondary."""
+        return Room((self.upsd, self.dummy), self.folder, users=users, **options)
+
+    def watch(self, conf, *words, program=None, **options):
+        """Starts an upsmon, or this program, with this file."""
+        return Watch(program or self.upsmon, self.folder, conf, *words, **options)
+
+    @contextlib.contextmanager
+    def watched(self, conf, *words, role="primary", power=1, status=b"OL", logins=1, kind=Upstream, **options):
+        """Starts an upsmon that watches a server which the test plays, by the line of that and this file. Yields both."""
+        with kind(status=status) as server:
+            server.logins = logins
+            with self.watch(server.line(role, power) + conf, *words, **options) as watch:
+                yield server, watch

@@ -14,7 +14,7 @@ import tempfile
 import threading
 import time
 
-from tests.support.harness import Failed, Shimmed, ensure, expect
+from tests.support.harness import Failed, Shimmed, ensure, expect, read, write
 
 DEVICE = b"ups.status: OL\nups.id: x\nbattery.charge: 100\n"
 USERS = b'[admin]\npassword = pw\nactions = SET\ninstcmds = ALL\n[mon]\npassword = m1\nupsmon primary\n'
@@ -126,8 +126,7 @@ def accepted(listener):
 def state_of(pid):
     """Returns the system's letter for the state of a process: T if it is stopped, Z if it has ended; empty if there is none."""
     try:
-        with open(f"/proc/{pid}/stat") as file:
-            return file.read().rsplit(")", 1)[1].split()[0]
+        return read(f"/proc/{pid}/stat").rsplit(")", 1)[1].split()[0]
     except FileNotFoundError:
         return ""
 
@@ -290,17 +289,16 @@ class Room:
     # the password of the user `mon`
     mon = b"m1"
 
-    def __init__(self, programs, folder, conf=b"", ups=b'[su700]\ndesc = "Server room"\n', descriptions=None):
+    def __init__(self, programs, folder, conf=b"", ups=b'[su700]\ndesc = "Server room"\n', descriptions=None, users=USERS):
         self.upsd_program, self.dummy_program = programs
         self.folder = tempfile.mkdtemp(dir=folder)
         self.port = free_port()
         self.host = "127.0.0.1"
         self.running = []
         listen = b"" if b"LISTEN" in conf else b"LISTEN 127.0.0.1 %d\n" % self.port
-        for name, text in (("ups.conf", ups), ("upsd.users", USERS), ("upsd.conf", listen + conf), ("cmdvartab", descriptions)):
+        for name, text in (("ups.conf", ups), ("upsd.users", users), ("upsd.conf", listen + conf), ("cmdvartab", descriptions)):
             if text is not None:
-                with open(self.path(name), "wb") as file:
-                    file.write(text)
+                write(self.path(name), text)
 
     def __enter__(self):
         return self
@@ -315,6 +313,11 @@ class Room:
 
     def path(self, name):
         return os.path.join(self.folder, name)
+
+    @property
+    def target(self):
+        """What a MONITOR line calls the first UPS."""
+        return f"su700@{self.host}:{self.port}"
 
     def start(self, words, **options):
         streams = {"stdin": subprocess.DEVNULL, "stdout": subprocess.DEVNULL, "stderr": subprocess.PIPE, **options}
@@ -359,12 +362,15 @@ class Room:
             found.close()
         return found is not None
 
-    def dummy(self, text=DEVICE, ending="dev", ups="su700"):
+    def dummy(self, text=DEVICE, ending="dev", ups="su700", **options):
         """Starts a dummy driver."""
-        script = self.path(f"{ups}.{ending}")
-        with open(script, "wb") as file:
-            file.write(text)
-        return self.start([self.dummy_program, script, self.path(f"dummy-ups-{ups}")])
+        script = write(self.path(f"{ups}.{ending}"), text)
+        return self.start([self.dummy_program, script, self.path(f"dummy-ups-{ups}")], **options)
+
+    def reload(self, ups):
+        """Replaces ups.conf, and asks for a reload."""
+        write(self.path("ups.conf"), ups)
+        write(self.path("reload"), "")
 
     def client(self):
         return Client((self.host, self.port))
