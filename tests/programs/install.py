@@ -17,7 +17,7 @@ import sys
 import tempfile
 import time
 
-from tests.support.harness import apart, ensure, expect, Failed, Missing, needed, ROOT, run_tests
+from tests.support.harness import ROOT, Failed, Missing, apart, ended, ensure, expect, needed, read, run_tests, write
 from tests.support.room import free_port, until
 
 SERVERS = ("upsd", "upsmon")
@@ -62,9 +62,107 @@ esac
 """,
 }
 
+IN_QUOTES = "    put the password in quotes, at the server and in each MONITOR line: NUT's programs end it at its '='\n"
+OF_A_PROCESS = "    take it out: this notice is about a process that upsmon lacks here\n"
 # What mulgefa-check says of a driver of NUT's, and of lines that only drivers know.
 GOES = "note: the driver {} is NUT's, and goes with nut-server unless mulgefa-nut-drivers keeps it; see from-nut(7)"
 REFUSED = "upsd refuses these lines, which NUT's drivers need. With the package mulgefa-nut-drivers it reads a copy without them; see from-nut(7), \"Drivers\""
+
+# What mulgefa-check says of files that are right but for these. By what each row shows: options, the files, the status, what is
+# printed of the folder FOLDER, and what the files become, with -w in another folder and with -i in place.
+CHECKED = {
+    "the case of letters counts in the name of a UPS of this machine, as it doesn't for NUT": (
+        (),
+        {"upsmon.conf": "".join(f"MONITOR {it} mon m1 {role}\n" for it, role in (
+            ("SU700@localhost 1", "primary"), ("SU700@rack 0", "secondary"), ("su700@127.0.0.1 0", "secondary"))) + "SHUTDOWNCMD true\n"},
+        0, "note: a MONITOR line has SU700, and ups.conf has su700: the case of letters counts; see from-nut(7)\n", None,
+    ),
+    "a port behind a colon, which is taken until the server starts": (
+        (),
+        {"upsd.conf": 'LISTEN 127.0.0.1:24938\nLISTEN ::1\n LISTEN "rack:24" # its port\nLISTEN ::1 24\nLISTEN rack\n'},
+        1, "FOLDER/upsd.conf:1: BadName: LISTEN 127.0.0.1:24938\n    change it to: LISTEN 127.0.0.1 24938\n"
+        'FOLDER/upsd.conf:3: BadName: LISTEN "rack:24" # its port\n    change it to: LISTEN "rack" 24 # its port\n',
+        {"upsd.conf": 'LISTEN 127.0.0.1 24938\nLISTEN ::1\n LISTEN "rack" 24 # its port\nLISTEN ::1 24\nLISTEN rack\n'},
+    ),
+    "an address that has colons itself": (
+        (), {"upsd.conf": "LISTEN 2001:470::1 99999\n"},
+        1, "FOLDER/upsd.conf:1: BadNumber: LISTEN 2001:470::1 99999\n    upsd.conf(5) says what may stand there\n", None,
+    ),
+    "all addresses, and IPv6 in brackets": (
+        ("--upsd",),
+        {"upsd.conf": 'LISTEN *\nLISTEN "*" 24938 # all\nLISTEN *:24939\nLISTEN [::1]\nLISTEN [2001:470::1]:24940\nLISTEN "[2001:470::1]" 24941\n'},
+        1, "".join(f"FOLDER/upsd.conf:{line}: BadName: LISTEN {was}\n    change it to: LISTEN {is_now}\n" for line, was, is_now in (
+            (3, "*:24939", "* 24939"), (1, "*", "::"), (2, '"*" 24938 # all', '"::" 24938 # all'), (3, "* 24939", ":: 24939"),
+            (4, "[::1]", "::1"), (5, "[2001:470::1]:24940", "2001:470::1 24940"), (6, '"[2001:470::1]" 24941', '"2001:470::1" 24941'),
+        )),
+        {"upsd.conf": 'LISTEN ::\nLISTEN "::" 24938 # all\nLISTEN :: 24939\nLISTEN ::1\nLISTEN 2001:470::1 24940\nLISTEN "2001:470::1" 24941\n'},
+    ),
+    "an address of IPv6 in a MONITOR line": (
+        ("--upsmon",), {"upsmon.conf": "MINSUPPLIES 0\nMONITOR su700@[::1]:3493 1 mon secret primary\n"},
+        1, "FOLDER/upsmon.conf:2: BadName: MONITOR su700@[::1]:3493 1 .. primary\n"
+        "    a host is a name or an IPv4 address: give this one a name in /etc/hosts, and write that here\n", None,
+    ),
+    "bytes past ASCII that nobody reads": (
+        ("--upsd",), {"upsd.conf": " #\tB\u00fcro\nMAXAGE 15 # \u00b0C\n", "ups.conf": '[u]\n desc = "a # b" # \u00fc\n'},
+        1, 'FOLDER/ups.conf:2: Unreadable: desc = "a # b" # \u00fc\n    change it to: desc = "a # b" # ??\nFOLDER/upsd.conf:1: Unreadable: # ..\n'
+        "    each byte of the comment that isn't printing ASCII becomes a question mark\n"
+        "FOLDER/upsd.conf:2: Unreadable: MAXAGE 15 # \u00b0C\n    change it to: MAXAGE 15 # ??C\n",
+        {"upsd.conf": " #\tB??ro\nMAXAGE 15 # ??C\n", "ups.conf": '[u]\n desc = "a # b" # ??\n'},
+    ),
+    "a byte past ASCII that is read": (
+        ("--upsd",), {"ups.conf": '[u]\n desc = "B\u00fcro # 1"\n'},
+        1, 'FOLDER/ups.conf:2: Unreadable: desc = "B\u00fcro # 1"\n    ups.conf(5) says what may stand there\n', None,
+    ),
+    "types of notices that aren't given here, and those of later versions of NUT": (
+        ("--upsmon",),
+        {"upsmon.conf": 'MINSUPPLIES 0\nNOTIFYFLAG NOPARENT SYSLOG+WALL\n NOTIFYMSG "NOPARENT" "upsmon parent died"\nNOTIFYFLAG ONBATT EXEC\n'
+         "NOTIFYFLAG NOTOFF SYSLOG\nOFFDURATION 30\n"},
+        1, f"FOLDER/upsmon.conf:2: UnknownWord: NOTIFYFLAG NOPARENT SYSLOG+WALL\n{OF_A_PROCESS}"
+        f'FOLDER/upsmon.conf:3: UnknownWord: NOTIFYMSG "NOPARENT" "upsmon parent died"\n{OF_A_PROCESS}'
+        "FOLDER/upsmon.conf:5: UnknownWord: NOTIFYFLAG NOTOFF SYSLOG\n    take it out: no notice of NUT 2.8.0 has this type\n"
+        "FOLDER/upsmon.conf:6: UnknownDirective: OFFDURATION ..\n    take it out: NUT 2.8.0 has no such directive either\n",
+        {"upsmon.conf": "MINSUPPLIES 0\n\n\nNOTIFYFLAG ONBATT EXEC\n\n\n"},
+    ),
+    "lists of words, which NUT takes in one line": (
+        ("--upsd",), {"upsd.users": "[a]\n actions = set fsd # both\n instcmds = load.on, load.off\n upsmon master\n"},
+        1, "FOLDER/upsd.users:2: BadForm: actions = set fsd # both\n    change it to: actions = SET # both\n"
+        "                  actions = FSD\nFOLDER/upsd.users:3: BadForm: instcmds = load.on, load.off\n"
+        "    change it to: instcmds = load.on\n                  instcmds = load.off\n"
+        "FOLDER/upsd.users:4: UnknownWord: upsmon master\n    change it to: upsmon primary\n",
+        {"upsd.users": "[a]\n actions = SET # both\n actions = FSD\n instcmds = load.on\n instcmds = load.off\n upsmon primary\n"},
+    ),
+    "a list in quotes": (
+        ("--upsd",), {"upsd.users": '[a]\n actions = "SET FSD"\n'},
+        1, 'FOLDER/upsd.users:2: UnknownWord: actions = "SET FSD"\n    upsd.users(5) says what may stand there\n', None,
+    ),
+    "passwords that have a '=', as base64 does": (
+        (),
+        {"upsd.users": "[a]\n password = secret=1==\n",
+         "upsmon.conf": "MINSUPPLIES 0\nMONITOR a@h 1 mon secret=1== primary\nMONITOR b 1 mon secret2= slave # b\n"},
+        1, f"FOLDER/upsd.users:2: BadForm: password = ..\n{IN_QUOTES}FOLDER/upsmon.conf:2: BadForm: MONITOR a@h 1 .. primary\n{IN_QUOTES}"
+        "FOLDER/upsmon.conf:3: BadForm: MONITOR b 1 .. slave\n    change it to: MONITOR b@localhost 1 .. secondary\n",
+        {"upsd.users": '[a]\n password = "secret=1=="\n',
+         "upsmon.conf": 'MINSUPPLIES 0\nMONITOR a@h 1 mon "secret=1==" primary\nMONITOR b@localhost 1 mon "secret2=" secondary # b\n'},
+    ),
+    "a section with a fault, whose lines have none": (
+        ("--upsd",), {"ups.conf": '[the rack]\n driver = dummy-ups\n desc = "x"\n'},
+        1, "FOLDER/ups.conf:1: OutsideSection: [the rack]\n    ups.conf(5) says what may stand there\n", None,
+    ),
+    "a directive above all sections": (
+        ("--upsd",), {"ups.conf": "driver = dummy-ups\n[a]\n"},
+        1, "FOLDER/ups.conf:1: OutsideSection: driver = dummy-ups\n    take it out: it belongs below a section\n", None,
+    ),
+    "the mark of an editor": (
+        ("--upsd",), {"ups.conf": "\ufeff[a]\n"},
+        1, "FOLDER/ups.conf:1: Unreadable: [a]\n    take out the three bytes before it, the byte order mark of UTF-8\n", {"ups.conf": "[a]\n"},
+    ),
+    "faults of cmdvartab": (
+        ("--upsd",), {"cmdvartab": 'VARDESC ups.load "Load"\nVARIABLE ups.load "Load"\nVARDESC ups.temperature\n'},
+        1, 'FOLDER/cmdvartab:2: UnknownDirective: VARIABLE ups.load "Load"\n    take it out: NUT 2.8.0 has no such directive either\n'
+        "FOLDER/cmdvartab:3: BadForm: VARDESC ups.temperature\n    upsd(8) says what may stand there\n", None,
+    ),
+    "a cmdvartab that is right": ((), {"cmdvartab": 'VARDESC ups.load "Load"\n'}, 0, "", {"cmdvartab": 'VARDESC ups.load "Load"\n'}),
+}
 
 # Calls of the script that units wait by, in a room whose driver starts late.
 UNTIL_READY = """
@@ -168,8 +266,7 @@ COMPLETIONS = {
 
 def programs():
     """Returns the programs that the Makefile builds, as they are installed."""
-    with open(os.path.join(ROOT, "Makefile")) as file:
-        words = re.search(r"^PROGRAMS := (.*)$", file.read(), re.MULTILINE)[1].split()
+    words = re.search(r"^PROGRAMS := (.*)$", read(os.path.join(ROOT, "Makefile")), re.MULTILINE)[1].split()
     return [it.replace("_", "-") for it in words]
 
 
@@ -219,10 +316,13 @@ def state_of(folder):
 
 def passwords_in(folder):
     """Returns the passwords of a configuration: those of the server's users, by their names, and the monitor's."""
-    with open(os.path.join(folder, "upsd.users")) as file:
-        users = dict(re.findall(r"^\[(\w+)\]\n *password = (.*)$", file.read(), re.MULTILINE))
-    with open(os.path.join(folder, "upsmon.conf")) as file:
-        return users, re.search(r"^MONITOR \S+ 1 monuser (\S+) primary$", file.read(), re.MULTILINE)[1]
+    users, monitor = (read(os.path.join(folder, it)) for it in ("upsd.users", "upsmon.conf"))
+    found = dict(re.findall(r"^\[(\w+)\]\n *password = (.*)$", users, re.MULTILINE))
+    return found, re.search(r"^MONITOR \S+ 1 monuser (\S+) primary$", monitor, re.MULTILINE)[1]
+
+
+def mode_of(path):
+    return stat.S_IMODE(os.stat(path).st_mode)
 
 
 def state_of_file(path):
@@ -234,18 +334,14 @@ def state_of_file(path):
 def put_programs(built, folder):
     """Puts the programs that were built into a folder, scripts in place of the others, and what stands for the notices of the
     libraries. Returns the names of the built programs."""
-    os.mkdir(folder)
-    with open(os.path.join(folder, "third-party-notices"), "w") as file:
-        file.write("notices\n")
+    write(os.path.join(folder, "third-party-notices"), "notices\n")
     built = {os.path.basename(path).replace("_", "-"): path for path in built}
     for program in programs():
         path = os.path.join(folder, program)
         if program in built:
             shutil.copy(built[program], path)
         else:
-            with open(path, "w") as file:
-                file.write("#!/bin/sh\n")
-            os.chmod(path, 0o755)
+            write(path, "#!/bin/sh\n", 0o755)
     return [it for it in programs() if it in built]
 
 
@@ -256,13 +352,22 @@ def outside_make():
 
 class Tests:
     def __init__(self, built, folder):
-        self.folder = folder
+        self.folder, self.places = folder, 0
         self.bin = os.path.join(folder, "bin")
         self.built = put_programs(built, self.bin)
 
+    def needs(self, *programs):
+        """Skips a test that runs programs which weren't handed in."""
+        if not set(programs) <= set(self.built):
+            raise Missing("no built programs were handed in")
+
+    def place(self):
+        """Returns a path at which nothing is."""
+        self.places += 1
+        return os.path.join(self.folder, f"place {self.places}")
+
     def make(self, *words, cwd=ROOT):
-        done = subprocess.run(["make", "-s", *words], cwd=cwd, env=outside_make(), stdin=subprocess.DEVNULL, capture_output=True, timeout=60)
-        return done.returncode, done.stdout.decode(), done.stderr.decode()
+        return ended(["make", "-s", *words], cwd=cwd, env=outside_make())
 
     def install(self, *words):
         expect(self.make("install-built", f"BIN={self.bin}", *words), (0, "", ""), "make install-built")
@@ -305,10 +410,7 @@ class Tests:
         destination = os.path.join(self.folder, "gone")
         words = [f"DESTDIR={destination}", "PREFIX=/usr"]
         for path in ("etc/nut/ups.conf", "usr/lib/nut/usbhid-ups"):
-            at = os.path.join(destination, path)
-            os.makedirs(os.path.dirname(at))
-            with open(at, "w") as file:
-                file.write("mine\n")
+            write(os.path.join(destination, path), "mine\n")
         before = state_of(destination)
         self.install(*words)
         expect(self.make("uninstall", *words), (0, "", ""), "make uninstall")
@@ -321,29 +423,26 @@ class Tests:
         expect(said, [], "what is said of it")
         found = {path: it[0] for path, it in state_of(folder).items()}
         wanted = {example: 0o600 if example == "upsmon.conf" else 0o640 for example in EXAMPLES}
-        expect((found, stat.S_IMODE(os.stat(folder).st_mode)), (wanted, 0o750), "files and modes")
+        expect((found, mode_of(folder)), (wanted, 0o750), "files and modes")
         users, monitor = passwords_in(folder)
         expect((set(users), users["monuser"]), ({"admin", "monuser", "guest"}, monitor), "the passwords fit")
         other, _ = passwords_in(self.configured("another")[0])
         for password in (*users.values(), *other.values()):
             expect(re.fullmatch("[a-z0-9]{20}", password) is not None, True, "a password")
         expect(len({*users.values(), *other.values()}), 6, "no two are the same")
-        with open(os.path.join(folder, "upsmon.conf")) as file:
-            text = file.read()
+        text = read(os.path.join(folder, "upsmon.conf"))
         expect(re.findall("^SHUTDOWNCMD (.*)$", text, re.MULTILINE), ['"echo upsmon would stop this machine now"'], "nothing is stopped yet")
         expect(re.findall("^POWERDOWNFLAG (.*)$", text, re.MULTILINE), ["/run/killpower"], "where a boot clears it")
 
     def test_configure_leaves_files_as_they_are(self):
         folder = os.path.join(self.folder, "mine/etc/nut")
-        os.makedirs(folder)
+        write(os.path.join(folder, "upsd.users"), "mine\n")
         os.chmod(folder, 0o711)
-        with open(os.path.join(folder, "upsd.users"), "w") as file:
-            file.write("mine\n")
         os.symlink("none", os.path.join(folder, "ups.conf"))
         before = [state_of_file(os.path.join(folder, name)) for name in ("ups.conf", "upsd.users")]
         self.configured("mine")
         after = [state_of_file(os.path.join(folder, name)) for name in ("ups.conf", "upsd.users")]
-        expect((after, stat.S_IMODE(os.stat(folder).st_mode)), (before, 0o711), "what was there")
+        expect((after, mode_of(folder)), (before, 0o711), "what was there")
         os.remove(os.path.join(folder, "ups.conf"))
         self.configured("mine")
         first = state_of(folder)
@@ -356,23 +455,17 @@ class Tests:
         how often the program was called, and the files that were noted as made."""
         stand_in, count = os.path.join(self.folder, "stand-in"), os.path.join(self.folder, "calls")
         os.makedirs(stand_in, exist_ok=True)
-        with open(count, "w"):
-            pass
+        write(count, "")
         if failing:
-            with open(os.path.join(stand_in, failing), "w") as file:
-                file.write(f'#!/bin/sh\necho >> "{count}"\n[ "$(wc -l < "{count}")" != {at} ] || exit 1\nPATH="${{PATH#*:}}"\nexec {failing} "$@"\n')
-            os.chmod(file.name, 0o755)
+            calls = f'echo >> "{count}"\n[ "$(wc -l < "{count}")" != {at} ] || exit 1\n'
+            write(os.path.join(stand_in, failing), f'#!/bin/sh\n{calls}PATH="${{PATH#*:}}"\nexec {failing} "$@"\n', 0o755)
         script = 'set -eu; . "$1/packaging/configure.sh"; first_configuration "$1/examples" "$2" $3'
         env = {**os.environ, "PATH": f"{stand_in}:{os.environ['PATH']}", "GROUP": str(os.getgid()), "MADE": f"{folder}.made"}
         words = ["sh", "-c", script, "sh", ROOT, folder, " ".join(EXAMPLES)]
-        done = subprocess.run(words, env=env, stdin=subprocess.DEVNULL, stdout=subprocess.PIPE, stderr=subprocess.STDOUT, timeout=60)
+        status, said, _ = ended(words, env=env, stderr=subprocess.STDOUT)
         shutil.rmtree(stand_in)
-        made = []
-        if os.path.exists(f"{folder}.made"):
-            with open(f"{folder}.made") as file:
-                made = [os.path.relpath(line, folder) for line in file.read().splitlines()]
-        with open(count) as file:
-            return done.returncode, done.stdout.decode(), len(file.readlines()), made
+        notes = read(f"{folder}.made") if os.path.exists(f"{folder}.made") else ""
+        return status, said, read(count).count("\n"), [os.path.relpath(line, folder) for line in notes.splitlines()]
 
     def test_configure_fails_and_is_called_again(self):
         """Each call of each program that makes a first configuration fails in turn. What is there then is complete, and noted;
@@ -394,7 +487,7 @@ class Tests:
                 expect((status, sorted(made)), (0, sorted(EXAMPLES)), f"{what}: the next call: {said}")
                 found = state_of(folder)
                 expect({name: it[0] for name, it in found.items()}, modes, f"{what}: files and modes after the next call")
-                expect(stat.S_IMODE(os.stat(folder).st_mode), 0o750, f"{what}: the folder")
+                expect(mode_of(folder), 0o750, f"{what}: the folder")
                 expect({name: found[name] for name in left}, left, f"{what}: what was there stays")
                 users, monitor = passwords_in(folder)
                 expect((len({*users.values()}), users["monuser"]), (3, monitor), f"{what}: the passwords fit")
@@ -405,8 +498,7 @@ class Tests:
         status, said, _, made = self.first_configuration(folder, "ln", 3)
         expect((status, made), (1, [*EXAMPLES[:2]]), f"two files are made: {said}")
         path = os.path.join(folder, EXAMPLES[2])
-        with open(path, "w") as file:
-            file.write("mine\n")
+        write(path, "mine\n")
         before = state_of_file(path)
         status, said, _, made = self.first_configuration(folder)
         ensure(f"{path} is there already and stays as it is" in said.splitlines(), f"what is said: {said}")
@@ -414,44 +506,36 @@ class Tests:
         expect(state_of_file(path), before, "the other's file")
 
     def test_configuration_reads(self):
-        if not {"upsd", "upsmon"} <= set(self.built):
-            raise Missing("no built programs were handed in")
+        self.needs("upsd", "upsmon")
         folder, _ = self.configured("read")
         _, password = passwords_in(folder)
         asks = f"USERNAME monuser\nPASSWORD {password}\nLOGIN su700\nLOGOUT\n"
         words = [os.path.join(self.bin, "upsd"), "--stdio", "--conf", folder]
-        done = subprocess.run(words, input=asks.encode(), capture_output=True, timeout=60)
-        expect((done.returncode, done.stdout, done.stderr), (0, b"OK\nOK\nOK\nOK Goodbye\n", b""), "the server's")
+        expect(ended(words, input=asks.encode()), (0, "OK\nOK\nOK\nOK Goodbye\n", ""), "the server's")
         words = [os.path.join(self.bin, "upsmon"), "-K", "--conf", folder]
-        done = subprocess.run(words, stdin=subprocess.DEVNULL, capture_output=True, timeout=60)
-        expect((done.returncode, done.stdout, done.stderr), (1, b"", b""), "the monitor's")
+        expect(ended(words), (1, "", ""), "the monitor's")
 
     def test_installed_examples_have_no_passwords(self):
         destination = os.path.join(self.folder, "examples")
         self.install(f"DESTDIR={destination}", "PREFIX=/usr")
         folder = os.path.join(destination, "usr/share/mulgefa/examples")
-        with open(os.path.join(folder, "upsd.users")) as file:
-            expect(re.findall("^ *password.*$", file.read(), re.MULTILINE), [], "a password")
-        with open(os.path.join(folder, "upsmon.conf")) as file:
-            expect(re.findall("^MONITOR.*$", file.read(), re.MULTILINE), ["MONITOR su700@localhost 1 monuser PASSWORD primary"], "a password")
+        users, monitor = (read(os.path.join(folder, it)) for it in ("upsd.users", "upsmon.conf"))
+        expect(re.findall("^ *password.*$", users, re.MULTILINE), [], "a password")
+        expect(re.findall("^MONITOR.*$", monitor, re.MULTILINE), ["MONITOR su700@localhost 1 monuser PASSWORD primary"], "a password")
 
     def test_installed_rooms_print_what_the_page_shows(self):
-        if "nutsim" not in self.built:
-            raise Missing("no built programs were handed in")
+        self.needs("nutsim")
         prefix = self.installed("rooms")
-        with open(os.path.join(ROOT, "man", "nutsim.8")) as file:
-            shown = re.search(r"^\$ nutsim (.*)\n((?:.*\n)*?)\.EE$", file.read().replace("\\-", "-"), re.MULTILINE)
+        page = read(os.path.join(ROOT, "man", "nutsim.8")).replace("\\-", "-")
+        shown = re.search(r"^\$ nutsim (.*)\n((?:.*\n)*?)\.EE$", page, re.MULTILINE)
         words = [os.path.join(self.bin, "nutsim"), *shown[1].split()]
-        done = subprocess.run(words, cwd=os.path.join(prefix, "share/mulgefa"), stdin=subprocess.DEVNULL, capture_output=True, timeout=60)
-        expect((done.returncode, done.stdout.decode(), done.stderr), (0, shown[2], b""), shown[1])
+        expect(ended(words, cwd=os.path.join(prefix, "share/mulgefa")), (0, shown[2], ""), shown[1])
 
     def test_room_to_try(self):
         """The commands that the README shows work as pasted, on a network of their own."""
         needed("ip", "iproute2")
-        if not {"upsd", "dummy-ups", "upsc", "upsrw", "upscmd"} <= set(self.built):
-            raise Missing("no built programs were handed in")
-        with open(os.path.join(ROOT, "README.md")) as file:
-            shown = re.search(r"A room to try.*?```sh\n(.*?)```", file.read(), re.DOTALL)[1]
+        self.needs("upsd", "dummy-ups", "upsc", "upsrw", "upscmd")
+        shown = re.search(r"A room to try.*?```sh\n(.*?)```", read(os.path.join(ROOT, "README.md")), re.DOTALL)[1]
         room = os.path.join(self.folder, "room")
         os.makedirs(os.path.join(room, "bin"))
         os.symlink(self.bin, os.path.join(room, "bin", "tried"))
@@ -473,26 +557,34 @@ class Tests:
         for line in ("OL", "ups.id: rack7", "ups.status: OB"):
             expect(line in said.splitlines(), True, f"{line!r} is shown: {said}")
 
-    def check(self, *words):
-        """Returns what mulgefa-check prints with the built programs beside it, and its status."""
-        if not {"upsd", "upsmon"} <= set(self.built):
-            raise Missing("no built programs were handed in")
-        prefix = self.installed("checked")
-        env = {it: os.environ[it] for it in ("PATH", "TMPDIR") if it in os.environ}
-        done = subprocess.run([os.path.join(prefix, "sbin/mulgefa-check"), *words], env=env, stdin=subprocess.DEVNULL, stdout=subprocess.PIPE, stderr=subprocess.STDOUT, timeout=60)
-        return done.returncode, done.stdout.decode()
+    def check(self, *words, script=None, **env):
+        """Returns the status of mulgefa-check with the built programs beside it, and what it prints."""
+        self.needs("upsd", "upsmon")
+        script = script or os.path.join(self.installed("checked"), "sbin/mulgefa-check")
+        env = {**{it: os.environ[it] for it in ("PATH", "TMPDIR") if it in os.environ}, **env}
+        return ended([script, *words], env=env, stderr=subprocess.STDOUT)[:2]
 
-    def nuts_files(self, name, **files):
+    def nuts_files(self, files=()):
         """Makes a folder with files that are right, except for these."""
-        folder = os.path.join(self.folder, name)
+        folder = self.place()
         shutil.copytree(os.path.join(ROOT, "examples"), folder)
-        for file, text in files.items():
-            with open(os.path.join(folder, file.replace("_", ".")), "w") as opened:
-                opened.write(text)
+        for name, text in dict(files).items():
+            write(os.path.join(folder, name), text)
         return folder
 
+    def test_check_of_files(self):
+        """Rows of files that mulgefa-check reads, and of what it makes of them."""
+        for what, (words, files, status, told, changed) in CHECKED.items():
+            folder, to = self.nuts_files(files), self.place()
+            expect(self.check(*words, folder), (status, told.replace("FOLDER", folder)), what)
+            if changed is not None:
+                for option, at in ((("-w", to), to), (("-i",), folder)):
+                    found, said = self.check(*words, *option, folder)
+                    expect((found, {it: read(os.path.join(at, it)) for it in changed}), (0, changed), f"{what}, {option}: {said}")
+                    expect(self.check(*words, at), (0, told if status == 0 else ""), f"{what}: what {option} wrote")
+
     def test_check_of_what_is_taken(self):
-        folder = self.nuts_files("taken")
+        folder = self.nuts_files()
         before = state_of(folder)
         for words in ((folder,), ("--upsd", folder), ("--upsmon", folder), ("-i", folder)):
             expect(self.check(*words), (0, ""), f"mulgefa-check {words}")
@@ -510,29 +602,19 @@ class Tests:
         for words in (("--none",), ("-w",), (folder, folder), ("-i", "-w", folder), ("-w", folder, folder), (os.path.join(folder, "none"),)):
             expect(self.check(*words)[0], 2, f"mulgefa-check {words}")
 
-    def test_check_tells_other_letters(self):
-        """The case of letters counts in the name of a UPS of this machine, as it doesn't for NUT."""
-        monitors = "MONITOR SU700@localhost 1 mon m1 primary\nMONITOR SU700@rack 0 mon m1 secondary\nMONITOR su700@127.0.0.1 0 mon m1 secondary\n"
-        folder = self.nuts_files("letters", upsmon_conf=monitors + "SHUTDOWNCMD true\n")
-        note = "note: a MONITOR line has SU700, and ups.conf has su700: the case of letters counts; see from-nut(7)\n"
-        expect(self.check(folder), (0, note), "what it notes")
-
     def test_check_tells_a_command_that_others_may_write(self):
         """NOTIFYCMD runs as root, so whoever can write to it, or replace it, is root."""
         if os.geteuid() != 0:
             raise Missing("only root has files that nobody else may write to")
         scripts = os.path.join(self.folder, "scripts")
-        os.makedirs(os.path.join(scripts, "kept"))
-        os.makedirs(os.path.join(scripts, "shared"))
         for name in ("kept/notify", "kept/writable", "kept/theirs", "shared/notify"):
-            with open(os.path.join(scripts, name), "w") as file:
-                file.write("#!/bin/sh\n")
+            write(os.path.join(scripts, name), "#!/bin/sh\n")
         os.symlink("../shared/notify", os.path.join(scripts, "kept/link"))
         os.chmod(os.path.join(scripts, "shared"), 0o777)
         os.chmod(os.path.join(scripts, "kept/writable"), 0o722)
         os.chown(os.path.join(scripts, "kept/theirs"), 12345, 0)
         kept = f"{scripts}/kept"
-        for number, (command, told) in enumerate((
+        for command, told in (
             ('"logger -t upsmon"', ()),
             (f"{kept}/notify", ()),
             (f'"{kept}/notify -x" # {kept}/writable', ()),
@@ -541,8 +623,8 @@ class Tests:
             (f"{kept}/link", (f"{kept}/link", f"{scripts}/shared")),
             (f"{scripts}/shared/notify", (f"{scripts}/shared/notify", f"{scripts}/shared")),
             (f"{scripts}/shared/none", (f"{scripts}/shared/none", f"{scripts}/shared")),
-        )):
-            folder = self.nuts_files(f"command{number}", upsmon_conf=f"MINSUPPLIES 0\nNOTIFYCMD {command}\n")
+        ):
+            folder = self.nuts_files({"upsmon.conf": f"MINSUPPLIES 0\nNOTIFYCMD {command}\n"})
             note = "note: NOTIFYCMD runs {} as root here, and others than root may write to {}; see from-nut(7)\n"
             note = note.format(*told) if told else ""
             expect(self.check("--upsmon", folder), (0, note), f"what it notes of {command}")
@@ -556,7 +638,8 @@ class Tests:
         taken_out, left = {"community = ..", "authPassword = ..", "# .."}, {"community, authPassword, line 6, line 7"}
         for driver, of_ups_conf in (("dummy-ups", taken_out), ("snmp-ups", left)):
             ups_conf = drivers.format(driver) if driver == "snmp-ups" else drivers.format(driver).replace("secretG\n", "")
-            folder = self.nuts_files(f"hidden {driver}", upsd_users=users, upsd_conf='certident "a b" "secret8"\n', upsmon_conf=monitors, ups_conf=ups_conf)
+            files = {"upsd.users": users, "upsd.conf": 'certident "a b" "secret8"\n', "upsmon.conf": monitors, "ups.conf": ups_conf}
+            folder = self.nuts_files(files)
             status, said = self.check(folder)
             expect((status, "secret" in said.replace(folder, "")), (1, False), said)
             shown = [line.split(": ", 2)[2] for line in said.splitlines() if line.startswith(folder)]
@@ -564,93 +647,36 @@ class Tests:
             expect(wanted - set(shown), set(), f"what it shows: {shown}")
 
     def test_check_without_what_it_reads(self):
-        folder = self.nuts_files("unreadable")
+        folder = self.nuts_files()
         os.remove(os.path.join(folder, "upsd.conf"))
         os.mkdir(os.path.join(folder, "upsd.conf"))
         expect(self.check(folder), (2, f"mulgefa-check: {folder}/upsd.conf: cannot read\n"), "a file that can't be read")
         alone = os.path.join(self.folder, "alone", "bin")
         os.makedirs(alone)
         shutil.copy(os.path.join(ROOT, "packaging/mulgefa-check"), alone)
-        done = subprocess.run([os.path.join(alone, "mulgefa-check"), self.nuts_files("for-none")], stdin=subprocess.DEVNULL, capture_output=True, timeout=60)
-        said = b"mulgefa-check: neither upsd nor upsmon is installed beside this program\n"
-        expect((done.returncode, done.stdout, done.stderr), (2, b"", said), "no program")
+        said = "mulgefa-check: neither upsd nor upsmon is installed beside this program\n"
+        expect(ended([os.path.join(alone, "mulgefa-check"), self.nuts_files()]), (2, "", said), "no program")
 
     def test_check_in_a_full_folder(self):
         """A copy that can't be written whole changes nothing."""
-        if not {"upsd", "upsmon"} <= set(self.built):
-            raise Missing("no built programs were handed in")
-        small = os.path.join(self.folder, "small")
+        self.needs("upsd", "upsmon")
+        small = self.place()
         os.mkdir(small)
         mount = apart("--mount", "sh", "-c", 'mount -t tmpfs -o size=16k none "$0" && TMPDIR="$0" exec "$@"', small)
-        folder = self.nuts_files("full", ups_conf="maxretry = 3\n" + "# what is in the rack\n" * 300)
+        folder = self.nuts_files({"ups.conf": "maxretry = 3\n" + "# what is in the rack\n" * 300})
         before = state_of(folder)
         prefix = self.installed("checked-full")
-        done = subprocess.run([*mount, os.path.join(prefix, "sbin/mulgefa-check"), "-i", folder], stdin=subprocess.DEVNULL, capture_output=True, timeout=60)
-        expect((done.returncode, state_of(folder)), (2, before), done.stderr.decode())
-        ensure(done.stderr.endswith(b": cannot write\n"), f"what it tells: {done.stderr.decode()}")
-
-    def test_check_tells_a_port_behind_a_colon(self):
-        """Such a line is taken until the server starts, which doesn't know that address."""
-        lines = 'LISTEN 127.0.0.1:24938\nLISTEN ::1\n LISTEN "rack:24" # its port\nLISTEN ::1 24\nLISTEN rack\n'
-        folder = self.nuts_files("colon", upsd_conf=lines)
-        told = f"{folder}/upsd.conf:1: BadName: LISTEN 127.0.0.1:24938\n    change it to: LISTEN 127.0.0.1 24938\n"
-        told += f'{folder}/upsd.conf:3: BadName: LISTEN "rack:24" # its port\n    change it to: LISTEN "rack" 24 # its port\n'
-        expect(self.check(folder), (1, told), "what it tells")
-        to = os.path.join(self.folder, "colon-changed")
-        expect(self.check("-w", to, folder), (0, told), "mulgefa-check -w")
-        expect(self.check(to), (0, ""), "mulgefa-check of what it wrote")
-        folder = self.nuts_files("colons", upsd_conf="LISTEN 2001:470::1 99999\n")
-        told = f"{folder}/upsd.conf:1: BadNumber: LISTEN 2001:470::1 99999\n    upsd.conf(5) says what may stand there\n"
-        expect(self.check(folder), (1, told), "an address that has colons itself")
-
-    def test_check_proposes_addresses(self):
-        """All addresses, and IPv6 in brackets, as upsd takes them; upsmon takes no address of IPv6."""
-        lines = 'LISTEN *\nLISTEN "*" 24938 # all\nLISTEN *:24939\nLISTEN [::1]\nLISTEN [2001:470::1]:24940\nLISTEN "[2001:470::1]" 24941\n'
-        written = 'LISTEN ::\nLISTEN "::" 24938 # all\nLISTEN :: 24939\nLISTEN ::1\nLISTEN 2001:470::1 24940\nLISTEN "2001:470::1" 24941\n'
-        folder = self.nuts_files("addresses", upsd_conf=lines)
-        to = os.path.join(self.folder, "addresses-changed")
-        status, said = self.check("--upsd", "-w", to, folder)
-        with open(os.path.join(to, "upsd.conf")) as file:
-            expect((status, file.read()), (0, written), f"what it wrote: {said}")
-        ensure("BadName: LISTEN *\n    change it to: LISTEN ::\n" in said, f"what it tells: {said}")
-        folder = self.nuts_files("bracketed", upsmon_conf="MINSUPPLIES 0\nMONITOR su700@[::1]:3493 1 mon secret primary\n")
-        told = f"{folder}/upsmon.conf:2: BadName: MONITOR su700@[::1]:3493 1 .. primary\n"
-        told += "    a host is a name or an IPv4 address: give this one a name in /etc/hosts, and write that here\n"
-        expect(self.check("--upsmon", folder), (1, told), "what it tells of an address in a MONITOR line")
-
-    def test_check_changes_comments_alone(self):
-        """Bytes past ASCII that nobody reads go; others are left to people."""
-        folder = self.nuts_files("comments", upsd_conf=' #\tB\u00fcro\nMAXAGE 15 # \u00b0C\n', ups_conf='[u]\n desc = "a # b" # \u00fc\n')
-        to = os.path.join(self.folder, "comments-changed")
-        expect(self.check("--upsd", "-w", to, folder)[0], 0, "mulgefa-check -w")
-        for name, text in (("upsd.conf", " #\tB??ro\nMAXAGE 15 # ??C\n"), ("ups.conf", '[u]\n desc = "a # b" # ??\n')):
-            with open(os.path.join(to, name)) as file:
-                expect(file.read(), text, f"what it wrote as {name}")
-        folder = self.nuts_files("words", ups_conf='[u]\n desc = "B\u00fcro # 1"\n')
-        told = f'{folder}/ups.conf:2: Unreadable: desc = "B\u00fcro # 1"\n    ups.conf(5) says what may stand there\n'
-        expect(self.check("--upsd", folder), (1, told), "a byte that is read")
-
-    def test_check_takes_out_a_type_of_notice(self):
-        """Those that aren't given here, and those of later versions of NUT."""
-        lines = 'MINSUPPLIES 0\nNOTIFYFLAG NOPARENT SYSLOG+WALL\n NOTIFYMSG "NOPARENT" "upsmon parent died"\nNOTIFYFLAG ONBATT EXEC\n'
-        lines += "NOTIFYFLAG NOTOFF SYSLOG\nOFFDURATION 30\n"
-        folder = self.nuts_files("types", upsmon_conf=lines)
-        to = os.path.join(self.folder, "types-changed")
-        status, said = self.check("--upsmon", "-w", to, folder)
-        with open(os.path.join(to, "upsmon.conf")) as file:
-            expect((status, file.read()), (0, "MINSUPPLIES 0\n\n\nNOTIFYFLAG ONBATT EXEC\n\n\n"), f"what it wrote: {said}")
-        ensure("NOTIFYFLAG NOTOFF SYSLOG\n    take it out: no notice of NUT 2.8.0 has this type\n" in said, f"what it tells: {said}")
-        ensure("OFFDURATION ..\n    take it out: NUT 2.8.0 has no such directive either\n" in said, f"what it tells: {said}")
-        ensure("NOTIFYFLAG NOPARENT SYSLOG+WALL\n    take it out: this notice is about a process that upsmon lacks here\n" in said, f"what it tells: {said}")
+        status, _, err = ended([*mount, os.path.join(prefix, "sbin/mulgefa-check"), "-i", folder])
+        expect((status, state_of(folder)), (2, before), err)
+        ensure(err.endswith(": cannot write\n"), f"what it tells: {err}")
 
     def test_check_tells_every_line(self):
-        folder = self.nuts_files(
-            "told",
-            ups_conf='maxretry = 3\n[apc]\n driver = usbhid-ups\n port = auto\n vendorid = 051d\n override.battery.charge.low = 30\n',
-            upsd_conf="#\u00a0a comment\nMAXAGE 20\nSTATEPATH /run/nut\n",
-            upsd_users='[mon]\n password = "s3 cret"\n actions = set\n upsmon = master\n[guest]\n actions = fsd\n upsmon slave # ours\n',
-            upsmon_conf='RUN_AS_USER nut\nMONITOR apc 1 mon "s3 cret" master # mine\nMONITOR apc@rack 0 guest m2 slave\nNOTIFYCMD /sbin/upssched\n',
-        )
+        folder = self.nuts_files({
+            "ups.conf": 'maxretry = 3\n[apc]\n driver = usbhid-ups\n port = auto\n vendorid = 051d\n override.battery.charge.low = 30\n',
+            "upsd.conf": "#\u00a0a comment\nMAXAGE 20\nSTATEPATH /run/nut\n",
+            "upsd.users": '[mon]\n password = "s3 cret"\n actions = set\n upsmon = master\n[guest]\n actions = fsd\n upsmon slave # ours\n',
+            "upsmon.conf": 'RUN_AS_USER nut\nMONITOR apc 1 mon "s3 cret" master # mine\nMONITOR apc@rack 0 guest m2 slave\nNOTIFYCMD /sbin/upssched\n',
+        })
         before = state_of(folder)
         told = [
             "upsd.users:3: UnknownWord: actions = set",
@@ -679,7 +705,7 @@ class Tests:
         ]
         status, said = self.check(folder)
         expect((status, said.replace(f"{folder}/", "").splitlines()), (1, told), "what is told")
-        to = os.path.join(self.folder, "written")
+        to = self.place()
         status, said = self.check("-w", to, folder)
         expect((status, said.splitlines()[-1]), (0, f"{folder}/{told[-2]}"), "mulgefa-check -w")
         expect(self.check(to)[0], 0, "mulgefa-check of what it wrote")
@@ -700,75 +726,22 @@ class Tests:
         status, said = self.check(folder)
         expect((status, said.splitlines()[-1]), (1, REFUSED), "what is still refused")
 
-    def test_check_splits_lists(self):
-        """A line for each word, which NUT takes in one. The numbers stay those of the file that is read."""
-        users = "[a]\n actions = set fsd # both\n instcmds = load.on, load.off\n upsmon master\n actions = \"SET FSD\"\n"
-        folder = self.nuts_files("lists", upsd_users=users)
-        told = f"{folder}/upsd.users:2: BadForm: actions = set fsd # both\n    change it to: actions = SET # both\n"
-        told += f"                  actions = FSD\n{folder}/upsd.users:3: BadForm: instcmds = load.on, load.off\n"
-        told += f"    change it to: instcmds = load.on\n                  instcmds = load.off\n"
-        told += f"{folder}/upsd.users:4: UnknownWord: upsmon master\n    change it to: upsmon primary\n"
-        left = f'{folder}/upsd.users:5: UnknownWord: actions = "SET FSD"\n    upsd.users(5) says what may stand there\n'
-        expect(self.check("--upsd", folder), (1, told + left), "what it tells")
-        with open(os.path.join(folder, "upsd.users"), "w") as file:
-            file.write("".join(users.splitlines(True)[:-1]))
-        status, said = self.check("--upsd", "-i", folder)
-        with open(os.path.join(folder, "upsd.users")) as file:
-            written = "[a]\n actions = SET # both\n actions = FSD\n instcmds = load.on\n instcmds = load.off\n upsmon primary\n"
-            expect((status, file.read()), (0, written), f"what it wrote: {said}")
-
-    def test_check_quotes_passwords(self):
-        """Those that have a '=', as base64 does, at both ends."""
-        users = "[a]\n password = secret=1==\n"
-        monitors = "MINSUPPLIES 0\nMONITOR a@h 1 mon secret=1== primary\nMONITOR b 1 mon secret2= slave # b\n"
-        folder = self.nuts_files("quotes", upsd_users=users, upsmon_conf=monitors)
-        why = "    put the password in quotes, at the server and in each MONITOR line: NUT's programs end it at its '='\n"
-        told = f"{folder}/upsd.users:2: BadForm: password = ..\n{why}{folder}/upsmon.conf:2: BadForm: MONITOR a@h 1 .. primary\n{why}"
-        told += f"{folder}/upsmon.conf:3: BadForm: MONITOR b 1 .. slave\n    change it to: MONITOR b@localhost 1 .. secondary\n"
-        expect(self.check(folder), (1, told), "what it tells")
-        expect(self.check("-i", folder)[0], 0, "mulgefa-check -i")
-        with open(os.path.join(folder, "upsd.users")) as file:
-            expect(file.read(), '[a]\n password = "secret=1=="\n', "the server's file")
-        with open(os.path.join(folder, "upsmon.conf")) as file:
-            lines = 'MINSUPPLIES 0\nMONITOR a@h 1 mon "secret=1==" primary\nMONITOR b@localhost 1 mon "secret2=" secondary # b\n'
-            expect(file.read(), lines, "the monitor's file")
-
-    def test_check_tells_a_section_and_a_mark_apart(self):
-        """The lines below a section with a fault have none, and the mark of an editor is taken out."""
-        folder = self.nuts_files("sections", ups_conf='[the rack]\n driver = dummy-ups\n desc = "x"\n')
-        told = f"{folder}/ups.conf:1: OutsideSection: [the rack]\n    ups.conf(5) says what may stand there\n"
-        expect(self.check("--upsd", folder), (1, told), "what it tells")
-        folder = self.nuts_files("sectionless", ups_conf="driver = dummy-ups\n[a]\n")
-        told = f"{folder}/ups.conf:1: OutsideSection: driver = dummy-ups\n    take it out: it belongs below a section\n"
-        expect(self.check("--upsd", folder), (1, told), "a directive above all sections")
-        folder = self.nuts_files("marked", ups_conf="\ufeff[a]\n")
-        told = f"{folder}/ups.conf:1: Unreadable: [a]\n    take out the three bytes before it, the byte order mark of UTF-8\n"
-        expect(self.check("--upsd", folder), (1, told), "what it tells of a mark")
-        expect(self.check("--upsd", "-i", folder)[0], 0, "mulgefa-check -i")
-        with open(os.path.join(folder, "ups.conf"), "rb") as file:
-            expect(file.read(), b"[a]\n", "what it wrote")
-
     def test_check_leaves_a_driver_its_lines(self):
         """Those of NUT's dummy-ups too. Nothing is said of a driver that the package mulgefa-nut-drivers has."""
-        folder = self.nuts_files("dummy of NUT", ups_conf="maxretry = 3\n[a]\n driver = dummy-ups\n mode = dummy-loop\n override.ups.id = x\n")
+        folder = self.nuts_files({"ups.conf": "maxretry = 3\n[a]\n driver = dummy-ups\n mode = dummy-loop\n override.ups.id = x\n"})
         before = state_of(folder)
         status, said = self.check("--upsd", "-i", folder)
         kept = f"nothing was written: NUT's drivers need {folder}/ups.conf as it is; -w writes another directory for upsd"
         expect((status, said.splitlines()[-1], state_of(folder)), (1, kept, before), "what it changed")
-        folder = self.nuts_files("kept drivers", ups_conf="[a]\n driver = usbhid-ups\n[b]\n driver = snmp-ups\n")
+        folder = self.nuts_files({"ups.conf": "[a]\n driver = usbhid-ups\n[b]\n driver = snmp-ups\n"})
         notes = [GOES.format(driver) + "\n" for driver in ("snmp-ups", "usbhid-ups")]
         expect(self.check("--upsd", folder), (0, "".join(notes)), "without that package")
-        prefix = self.installed("kept/usr")
+        script = os.path.join(self.installed("kept/usr"), "sbin/mulgefa-check")
         for path in ("systemd/system/mulgefa-upsd.service.d/nut-drivers.conf", "nut/usbhid-ups"):
-            at = os.path.join(self.folder, "kept/lib", path)
-            os.makedirs(os.path.dirname(at))
-            with open(at, "w"):
-                pass
-        said = subprocess.run([os.path.join(prefix, "sbin/mulgefa-check"), "--upsd", folder], stdin=subprocess.DEVNULL, capture_output=True, timeout=60)
-        expect((said.returncode, said.stdout.decode()), (0, notes[0]), "with one of them in it")
-        folder = self.nuts_files("left lines", ups_conf="maxretry = 3\n[a]\n driver = usbhid-ups\n vendorid = 051d\n")
-        said = subprocess.run([os.path.join(prefix, "sbin/mulgefa-check"), "--upsd", folder], stdin=subprocess.DEVNULL, capture_output=True, timeout=60)
-        expect((said.returncode, said.stdout), (0, b""), "lines that upsd's unit leaves to them")
+            write(os.path.join(self.folder, "kept/lib", path), "")
+        expect(self.check("--upsd", folder, script=script), (0, notes[0]), "with one of them in it")
+        folder = self.nuts_files({"ups.conf": "maxretry = 3\n[a]\n driver = usbhid-ups\n vendorid = 051d\n"})
+        expect(self.check("--upsd", folder, script=script), (0, ""), "lines that upsd's unit leaves to them")
 
     def test_check_gives_upsd_its_view(self):
         """What upsd's unit calls where NUT's drivers read ups.conf: only upsd's lines of it are copied, in their places, and the other
@@ -778,51 +751,50 @@ class Tests:
         view = "\n\n# plain \\\n[eaton]\n driver = usbhid-ups # ours\n\n\n\n" + ' "desc" = "A" \\\n "B"\n\n\n\n[ apc ] # x\nport = auto\n\n[last]\n'
         told = ["left to the drivers: maxretry", "left to the driver of eaton: vendorid, override.ups.id, line 8, line 11, line 12", "left to the driver of apc: descr"]
         others = {"upsd.conf": "CERTFILE x\n", "upsd.users": "[a]\n actions = set\n"}
-        folder = self.nuts_files("for upsd", ups_conf=ups, upsd_conf=others["upsd.conf"], upsd_users=others["upsd.users"])
+        folder = self.nuts_files({"ups.conf": ups, **others})
         for name, mode in (("ups.conf", 0o640), ("upsd.conf", 0o600), ("upsd.users", 0o604)):
             os.chmod(os.path.join(folder, name), mode)
-        to = os.path.join(self.folder, "view")
+        to = self.place()
         for written in ("at first", "once more"):
             expect(self.check("--for-upsd", to, folder), (0, "".join(f"ups.conf: {line}\n" for line in told)), f"what it says {written}")
             found = {path: (it[0], it[3].decode()) for path, it in state_of(to).items()}
             wanted = {"ups.conf": (0o640, view), "upsd.conf": (0o640, others["upsd.conf"]), "upsd.users": (0o644, others["upsd.users"])}
             expect(found, wanted, f"what it writes {written}")
-            expect(stat.S_IMODE(os.stat(to).st_mode), 0o750, "who may look into the directory")
+            expect(mode_of(to), 0o750, "who may look into the directory")
         os.remove(os.path.join(folder, "upsd.conf"))
-        script = os.path.join(self.installed("checked"), "sbin/mulgefa-check")
-        done = subprocess.run([script, "--for-upsd", to, folder], env={**os.environ, "TMPDIR": "/nowhere"}, stdin=subprocess.DEVNULL, capture_output=True, timeout=60)
-        expect((done.returncode, done.stderr), (0, b""), "a file that has gone, and no room but beside the directory")
+        found = self.check("--for-upsd", to, folder, TMPDIR="/nowhere")
+        expect(found, (0, "".join(f"ups.conf: {line}\n" for line in told)), "a file that has gone, and no room but beside the directory")
         expect(sorted(state_of(to)), ["ups.conf", "upsd.users"], "what is there then")
         expect([it for it in os.listdir(self.folder) if it.startswith("mulgefa-check.")], [], "what is left")
         for words in (("--for-upsd",), ("--for-upsd", to, "-i"), ("--for-upsd", to, "--upsd"), ("--for-upsd", to, "-w", to)):
             expect(self.check(*words)[0], 2, f"mulgefa-check {words}")
-        empty = os.path.join(self.folder, "for nobody")
+        empty = self.place()
         os.mkdir(empty)
         expect(self.check("--for-upsd", to, empty), (2, f"mulgefa-check: {empty}: none of ups.conf, upsd.conf and upsd.users is there\n"), "a directory without files")
 
     def test_check_changes_all_or_nothing(self):
         """Where a disk becomes full, each file is what it was, and none is left over."""
-        if not {"upsd", "upsmon"} <= set(self.built):
-            raise Missing("no built programs were handed in")
-        folder = self.nuts_files("all or nothing", upsd_users="[a]\n actions = set\n", upsd_conf="DEBUG_MIN 1\n" + "# what is in the rack\n" * 300)
+        self.needs("upsd", "upsmon")
+        conf = "DEBUG_MIN 1\n" + "# what is in the rack\n" * 300
+        folder = self.nuts_files({"upsd.users": "[a]\n actions = set\n", "upsd.conf": conf})
         before = state_of(folder)
         prefix = self.installed("checked-small")
-        small, left = (os.path.join(self.folder, name) for name in ("small disk", "left"))
+        small, left = self.place(), self.place()
         for path in (small, left):
             os.mkdir(path)
         # nine pages: six for the files, and not enough for what upsd.conf was and for what it becomes
         mount = apart("--mount", "sh", "-c", 'mount -t tmpfs -o size=36k none "$0" && exec "$@"', small)
         script = 'cp -p "$1"/*.* "$0" && status=0 && { "$2" -i "$0" || status=$?; } && cp -p "$0"/* "$3" && exit "$status"'
         words = [*mount, "sh", "-c", script, small, folder, os.path.join(prefix, "sbin/mulgefa-check"), left]
-        done = subprocess.run(words, stdin=subprocess.DEVNULL, capture_output=True, timeout=60)
-        ensure(done.stderr.decode().endswith(f"mulgefa-check: {small}: cannot write, and no file is changed\n"), f"what it tells: {done.stderr.decode()}")
-        expect(done.returncode, 2, "its status")
+        status, _, err = ended(words)
+        ensure(err.endswith(f"mulgefa-check: {small}: cannot write, and no file is changed\n"), f"what it tells: {err}")
+        expect(status, 2, "its status")
         found, wanted = ({name: it[3] for name, it in state.items() if "/" not in name} for state in (state_of(left), before))
         expect(found, wanted, "what is there")
 
     def test_check_changes_in_place(self):
         old, new = "actions = set\n", "actions = SET\n"
-        folder = self.nuts_files("in place", upsd_users="[a]\n" + old)
+        folder = self.nuts_files({"upsd.users": "[a]\n" + old})
         os.chmod(os.path.join(folder, "upsd.users"), 0o604)
         status, said = self.check("-i", folder)
         expect((status, said.splitlines()[-1]), (0, f"{folder}/upsd.users is changed; what it was is {folder}/upsd.users.nut"), "mulgefa-check -i")
@@ -832,8 +804,7 @@ class Tests:
         kept = {"upsd.users.nut": "[a]\n" + old}
         for number in (2, 3):
             mine = f"[mine{number}]\n" + old
-            with open(os.path.join(folder, "upsd.users"), "w") as file:
-                file.write(mine)
+            write(os.path.join(folder, "upsd.users"), mine)
             kept[f"upsd.users.nut.{number}"] = mine
             told = f"{folder}/upsd.users is changed; what it was is {folder}/upsd.users.nut.{number}"
             status, said = self.check("-i", folder)
@@ -842,8 +813,8 @@ class Tests:
             expect(found, {**kept, "upsd.users": f"[mine{number}]\n" + new}, "its files")
 
     def test_check_leaves_what_people_decide(self):
-        folder = self.nuts_files("open", upsd_conf="MAXAGE 0\n", upsmon_conf="MINSUPPLIES 1\n")
-        to = os.path.join(self.folder, "nothing written")
+        folder = self.nuts_files({"upsd.conf": "MAXAGE 0\n", "upsmon.conf": "MINSUPPLIES 1\n"})
+        to = self.place()
         status, said = self.check("-w", to, folder)
         told = [
             f"{folder}/upsd.conf:1: BadNumber: MAXAGE 0",
@@ -853,33 +824,11 @@ class Tests:
         ]
         expect((status, said.splitlines(), os.path.exists(to)), (1, told, False), "what is told")
 
-    def test_check_reads_cmdvartab(self):
-        folder = self.nuts_files("described", cmdvartab='VARDESC ups.load "Load"\nVARIABLE ups.load "Load"\nVARDESC ups.temperature\n')
-        status, said = self.check("--upsd", folder)
-        told = [
-            f"{folder}/cmdvartab:2: UnknownDirective: VARIABLE ups.load \"Load\"",
-            "    take it out: NUT 2.8.0 has no such directive either",
-            f"{folder}/cmdvartab:3: BadForm: VARDESC ups.temperature",
-            "    upsd(8) says what may stand there",
-        ]
-        expect((status, said.splitlines()), (1, told), "what is told")
-        with open(os.path.join(folder, "cmdvartab"), "w") as file:
-            file.write('VARDESC ups.load "Load"\n')
-        to = os.path.join(self.folder, "described anew")
-        expect(self.check("-w", to, folder), (0, ""), "mulgefa-check -w")
-        with open(os.path.join(to, "cmdvartab")) as file:
-            expect(file.read(), 'VARDESC ups.load "Load"\n', "what it wrote")
-
     def completed(self, line, breaks=" \t\n\"'><=;|&(:@"):
         """Returns what bash offers at the end of a line, with the tools of a scene in place of the programs."""
         scene = os.path.join(self.folder, "scene")
-        if not os.path.isdir(scene):
-            os.mkdir(scene)
-            for name, text in SCENE.items():
-                path = os.path.join(scene, name)
-                with open(path, "w") as file:
-                    file.write(f"#!/bin/sh\n{text}")
-                os.chmod(path, 0o755)
+        for name, text in SCENE.items():
+            write(os.path.join(scene, name), f"#!/bin/sh\n{text}", 0o755)
         program = line.split()[0]
         script = f"""COMP_WORDBREAKS=$BREAKS
             . packaging/completions.bash
@@ -887,10 +836,14 @@ class Tests:
             COMP_LINE=$LINE COMP_POINT=${{#LINE}}
             _mulgefa_{program}
             printf '%s\\n' "${{COMPREPLY[@]}}" """
-        env = {**os.environ, "PATH": f"{scene}:{os.environ['PATH']}", "LINE": line, "BREAKS": breaks, "SCENE": scene}
-        done = subprocess.run([needed("bash", "bash"), "--norc", "-c", script], cwd=ROOT, env=env, stdin=subprocess.DEVNULL, capture_output=True, timeout=60)
-        expect((done.returncode, done.stderr.decode()), (0, ""), f"the completion of {line!r}")
-        return [it for it in done.stdout.decode().split("\n") if it]
+        env = {"PATH": f"{scene}:{os.environ['PATH']}", "LINE": line, "BREAKS": breaks, "SCENE": scene}
+        return list(filter(None, self.bash(script, env).splitlines()))
+
+    def bash(self, script, env):
+        """Returns what bash prints for a script, which is all that it prints."""
+        status, out, err = ended([needed("bash", "bash"), "--norc", "-c", script], cwd=ROOT, env={**os.environ, **env})
+        expect((status, err), (0, ""), f"{script} with {env}")
+        return out
 
     def test_completion(self):
         for line, offered in COMPLETIONS.items():
@@ -903,13 +856,11 @@ class Tests:
 
     def test_completion_asks_this_server(self):
         """The built tools are asked: of a server that doesn't run nothing is offered, and nothing is printed."""
-        if not {"upsc", "upsrw", "upscmd"} <= set(self.built):
-            raise Missing("no built programs were handed in")
+        self.needs("upsc", "upsrw", "upscmd")
         for tool in TOOLS:
-            env = {**os.environ, "PATH": f"{self.bin}:{os.environ['PATH']}", "LINE": f"{tool} su700@127.0.0.1:1 "}
             script = f'. packaging/completions.bash; COMP_LINE=$LINE COMP_POINT=${{#LINE}}; _mulgefa_{tool}; echo "${{#COMPREPLY[@]}}"'
-            done = subprocess.run([needed("bash", "bash"), "--norc", "-c", script], cwd=ROOT, env=env, stdin=subprocess.DEVNULL, capture_output=True, timeout=60)
-            expect((done.stdout, done.stderr), (b"0\n", b""), f"the completion of {tool}")
+            env = {"PATH": f"{self.bin}:{os.environ['PATH']}", "LINE": f"{tool} su700@127.0.0.1:1 "}
+            expect(self.bash(script, env), "0\n", f"the completion of {tool}")
 
     def test_install_without_programs(self):
         destination = os.path.join(self.folder, "nothing")
@@ -932,8 +883,7 @@ class Tests:
         for program in programs():
             if program not in UNITS:
                 continue
-            with open(os.path.join(prefix, "lib/systemd/system", UNITS[program])) as file:
-                text = file.read()
+            text = read(os.path.join(prefix, "lib/systemd/system", UNITS[program]))
             expect("@PREFIX@" in text or "@CONFDIR@" in text, False, f"{program}: places left open")
             started = re.findall(r"^ExecStart=/usr/bin/env --ignore-signal=HUP,XFSZ (\S+)", text, re.MULTILINE)
             expect(started, [os.path.join(prefix, folder_of(program), program)], f"{program} is started")
@@ -943,20 +893,17 @@ class Tests:
             for page, section in re.findall(r"man:([^ (]+)\((\d)\)", text):
                 path = os.path.join(prefix, f"share/man/man{section}/{page}.{section}")
                 expect(os.path.exists(path), True, f"{program}: the page {page}({section})")
-        with open(os.path.join(prefix, "lib/mulgefa/upsmon-apart")) as file:
-            text = file.read()
+        text = read(os.path.join(prefix, "lib/mulgefa/upsmon-apart"))
         expect((f"{prefix}/sbin/upsmon}}" in text, "@PREFIX@" in text), (True, False), "the program of upsmon-apart")
         self.install(f"PREFIX={prefix}", "CONFDIR=/srv/ups")
         for program in UNITS.keys() & set(programs()):
-            with open(os.path.join(prefix, "lib/systemd/system", UNITS[program])) as file:
-                text = file.read()
+            text = read(os.path.join(prefix, "lib/systemd/system", UNITS[program]))
             expect(("=/srv/ups\n" in text, "/etc/nut" in text), (True, False), f"{program}: another folder")
 
     def test_units_name_their_programs_in_the_journal(self):
         """The journal would show 'env', by which the units start their programs."""
         for program, unit in UNITS.items():
-            with open(os.path.join(ROOT, "packaging", unit)) as file:
-                text = file.read()
+            text = read(os.path.join(ROOT, "packaging", unit))
             expect(re.findall("^SyslogIdentifier=(.*)$", text, re.MULTILINE), [program], f"{unit}: the name in the journal")
         units = [name for name in os.listdir(os.path.join(ROOT, "packaging")) if name.endswith(".service")]
         expect(sorted(units), sorted(UNITS.values()), "all units")
@@ -965,8 +912,7 @@ class Tests:
         """A network may come up long after a power failure. However often a program failed, it is started again, and whoever starts
         it sees that it failed."""
         for unit in UNITS.values():
-            with open(os.path.join(ROOT, "packaging", unit)) as file:
-                text = file.read()
+            text = read(os.path.join(ROOT, "packaging", unit))
             ensure("Restart=on-failure\nRestartSec=5\n" in text, f"{unit}: when it starts again")
             ensure("\nStartLimitIntervalSec=0\n" in text.partition("[Service]")[0], f"{unit}: how often it starts again")
             expect(len(re.findall("^ExecStartPost=-/usr/bin/timeout 5 .*/until-ready [$]{MAINPID} ", text, re.MULTILINE)), 1, f"{unit}: its start")
@@ -976,26 +922,22 @@ class Tests:
         """What starts after a driver or a server finds its socket or its values, and waits for none that has ended or listens
         elsewhere."""
         needed("ip", "iproute2")
-        if not {"upsd", "dummy-ups", "upsc", "upsmon"} <= set(self.built):
-            raise Missing("no built programs were handed in")
+        self.needs("upsd", "dummy-ups", "upsc", "upsmon")
         prefix = self.installed("ready")
         room = os.path.join(self.folder, "waiting")
         shutil.copytree(os.path.join(ROOT, "examples"), room)
-        done = subprocess.run(
-            [*apart("--net"), "bash", "-c", UNTIL_READY], cwd=room, stdin=subprocess.DEVNULL, capture_output=True, timeout=120,
-            env={**os.environ, "prefix": prefix},
-        )
-        if done.returncode == 77:
+        words = [*apart("--net"), "bash", "-c", UNTIL_READY]
+        status, out, err = ended(words, cwd=room, timeout=120, env={**os.environ, "prefix": prefix})
+        if status == 77:
             raise Missing("no network of its own can be had")
         wanted = "the socket of a late driver: there\nthe status of a late driver: OL\n"
         wanted += "a server elsewhere: 0\nthe shells that wait: 1\na monitor that failed: gone\n"
         wanted += "a driver that ended: 0\na server that ended: 0\n"
-        expect((done.returncode, done.stdout.decode()), (0, wanted), done.stderr.decode())
+        expect((status, out), (0, wanted), err)
 
     def run_by_unit(self, prefix, program, setting, room, **options):
         """Starts what a setting of a unit runs, with a room in place of the folders that it names. Returns the processes."""
-        with open(os.path.join(prefix, "lib/systemd/system", UNITS[program])) as file:
-            commands = re.findall(f"^{setting}=[-+]?(.*)$", file.read(), re.MULTILINE)
+        commands = re.findall(f"^{setting}=[-+]?(.*)$", read(os.path.join(prefix, "lib/systemd/system", UNITS[program])), re.MULTILINE)
         meant = {"${NUT_CONFPATH}": room, "/run/nut": room, "${KIND}": "dev", "%i": "su700"}
         for command in commands:
             words = [re.sub("|".join(map(re.escape, meant)), lambda it: meant[it[0]], word) for word in shlex.split(command)]
@@ -1017,19 +959,15 @@ class Tests:
 
     def halt_by_units(self, name, disturb, **options):
         """Runs the units' programs, which have to outlive this disturbance, and then halts the machine."""
-        if not {"upsd", "dummy-ups", "upsmon"} <= set(self.built):
-            raise Missing("no built programs were handed in")
+        self.needs("upsd", "dummy-ups", "upsmon")
         prefix = self.installed(name)
         room = os.path.join(self.folder, f"room of {name}")
         shutil.copytree(os.path.join(ROOT, "examples"), room)
         port = free_port()
-        with open(os.path.join(room, "upsd.conf"), "w") as file:
-            file.write(f"LISTEN 127.0.0.1 {port}\n")
-        with open(os.path.join(room, "upsmon.conf"), "w") as file:
-            file.write(f'MONITOR su700@127.0.0.1:{port} 1 monuser m1 primary\nSHUTDOWNCMD "mkdir \'{room}/halted\'"\n')
-            file.write("FINALDELAY 0\nHOSTSYNC 0\nPOLLFREQ 1\n")
-        with open(os.path.join(room, "su700.dev"), "w") as file:
-            file.write("ups.status: OL\n")
+        write(os.path.join(room, "upsd.conf"), f"LISTEN 127.0.0.1 {port}\n")
+        halts = f"SHUTDOWNCMD \"mkdir '{room}/halted'\"\nFINALDELAY 0\nHOSTSYNC 0\nPOLLFREQ 1\n"
+        write(os.path.join(room, "upsmon.conf"), f"MONITOR su700@127.0.0.1:{port} 1 monuser m1 primary\n{halts}")
+        write(os.path.join(room, "su700.dev"), "ups.status: OL\n")
         running = {}
         try:
             for program in UNITS:
@@ -1042,8 +980,7 @@ class Tests:
             expect([program for program, process in running.items() if process.poll() is not None], [], "what has ended")
             running["dummy-ups"].kill()
             running["dummy-ups"].wait()
-            with open(os.path.join(room, "su700.dev"), "w") as file:
-                file.write("ups.status: OB LB\n")
+            write(os.path.join(room, "su700.dev"), "ups.status: OB LB\n")
             (running["dummy-ups"],) = self.run_by_unit(prefix, "dummy-ups", "ExecStart", room, **options)
             said, _ = running["upsmon"].communicate(timeout=60)
             expect((running["upsmon"].returncode, os.path.isdir(f"{room}/halted")), (0, True), f"the halt: {said}")
@@ -1054,17 +991,14 @@ class Tests:
 
     def test_units_refuse_to_reload_faults(self):
         """A reload by a unit fails at a fault, names the line, and asks for nothing."""
-        if not {"upsd", "upsmon"} <= set(self.built):
-            raise Missing("no built programs were handed in")
+        self.needs("upsd", "upsmon")
         prefix = self.installed("reload")
         room = os.path.join(self.folder, "reloaded")
         shutil.copytree(os.path.join(ROOT, "examples"), room)
         for program, name in (("upsd", "upsd.conf"), ("upsmon", "upsmon.conf")):
             for fault, status in (("", 0), ("FAULTY\n", 1)):
-                with open(os.path.join(ROOT, "examples", name)) as file:
-                    text = file.read()
-                with open(os.path.join(room, name), "w") as file:
-                    file.write(fault + text)
+                text = read(os.path.join(ROOT, "examples", name))
+                write(os.path.join(room, name), fault + text)
                 ended = []
                 for process in self.run_by_unit(prefix, program, "ExecReload", room):
                     said = process.communicate(timeout=60)[0].decode()
@@ -1081,8 +1015,7 @@ class Tests:
         """What SHUTDOWNCMD unmounts has to be unmounted for the whole machine."""
         texts = {}
         for program, unit in UNITS.items():
-            with open(os.path.join(ROOT, "packaging", unit)) as file:
-                texts[program] = file.read()
+            texts[program] = read(os.path.join(ROOT, "packaging", unit))
         expect(OWN_MOUNTS.findall(texts["upsmon"]), [], "settings of upsmon's unit")
         ensure("ProtectKernelModules=yes" in OWN_MOUNTS.findall(texts["upsd"]), "those of upsd's aren't found")
 
@@ -1092,23 +1025,21 @@ class Tests:
         folder = os.path.join(prefix, "lib/systemd/system")
         env = {**os.environ, "SYSTEMD_UNIT_PATH": folder + ":", "MANPATH": os.path.join(prefix, "share/man")}
         for name in sorted(os.listdir(folder)):
-            done = subprocess.run([analyze, "verify", os.path.join(folder, name)], env=env, capture_output=True, timeout=60)
-            expect((done.returncode, done.stderr.decode()), (0, ""), name)
+            status, _, err = ended([analyze, "verify", os.path.join(folder, name)], env=env)
+            expect((status, err), (0, ""), name)
 
     def test_pages_format_without_warnings(self):
         groff = needed("groff", "groff-base")
         for page in sorted(os.listdir(os.path.join(ROOT, "man"))):
             words = [groff, "-man", "-ww", "-Tascii", "-P-cbou", os.path.join(ROOT, "man", page)]
-            done = subprocess.run(words, capture_output=True, timeout=60)
-            expect((done.returncode, done.stderr.decode()), (0, ""), page)
-            text = done.stdout.decode()
+            status, text, err = ended(words)
+            expect((status, err), (0, ""), page)
             for heading in ("NAME", "DESCRIPTION", "EXAMPLES", "SEE ALSO"):
                 expect(heading in text, True, f"{page}: {heading}")
 
     def test_pages_refer_to_pages(self):
         for page in os.listdir(os.path.join(ROOT, "man")):
-            with open(os.path.join(ROOT, "man", page)) as file:
-                text = file.read()
+            text = read(os.path.join(ROOT, "man", page))
             for name, section in re.findall(r"(?:^\.BR |\\fB)(\S+?)(?: |\\fR)\((\d)\)", text, re.MULTILINE):
                 if name in ("getent", "resolv.conf", "setpriv", "syslog", "systemd.exec"):  # the system's
                     continue
@@ -1119,12 +1050,12 @@ class Tests:
         """Each option of a program's help is in its page, and the page has no other."""
         if not self.built:
             raise Missing("no built program was handed in")
-        for program in self.built:
-            done = subprocess.run([os.path.join(self.bin, program), "--help"], capture_output=True, timeout=60)
-            expect(done.returncode, 0, f"{program} --help")
-            options = set(re.findall(r"(?<![\w-])--?[A-Za-z][a-z]*", done.stdout.decode().split("Options:", 1)[1]))
-            with open(os.path.join(ROOT, "man", f"{program}.8")) as file:
-                text = file.read().replace("\\-", "-").replace("\\~", " ")
+        for program in [*self.built, "nutroom"]:
+            words = [os.path.join(self.bin, program)] if program in self.built else [sys.executable, os.path.join(ROOT, "tools", program)]
+            status, out, _ = ended([*words, "--help"])
+            expect(status, 0, f"{program} --help")
+            options = set(re.findall(r"(?<![\w-])--?[A-Za-z][a-z]*", re.split("[Oo]ption[a-z ]*:\n", out)[1]))
+            text = read(os.path.join(ROOT, "man", f"{program}.8")).replace("\\-", "-").replace("\\~", " ")
             section = re.search(r"^\.SH OPTIONS\n(.*?)^\.SH", text, re.MULTILINE | re.DOTALL)[1]
             heads = re.findall(r"^\.T[PQ]\n(.*)$", section, re.MULTILINE)
             found = set(re.findall(r"(?<![\w-])--?[A-Za-z][a-z]*", "\n".join(re.sub(r"^\.B[IR]?", "", it) for it in heads)))
