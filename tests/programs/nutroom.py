@@ -63,8 +63,7 @@ LOW = "at 10 su700 OB\nat 20 su700 OB LB\n"
 def write(folder, name, text):
     path = os.path.join(folder, name)
     os.makedirs(os.path.dirname(path), exist_ok=True)
-    with open(path, "wb") as file:
-        file.write(text.encode() if isinstance(text, str) else text)
+    write(path, text.encode() if isinstance(text, str) else text)
     return path
 
 
@@ -143,8 +142,7 @@ class Tests:
         """Checks the picture of a room's run as a whole. Returns its elements."""
         to = os.path.join(os.path.dirname(path), "x.svg")
         self.printed("-n", "3", "-s", "1", "--svg", to, *words, path)
-        with open(to) as file:
-            return check_picture(file.read())
+        return check_picture(read(to))
 
     # From here on, each method whose name begins with 'test_' is a test.
 
@@ -162,8 +160,7 @@ class Tests:
 
     def test_the_manual_page_has_every_option(self):
         options = set(re.findall(r"(?<![\w-])--?[A-Za-z][a-z]*", re.split("[Oo]ption[a-z ]*:\n", self.printed("--help"))[1]))
-        with open(MANUAL) as file:
-            section = re.search(r"^\.SH OPTIONS\n(.*?)^\.SH", file.read().replace("\\-", "-").replace("\\~", " "), re.MULTILINE | re.DOTALL)[1]
+        section = re.search(r"^\.SH OPTIONS\n(.*?)^\.SH", read(MANUAL).replace("\\-", "-").replace("\\~", " "), re.MULTILINE | re.DOTALL)[1]
         heads = re.findall(r"^\.T[PQ]\n(.*)$", section, re.MULTILINE)
         found = set(re.findall(r"(?<![\w-])--?[A-Za-z][a-z]*", "\n".join(re.sub(r"^\.B[IR]?", "", it) for it in heads)))
         expect(sorted(found), sorted(options), "the options")
@@ -386,8 +383,7 @@ class Tests:
         ensure(b"skipped" not in done.stdout, "a step was skipped")
         expect(len(re.findall(rb"monitor \d phase Halted", done.stdout)), 2, "machines that were halted")
         room = read_room(path, Nutsim(self.nutsim))
-        with open(to) as file:
-            expect("".join(play_run(room, Nutsim(self.nutsim), 2, 2)[0].steps), file.read(), "the steps")
+        expect("".join(play_run(room, Nutsim(self.nutsim), 2, 2)[0].steps), read(to), "the steps")
 
     def test_two_servers(self):
         """UPSes with the same name at two servers, a machine that needs one of both, and another client. nutsim plays the steps
@@ -412,8 +408,7 @@ class Tests:
         expect((done.returncode, done.stderr), (0, b""), "nutsim")
         ensure(b"skipped" not in done.stdout, "a step was skipped")
         expect(len(re.findall(rb"monitor [012] phase Halted", done.stdout)), 3, "machines that were halted")
-        with open(to) as file:
-            ensure(len(re.findall("^link 3 0$", file.read(), re.MULTILINE)) > 3, "the client calls again and again")
+        ensure(len(re.findall("^link 3 0$", read(to), re.MULTILINE)) > 3, "the client calls again and again")
         self.picture(path)
         # of the machine with UPSes at both, what is proved only for one server
         aside = "21 s of its last status, if its UPSes were at one server"
@@ -509,8 +504,7 @@ class Tests:
 
     def test_the_page_shows_what_is_printed(self):
         needs_proved_build("what takes many runs or long ones")
-        with open(PAGE) as file:
-            page = file.read()
+        page = read(PAGE)
         found = re.findall(r"```console\n\$ nutroom (.*)\n((?:.*\n)*?)```", page)
         ensure(len(found) >= 1, "no command is shown")
         for words, due in found:
@@ -525,21 +519,18 @@ class Tests:
 
     def test_the_greatest_delay_is_what_upsmon_waits_for(self):
         """upsmon's own limit, which stands in its source, is that of this program and of the pages."""
-        with open(LIMITS) as file:
-            (most,) = re.findall(r"^pub const ANSWER_ON_BATTERY: u8 = (\d+);$", file.read(), re.MULTILINE)
+        (most,) = re.findall(r"^pub const ANSWER_ON_BATTERY: u8 = (\d+);$", read(LIMITS), re.MULTILINE)
         expect(PATIENCE_ON_BATTERY, int(most), "the greatest delay of a room")
         for path, said in (
             (MANUAL, f"The most may be {most}: while a UPS is on battery,"),
             (MONITOR_MANUAL, f"or {most} while any UPS is on battery, it is lost"),
             (PAGE, f"If it is more than {most}, none of this holds"),
         ):
-            with open(path) as file:
-                ensure(said in file.read(), f"{path} says {said!r}")
+            ensure(said in read(path), f"{path} says {said!r}")
 
     def test_the_script_that_measures(self):
         """The script that docs/room.md shows prints the greatest delay."""
-        with open(PAGE) as file:
-            script = re.search(r"```sh\n( *for .*?)```", file.read(), re.DOTALL)[1]
+        script = re.search(r"```sh\n( *for .*?)```", read(PAGE), re.DOTALL)[1]
         few = re.sub(r"seq \d+", "seq 5", script)
         ensure(few != script, "nothing is counted")
         folder = os.path.join(self.folder, "measured")

@@ -95,13 +95,11 @@ class RoomFiles:
         self.folder = folder
         os.makedirs(folder, exist_ok=True)
         for name, text in server_files(config).items():
-            with open(os.path.join(folder, name), "wb") as file:
-                file.write(text)
+            write(os.path.join(folder, name), text)
         self.monitors = []
         for number, it in enumerate(rules):
             path = os.path.join(folder, f"upsmon-{number}.conf")
-            with open(path, "wb") as file:
-                file.write(it.text())
+            write(path, it.text())
             self.monitors.append(path)
 
 
@@ -133,8 +131,7 @@ class Tests(Shimmed):
 
     def write(self, name, data):
         path = os.path.join(self.folder, name)
-        with open(path, "wb") as file:
-            file.write(data)
+        write(path, data)
         return path
 
     def run(self, room, path, data=b"", env=None):
@@ -174,8 +171,7 @@ class Tests(Shimmed):
         shown = re.findall(r"```console\n\$ nutsim (.*)\n((?:.*\n)*?)```", page)
         expect(sorted(words.split()[1] for words, _ in shown), sorted(f"examples/schedules/{it}" for it in os.listdir(SCHEDULES) if it.endswith(".sched")), "the schedules")
         for words, due in shown:
-            done = subprocess.run([self.program, *words.split()], cwd=os.path.dirname(EXAMPLES), capture_output=True, timeout=60)
-            expect((done.returncode, done.stdout.decode(), done.stderr), (0, due, b""), words)
+            expect(ended([self.program, *words.split()], cwd=os.path.dirname(EXAMPLES)), (0, due, ""), words)
 
     def test_the_model_plays_the_rows(self):
         for rules, row, due in (([PRIMARY], ALONE_ROW, ALONE_DUE), ([PRIMARY, SECONDARY], PAIR_ROW, PAIR_DUE)):

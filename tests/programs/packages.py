@@ -71,8 +71,7 @@ def state_of(folder):
             found = os.lstat(path)
             digest = ""
             if stat.S_ISREG(found.st_mode):
-                with open(path, "rb") as file:
-                    digest = hashlib.sha256(file.read()).hexdigest()
+                digest = hashlib.sha256(read_bytes(path)).hexdigest()
             state[shown] = (found.st_mode, found.st_uid, found.st_gid, digest)
     return state
 
@@ -198,8 +197,7 @@ class Tests:
             os.mkdir(path)
         for program in install.programs():
             shutil.copy(needed("true", "coreutils"), os.path.join(folder, program))
-        with open(os.path.join(folder, "third-party-notices"), "w"):
-            pass
+        write(os.path.join(folder, "third-party-notices"), "")
         with open(os.path.join(stand_in, "dpkg-shlibdeps"), "w") as file:
             file.write("#!/bin/sh\necho cannot find a library >&2\nexit 2\n")
         os.chmod(file.name, 0o755)
@@ -419,9 +417,7 @@ class Tests:
         }
         for path, text in files.items():
             os.makedirs(os.path.dirname(os.path.join(tree, path)), exist_ok=True)
-            with open(os.path.join(tree, path), "w") as file:
-                file.write(text)
-            os.chmod(file.name, 0o755 if text.startswith("#!") else 0o644)
+            write(os.path.join(tree, path), text, 0o755 if text.startswith("#!") else 0o644)
         for folder, _, _ in os.walk(tree):
             os.chmod(folder, 0o755)
         status, said = run([needed("dpkg-deb", "dpkg"), "--root-owner-group", "--build", tree, f"{tree}.deb"])
