@@ -11,6 +11,7 @@ import collections
 import concurrent.futures
 import contextlib
 import functools
+import glob
 import os
 import random
 import re
@@ -24,8 +25,9 @@ import time
 import xml.etree.ElementTree
 
 from tests.programs.nutsim import server_files
-from tests.support.harness import ROOT, VERSION_SHOWN, Failed, ensure, expect, fewer, needs_proved_build, patience, run_tests
+from tests.support.harness import ROOT, VERSION_SHOWN, ended, ensure, expect, fewer, needs_proved_build, patience, read, run_tests, write
 from tests.support.model import Config, User, words_of
+from tests.support.room import until
 from tests.support.room_model import RoomOfServers, Rules, Watched, shown
 from tests.support.terminal import run_on_terminal
 
@@ -60,21 +62,14 @@ PAIR = "machine m1 m1.conf delay 0 2\nmachine m2 m2.conf delay 0 2\n"
 LOW = "at 10 su700 OB\nat 20 su700 OB LB\n"
 
 
-def write(folder, name, text):
-    path = os.path.join(folder, name)
-    os.makedirs(os.path.dirname(path), exist_ok=True)
-    write(path, text.encode() if isinstance(text, str) else text)
-    return path
-
-
 def write_room(folder, text, config=CONFIG, files=None):
     """Writes a description and its configuration files into a folder. Those of several servers are in folders of their names."""
     for host, it in config.items() if isinstance(config, dict) else [("", config)]:
         for name, data in server_files(it).items():
-            write(os.path.join(folder, host), name, data)
+            write(os.path.join(folder, host, name), data)
     for name, rules in (FILES if files is None else files).items():
-        write(folder, name, rules.text())
-    return write(folder, "room", text)
+        write(os.path.join(folder, name), rules.text())
+    return write(os.path.join(folder, "room"), text)
 
 
 # What is wrong with a description, and the message about it.
@@ -126,14 +121,25 @@ class Tests:
 
     def run(self, *words, nutsim=None, cwd=None, **options):
         """Returns the status, what is printed, and what is written about a failure."""
-        words = [sys.executable, PROGRAM, "--nutsim", nutsim or self.nutsim, *words]
-        done = subprocess.run(words, stdin=subprocess.DEVNULL, capture_output=True, timeout=patience(300), cwd=cwd, **options)
-        return done.returncode, done.stdout.decode(), done.stderr.decode()
+        command = [sys.executable, PROGRAM, "--nutsim", nutsim or self.nutsim, *words]
+        return ended(command, timeout=patience(300), cwd=cwd, **options)
 
     def printed(self, *words, **options):
         status, out, err = self.run(*words, **options)
         expect((status, err), (0, ""), words)
         return out
+
+    def expect_printed(self, lines, *words):
+        """Expects that these lines are printed, among others. Returns all."""
+        found = self.printed(*words).splitlines()
+        expect([it for it in lines if it not in found], [], f"what isn't printed by {words}: {found}")
+        return found
+
+    def expect_halts(self, folder, steps, confs, count):
+        """Expects that nutsim plays such steps in a folder without skipping any, and halts so many machines."""
+        status, out, err = ended([self.nutsim, folder, steps, *(os.path.join(folder, it) for it in confs)])
+        expect((status, err, "skipped" in out), (0, "", False), "nutsim")
+        expect(len(re.findall(r"monitor \d phase Halted", out)), count, "machines that were halted")
 
     def refused(self, path, text, **options):
         expect(self.run("-n", "1", path, **options), (1, "", f"nutroom: {text}\n"), text)
@@ -157,13 +163,6 @@ class Tests:
             expect((status, out), (2, ""), words)
             ensure(err.startswith("usage: nutroom "), f"{words}: {err!r}")
         expect(self.printed("--version"), f"nutroom {VERSION_SHOWN}\n", "the version")
-
-    def test_the_manual_page_has_every_option(self):
-        options = set(re.findall(r"(?<![\w-])--?[A-Za-z][a-z]*", re.split("[Oo]ption[a-z ]*:\n", self.printed("--help"))[1]))
-        section = re.search(r"^\.SH OPTIONS\n(.*?)^\.SH", read(MANUAL).replace("\\-", "-").replace("\\~", " "), re.MULTILINE | re.DOTALL)[1]
-        heads = re.findall(r"^\.T[PQ]\n(.*)$", section, re.MULTILINE)
-        found = set(re.findall(r"(?<![\w-])--?[A-Za-z][a-z]*", "\n".join(re.sub(r"^\.B[IR]?", "", it) for it in heads)))
-        expect(sorted(found), sorted(options), "the options")
 
     def test_lines_that_do_not_read(self):
         for line, text in WRONG_LINES.items():
@@ -197,18 +196,17 @@ class Tests:
         self.refused(other, f"{none}: cannot read\nnutroom: {none}: No such file or directory (os error 2)")
         other = self.room(f"conf none\n{PAIR}{LOW}")
         self.refused(other, f"{os.path.dirname(other)}/none/ups.conf: cannot read: No such file or directory")
-        write(folder, "m2.conf", "MONITOR su700@localhost 1 sec m2 tertiary\n")
-        self.refused(path, f"{folder}/m2.conf:1: UnknownWord\nnutroom: ROLE: 'primary' or 'secondary' is meant")
-        write(folder, "m2.conf", "# nobody\n\nMONITOR su900@localhost 1 sec m2 secondary\n")
-        self.refused(path, f"{folder}/m2.conf:3: ups.conf has no UPS su900")
-        write(folder, "m2.conf", "MONITOR su700@localhost 1 sec m2 secondary\nPOLLFREQ 86401\n")
-        self.refused(path, f"{folder}/m2.conf:2: more than 86400 s take too long to play")
-        write(folder, "m2.conf", "MINSUPPLIES 0\n")
-        self.refused(path, f"{folder}/m2.conf:0: no UPS is watched")
-        write(folder, "upsd.users", "password = x\n")
-        self.refused(path, f"{folder}/upsd.users:1: OutsideSection\nnutroom: password: a line [NAME] has to come before it")
-        write(folder, "upsd.users", "maxretry = 3\n")
-        self.refused(path, f"{folder}/upsd.users:1: OutsideSection\nnutroom: a directive of upsd.users is meant")
+        line = "MONITOR {} 1 sec m2 {}\n"
+        for name, text, fault in (
+            ("m2.conf", line.format("su700@localhost", "tertiary"), ":1: UnknownWord\nnutroom: ROLE: 'primary' or 'secondary' is meant"),
+            ("m2.conf", "# nobody\n\n" + line.format("su900@localhost", "secondary"), ":3: ups.conf has no UPS su900"),
+            ("m2.conf", line.format("su700@localhost", "secondary") + "POLLFREQ 86401\n", ":2: more than 86400 s take too long to play"),
+            ("m2.conf", "MINSUPPLIES 0\n", ":0: no UPS is watched"),
+            ("upsd.users", "password = x\n", ":1: OutsideSection\nnutroom: password: a line [NAME] has to come before it"),
+            ("upsd.users", "maxretry = 3\n", ":1: OutsideSection\nnutroom: a directive of upsd.users is meant"),
+        ):
+            write(os.path.join(folder, name), text)
+            self.refused(path, f"{folder}/{name}{fault}")
 
     def test_machines_that_the_server_does_not_let_in(self):
         for user, password, text in (
@@ -251,8 +249,8 @@ class Tests:
             ("failed", "echo nutsim: out of memory >&2; exit 1", "out of memory"),
             ("silent", "exit 3", "nutsim ended with status 3"),
         ):
-            program = write(self.folder, name, f"#!/bin/sh\ncat > /dev/null\necho >> {count}\n[ $(wc -l < {count}) -le 2 ] && exit\n{script}\n")
-            os.chmod(program, 0o755)
+            begins = f"cat > /dev/null\necho >> {count}\n[ $(wc -l < {count}) -le 2 ] && exit\n"
+            program = write(os.path.join(self.folder, name), f"#!/bin/sh\n{begins}{script}\n", 0o755)
             self.refused(path, f"run 1: {text}", nutsim=program)
             os.remove(count)
         self.refused(path, f"{self.folder}/none cannot be run: No such file or directory", nutsim=os.path.join(self.folder, "none"))
@@ -262,15 +260,19 @@ class Tests:
         folder = os.path.join(self.folder, "found")
         shutil.copytree(TOOLS, os.path.join(folder, "tools"), ignore=shutil.ignore_patterns("__pycache__"))
         program = os.path.join(folder, "tools", "nutroom")
-        for at, env in (("tools", {}), ("bin", {}), ("other", {"PATH": os.path.join(self.folder, "found", "other")})):
+        nowhere = "nutroom: nutsim isn't found beside nutroom, in ../bin or on the PATH; --nutsim names it\n"
+        for at, search, status, told in (
+            ("tools", "/none", 0, ""),
+            ("bin", "/none", 0, ""),
+            ("other", os.path.join(folder, "other"), 0, ""),
+            ("another", "/none", 1, nowhere),
+        ):
             link = os.path.join(folder, at, "nutsim")
             os.makedirs(os.path.dirname(link), exist_ok=True)
             os.symlink(self.nutsim, link)
-            done = subprocess.run([sys.executable, program, "-n", "1", path], capture_output=True, timeout=60, env={**os.environ, "PATH": "/none", **env})
-            expect((done.returncode, done.stderr), (0, b""), at)
+            found = ended([sys.executable, program, "-n", "1", path], env={**os.environ, "PATH": search})
+            expect(found[::2], (status, told), at)
             os.remove(link)
-        done = subprocess.run([sys.executable, program, "-n", "1", path], capture_output=True, timeout=60, env={**os.environ, "PATH": "/none"})
-        expect((done.returncode, done.stderr), (1, b"nutroom: nutsim isn't found beside nutroom, in ../bin or on the PATH; --nutsim names it\n"), "nowhere")
 
     def test_files_that_cannot_be_written(self):
         path = self.room(PAIR + LOW)
@@ -285,7 +287,7 @@ class Tests:
             '  at 20.000\tsu700 OB "LB"  # low\r\nbattery "su700" 40\n\n# machines\nat 10 su700 OB\n'
             f"machine m1 ../{os.path.basename(folder)}/m1.conf delay 0.0 2\nmachine m2 m2.conf delay 0 2.000\nconf ."
         )
-        other = write(folder, "other", text)
+        other = write(os.path.join(folder, "other"), text)
         first, second = (self.printed("-n", "5", "-s", "9", it) for it in (plain, other))
         # with the same machines and the same outage
         expect(first.replace(plain, ""), second.replace(other, ""), "what is printed")
@@ -293,40 +295,47 @@ class Tests:
     def test_a_worked_room(self):
         """The sums of the worked examples of nut_in_time: the primary knows within 7 seconds and is halted within 28, the
         secondary knows within 23."""
-        lines = self.printed("-n", "3", self.room(PAIR + "battery su700 3\n" + LOW)).splitlines()
-        ensure("  m1  halted by 20 + POLLFREQ 5 + delay 2 + HOSTSYNC 15 + 1 + FINALDELAY 5 = 48" in lines, lines)
-        ensure("  m2  halted by 20 + delay 2 + HOSTSYNC 15 + 1 + FINALDELAY 5 = 43" in lines, lines)
-        ensure("HOSTSYNC 15 of m1 is enough for m2 (14); in brackets what is enough" in lines, lines)
-        ensure("battery.runtime.low of su700: at least 28 s, and what a machine takes from SHUTDOWNCMD until it is off; the battery of this room lasts 3 s" in lines, lines)
+        lines = self.expect_printed((
+            "  m1  halted by 20 + POLLFREQ 5 + delay 2 + HOSTSYNC 15 + 1 + FINALDELAY 5 = 48",
+            "  m2  halted by 20 + delay 2 + HOSTSYNC 15 + 1 + FINALDELAY 5 = 43",
+            "HOSTSYNC 15 of m1 is enough for m2 (14); in brackets what is enough",
+            "battery.runtime.low of su700: at least 28 s, and what a machine takes from SHUTDOWNCMD until it is off; "
+            "the battery of this room lasts 3 s",
+        ), "-n", "3", self.room(PAIR + "battery su700 3\n" + LOW))
         rows = [it.split() for it in lines if it.startswith(("m1", "m2"))]
         expect([(row[0], row[1], row[8], row[9]) for row in rows], [("m1", "primary", "48", "3"), ("m2", "secondary", "43", "3")], "the table")
 
     def test_what_is_said_of_machines(self):
         """It says which machines have to stop in time, which keep running, and about which nothing is promised."""
         path = self.room("machine m1 both.conf delay 0 1\nmachine m2 m2.conf delay 0 1\nmachine m3 m2.conf delay 0 5\n" + LOW)
-        lines = self.printed("-n", "2", path).splitlines()
-        ensure("  m1  keeps running: its UPSes are neither low nor forced, and DEADTIME is long enough" in lines, lines)
+        keeps = "  m1  keeps running: its UPSes are neither low nor forced, and DEADTIME is long enough"
+        sync = "HOSTSYNC 15 of m1 {}; in brackets what is enough"
+        lines = self.expect_printed((keeps, sync.format("is enough for m2 (13)"), sync.format("may be too short for m3 (17)")), "-n", "2", path)
         rows = {it.split()[0]: it.split()[2:] for it in lines if it.startswith(("m1 ", "m2 ", "m3 "))}
         expect((rows["m1"], rows["m2"][6], rows["m3"][6]), (["-"] * 6 + ["keeps", "running"], "42", "46"), "the table")
-        for line in ("is enough for m2 (13)", "may be too short for m3 (17)"):
-            ensure(f"HOSTSYNC 15 of m1 {line}; in brackets what is enough" in lines, lines)
-        cut = self.printed("-n", "4", self.room(f"{PAIR}{LOW}at 15 m2 cut\n")).splitlines()
-        ensure("  m2  halted by 20 + delay 2 + HOSTSYNC 15 + 1 + FINALDELAY 5 = 43; doesn't hold, since its link was cut" in cut, cut)
-        ensure("      cut off on battery: halted within DEADTIME 15 + 1 + FINALDELAY 5 = 21 s of its last status" in cut, cut)
-        back = self.printed("-n", "4", self.room(f"{PAIR}{LOW}at 15 m1 cut\nat 25 m1 back\n")).splitlines()
-        ensure("  m1  halted by 20 + POLLFREQ 5 + delay 2 + HOSTSYNC 15 + 1 + FINALDELAY 5 = 48; doesn't hold, since its link was cut" in back, back)
-        sums = "4 * delay 2 + delay 2 + HOSTSYNC 15 + 1 + FINALDELAY 5 = 31"
-        ensure(f"      once its links are back, and these UPSes are shown so: halted within {sums} s" in back, back)
-        online = self.printed("-n", "2", self.room(f"{PAIR}at 5 su700 OB\nat 15 m2 cut\nat 8 su700 OL\n")).splitlines()
-        ensure("  m1  keeps running: its UPSes are neither low nor forced, and DEADTIME is long enough" in online and "  m2  nothing is said of it" in online, online)
-        ensure("  nobody: 2 of 2" in online, online)
+        cut = "; doesn't hold, since its link was cut"
+        for changes, *lines in (
+            (
+                LOW + "at 15 m2 cut\n",
+                "  m2  halted by 20 + delay 2 + HOSTSYNC 15 + 1 + FINALDELAY 5 = 43" + cut,
+                "      cut off on battery: halted within DEADTIME 15 + 1 + FINALDELAY 5 = 21 s of its last status",
+            ),
+            (
+                LOW + "at 15 m1 cut\nat 25 m1 back\n",
+                "  m1  halted by 20 + POLLFREQ 5 + delay 2 + HOSTSYNC 15 + 1 + FINALDELAY 5 = 48" + cut,
+                "      once its links are back, and these UPSes are shown so: halted within "
+                "4 * delay 2 + delay 2 + HOSTSYNC 15 + 1 + FINALDELAY 5 = 31 s",
+            ),
+            ("at 5 su700 OB\nat 15 m2 cut\nat 8 su700 OL\n", keeps, "  m2  nothing is said of it", "  nobody: 4 of 4"),
+        ):
+            self.expect_printed(lines, "-n", "4", self.room(PAIR + changes))
 
     def test_host_sync_that_is_too_short(self):
         needs_proved_build("what takes many runs or long ones")
         files = {**FILES, "m1.conf": Rules([Watched(b"su700", "primary")], HOSTSYNC=5)}
         path = self.room("machine m1 m1.conf delay 0 1\nmachine m2 m2.conf delay 0 1\nmachine m3 m2.conf delay 0 3\n" + LOW, files=files)
-        lines = self.printed("-n", "40", "-s", "1", path).splitlines()
-        ensure("HOSTSYNC 5 of m1 may be too short for m2 (12), m3 (14); in brackets what is enough" in lines, lines)
+        told = "HOSTSYNC 5 of m1 may be too short for m2 (12), m3 (14); in brackets what is enough"
+        lines = self.expect_printed((told,), "-n", "40", "-s", "1", path)
         orders = [it.strip().split(":")[0].split() for it in lines[lines.index("They were halted in this order:") + 1 :]]
         ensure(any(it[-1] != "m1" for it in orders), f"m1 was always last: {orders}")
 
@@ -377,11 +386,7 @@ class Tests:
         folder = os.path.dirname(path)
         to = os.path.join(folder, "steps")
         self.printed("-n", "3", "-s", "2", "--steps", to, "--run", "2", path)
-        words = [self.nutsim, folder, to, *(os.path.join(folder, it) for it in ("m1.conf", "m2.conf"))]
-        done = subprocess.run(words, stdin=subprocess.DEVNULL, capture_output=True, timeout=60)
-        expect((done.returncode, done.stderr), (0, b""), "nutsim")
-        ensure(b"skipped" not in done.stdout, "a step was skipped")
-        expect(len(re.findall(rb"monitor \d phase Halted", done.stdout)), 2, "machines that were halted")
+        self.expect_halts(folder, to, ("m1.conf", "m2.conf"), 2)
         room = read_room(path, Nutsim(self.nutsim))
         expect("".join(play_run(room, Nutsim(self.nutsim), 2, 2)[0].steps), read(to), "the steps")
 
@@ -394,20 +399,14 @@ class Tests:
         files = {"m1.conf": PRIMARY, "m2.conf": PRIMARY, "m3.conf": Rules(both)}
         path = self.room(text, config={"m1": CONFIG, "m2": CONFIG}, files=files)
         to = os.path.join(os.path.dirname(path), "steps")
-        lines = self.printed("-n", "3", "-s", "1", "--run", "2", "--steps", to, path).splitlines()
-        for line in (
+        self.expect_printed((
             "10 s  su700@m1 OB LB",
             "80 s  the battery of su700@m2 is empty",
             "  m1  halted by 10 + POLLFREQ 5 + delay 2 + HOSTSYNC 15 + 1 + FINALDELAY 5 = 38",
             "  m2  halted by 20 + POLLFREQ 5 + delay 2 + HOSTSYNC 15 + 1 + FINALDELAY 5 = 48",
             "  m3  halted by 20 + delay 2 + HOSTSYNC 15 + 1 + FINALDELAY 5 = 43",
-        ):
-            ensure(line in lines, f"{line!r} isn't printed: {lines}")
-        words = [self.nutsim, f"{to}.files", to, *(os.path.join(f"{to}.files", f"{host}.conf") for host in range(4))]
-        done = subprocess.run(words, stdin=subprocess.DEVNULL, capture_output=True, timeout=60)
-        expect((done.returncode, done.stderr), (0, b""), "nutsim")
-        ensure(b"skipped" not in done.stdout, "a step was skipped")
-        expect(len(re.findall(rb"monitor [012] phase Halted", done.stdout)), 3, "machines that were halted")
+        ), "-n", "3", "-s", "1", "--run", "2", "--steps", to, path)
+        self.expect_halts(f"{to}.files", to, [f"{host}.conf" for host in range(4)], 3)
         ensure(len(re.findall("^link 3 0$", read(to), re.MULTILINE)) > 3, "the client calls again and again")
         self.picture(path)
         # of the machine with UPSes at both, what is proved only for one server
@@ -426,16 +425,23 @@ class Tests:
         path = self.room(f"{PAIR}client su700 delay 0 1\n{LOW}")
         self.printed("-n", "1", path, env={**os.environ, "TMPDIR": folder})
         expect(os.listdir(folder), [], "what is left")
+        # a shell that starts the tests in the background makes its children ignore interrupts
         heed = functools.partial(signal.signal, signal.SIGINT, signal.SIG_DFL)
         words = [sys.executable, PROGRAM, "--nutsim", self.nutsim, "-n", "99999", path]
-        process = subprocess.Popen(words, stdin=subprocess.DEVNULL, env={**os.environ, "TMPDIR": folder}, preexec_fn=heed)
-        for _ in range(600):
-            if os.listdir(folder) and os.path.exists(os.path.join(folder, os.listdir(folder)[0], "2.conf")):
-                break
-            time.sleep(0.05)
-        time.sleep(0.2)
-        process.send_signal(signal.SIGINT)
-        expect((process.wait(timeout=30), os.listdir(folder)), (-signal.SIGINT, []), "an interrupt")
+        for interrupt in (os.kill, os.killpg):
+            process = subprocess.Popen(
+                words, stdin=subprocess.DEVNULL, stdout=subprocess.PIPE, stderr=subprocess.PIPE, start_new_session=True, preexec_fn=heed,
+                env={**os.environ, "TMPDIR": folder},
+            )
+            try:
+                until(lambda: plays(process.pid) and glob.glob(f"{folder}/*/2.conf"), "it has started a nutsim", patience(30))
+                interrupt(process.pid, signal.SIGINT)
+                out, err = process.communicate(timeout=30)
+            finally:
+                if process.poll() is None:
+                    os.killpg(process.pid, signal.SIGKILL)
+                    process.wait()
+            expect((process.returncode, out, err, os.listdir(folder)), (-signal.SIGINT, b"", b"", []), f"an interrupt by {interrupt}")
 
     def test_pictures(self):
         first = self.picture(self.room(PAIR + "battery su700 60\n" + LOW))
@@ -463,44 +469,15 @@ class Tests:
         bars = [f"\rnutroom: [{'#' * full}{'.' * (30 - full)}] {done} of 2 runs" for done, full in ((0, 0), (1, 15), (2, 30))]
         expect(told.decode(), "".join(bars) + "\r\x1b[K", "the bar")
 
-    def test_it_can_be_interrupted(self):
-        words = [sys.executable, PROGRAM, "--nutsim", self.nutsim, "-n", "99999", self.room(PAIR + LOW)]
-        # a shell that starts the tests in the background makes its children ignore interrupts
-        heed = functools.partial(signal.signal, signal.SIGINT, signal.SIG_DFL)
-        process = subprocess.Popen(
-            words, stdin=subprocess.DEVNULL, stdout=subprocess.PIPE, stderr=subprocess.PIPE, start_new_session=True, preexec_fn=heed
-        )
-        try:
-            self.wait_for_play(process.pid)
-            os.killpg(process.pid, signal.SIGINT)
-            out, err = process.communicate(timeout=30)
-        finally:
-            if process.poll() is None:
-                os.killpg(process.pid, signal.SIGKILL)
-                process.wait()
-        expect((process.returncode, out, err), (-signal.SIGINT, b"", b""), "an interrupt")
-
-    @staticmethod
-    def wait_for_play(pid):
-        """Waits until a nutroom has started its first nutsim."""
-        for _ in range(600):
-            for thread in os.listdir(f"/proc/{pid}/task"):
-                with contextlib.suppress(OSError), open(f"/proc/{pid}/task/{thread}/children") as children:
-                    if children.read().strip():
-                        return
-            time.sleep(0.05)
-        raise Failed("nutroom never started nutsim")
-
     def test_output_that_fails(self):
         words = [sys.executable, PROGRAM, "--nutsim", self.nutsim, "-n", "1", self.room(PAIR + LOW)]
         with open("/dev/full", "wb") as full:
-            done = subprocess.run(words, stdin=subprocess.DEVNULL, stdout=full, stderr=subprocess.PIPE, timeout=60)
-        expect((done.returncode, done.stderr), (1, b"nutroom: output failed: No space left on device\n"), "a full disk")
+            status, _, err = ended(words, stdout=full)
+        expect((status, err), (1, "nutroom: output failed: No space left on device\n"), "a full disk")
 
     def test_output_that_nobody_reads(self):
         line = shlex.join([sys.executable, PROGRAM, "--nutsim", self.nutsim, "-n", "1", self.room(PAIR + LOW)]) + " | true"
-        done = subprocess.run(["bash", "-c", line], stdin=subprocess.DEVNULL, capture_output=True, timeout=60)
-        expect(done.stderr, b"", "what is told")
+        expect(ended(["bash", "-c", line])[2], "", "what is told")
 
     def test_the_page_shows_what_is_printed(self):
         needs_proved_build("what takes many runs or long ones")
@@ -513,8 +490,7 @@ class Tests:
             if "--svg" in words:
                 words[words.index("--svg") + 1] = svg
             expect(self.printed(*words, cwd=ROOT), due, f"nutroom {' '.join(words)}")
-        with open(svg) as drawn, open(PICTURE) as shown_there:
-            expect(drawn.read() == shown_there.read(), True, "docs/room.svg is what is drawn")
+        expect(read(svg) == read(PICTURE), True, "docs/room.svg is what is drawn")
         ensure("](room.svg)" in page, "the picture isn't shown")
 
     def test_the_greatest_delay_is_what_upsmon_waits_for(self):
@@ -537,10 +513,10 @@ class Tests:
         count = os.path.join(folder, "count")
         # the third answer takes long
         for name, text in (("sleep", ""), ("upsc", f"echo >> {count}\n[ $(wc -l < {count}) -ne 3 ] || /bin/sleep 0.4\necho OL\n")):
-            os.chmod(write(folder, name, f"#!/bin/sh\n{text}"), 0o755)
-        done = subprocess.run(["sh", "-c", few], capture_output=True, timeout=60, env={**os.environ, "PATH": f"{folder}:{os.environ['PATH']}"})
-        expect((done.returncode, done.stderr), (0, b""), "the script")
-        ensure(400 <= int(done.stdout) < 3000, f"it prints {done.stdout!r}")
+            write(os.path.join(folder, name), f"#!/bin/sh\n{text}", 0o755)
+        status, out, err = ended(["sh", "-c", few], env={**os.environ, "PATH": f"{folder}:{os.environ['PATH']}"})
+        expect((status, err), (0, ""), "the script")
+        ensure(400 <= int(out) < 3000, f"it prints {out!r}")
 
     def test_random_rooms(self):
         """No machine that keeps pace passes its bound, and some reach it; a HOSTSYNC that is called enough is enough."""
@@ -563,6 +539,13 @@ class Tests:
             ensure(margins[law, 0] > 0, f"no halt {law} reaches its bound")
         for what in ("machines that went on as promised", "machines at two servers", "other clients", "HOSTSYNC that was just enough"):
             ensure(counts[what] > 0, f"not all was played: {counts}")
+
+
+def plays(pid):
+    """Whether a nutroom has started a nutsim."""
+    with contextlib.suppress(OSError):
+        return any(read(f"/proc/{pid}/task/{thread}/children").strip() for thread in os.listdir(f"/proc/{pid}/task"))
+    return False
 
 
 def check_picture(text):
