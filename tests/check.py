@@ -43,7 +43,6 @@ TESTS = (
     ("rehearsals.words", (REHEARSE,)),
     ("rehearsals.examples", (REHEARSE,)),
     ("gate.borrows", ()),
-    ("gate.upsmon_page", ()),
     ("programs.tools", ("upsc", "upsrw", "upscmd")),
     ("programs.upsd_sockets", ("upsd", "dummy_ups", "upsrw", "upscmd")),
     ("programs.upsd_reload", ("upsd", "dummy_ups")),

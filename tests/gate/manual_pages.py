@@ -1,13 +1,15 @@
 #!/usr/bin/env python3
 """Holds manual pages against the sources: the lines that a program reports and what its page says of them, the kinds of errors in
-files, the priorities, and the numbers of limits and timeouts. It needs no built program. The last line is 'N passed, M failed'."""
+files, the priorities, and the numbers of limits and timeouts. upsmon(8) stays short, and its script is that of from-nut(7). It needs
+no built program. The last line is 'N passed, M failed'."""
 
 import functools
+import glob
 import os
 import re
 import sys
 
-from tests.support.harness import ROOT, ensure, expect, run_tests
+from tests.support.harness import ROOT, ensure, expect, read, run_tests
 
 MAN = os.path.join(ROOT, "man")
 CRATES = os.path.join(ROOT, "crates")
@@ -105,6 +107,18 @@ LIMITS = {
     ),
 }
 
+# The greatest size of upsmon(8), in bytes.
+MOST_BYTES = 21 * 1024
+
+# The files with what upsmon writes while it watches, or with --fsd or --check.
+OF_UPSMON = ("nut_upsmon/src/*.rt", "nut_monitor_sockets/src/*.rt", "nut_program/src/reload_report.rt")
+# Those with texts in the place of WHY, and with what all programs write.
+OF_OTHERS = ("nut_poll/src/*.rt", "nut_program/src/*.rt", "nut_client/src/failure.rt", "nut_io/src/*.rt")
+# The lines of --check DIR.. begin with the directory; those of the command line are of no watch.
+NOT_ON_THE_PAGE = ("room.rt", "command_line.rt")
+# What the page has for a part of a line, in capitals or as a number.
+PLACE = r"signal: N \(NAME\)|\b(?:X|N|ROLE|FILE|WHY|NAME|ERROR|QUERY|CHANGES|STATUS|DIRECTIVE|PATH|DIR)\b|\b\d+\b"
+
 # A text that a source writes.
 WRITTEN = re.compile(r'write(?:ln)?!\([^"]*?"((?:[^"\\]|\\.)*)"')
 
@@ -113,16 +127,13 @@ WRITTEN = re.compile(r'write(?:ln)?!\([^"]*?"((?:[^"\\]|\\.)*)"')
 def code(name):
     """Returns a source, by its crate and file, without comments."""
     crate, _, file = name.partition("/")
-    with open(os.path.join(CRATES, crate, "src", file + ".rt"), encoding="utf-8") as source:
-        return re.sub(r"//.*", "", source.read())
+    return re.sub(r"//.*", "", read(os.path.join(CRATES, crate, "src", file + ".rt")))
 
 
 @functools.lru_cache(maxsize=None)
 def lines(page):
     """Returns the lines of a page as they are read, each with its macro, if it has one."""
-    with open(os.path.join(MAN, page), encoding="utf-8") as file:
-        text = file.read()
-    text = re.sub(r"\\f[BIR]", "", text).replace(r"\&", "")
+    text = re.sub(r"\\f[BIR]", "", read(os.path.join(MAN, page))).replace(r"\&", "")
     for escape, sign in (("-", "-"), ("~", " "), ("(aq", "'"), ("(dq", '"'), ("(lq", '"'), ("(rq", '"'), ("(bu", "*"), ("e", "\\")):
         text = text.replace("\\" + escape, sign)
     return text.splitlines()
@@ -170,6 +181,21 @@ def numbers(place):
         found = re.search(rf"\bconst {it}: \w+ = ([\d_]+);|\b{it}: NumberOr<.*, ([\d_]+)>|\b{it}: (\d+),", code(name))
         ensure(found, f"{name} has no {it}")
         yield int((found[1] or found[2] or found[3]).replace("_", ""))
+
+
+def parts(text, place):
+    """Returns what stands between the places and colons of a line."""
+    return [it.strip(" ;,()/.") for it in re.split(place + "|: ", text) if re.search("[A-Za-z]{2}", it)]
+
+
+def codes(patterns, left_out=()):
+    """Yields the names and the texts of sources, without comments."""
+    for pattern in patterns:
+        found = sorted(glob.glob(os.path.join(ROOT, "crates", pattern)))
+        ensure(found, f"there is no {pattern}")
+        for path in found:
+            if os.path.basename(path) not in left_out:
+                yield os.path.relpath(path, ROOT), re.sub(r"^\s*//.*$", "", read(path), flags=re.MULTILINE)
 
 
 class Tests:
@@ -236,6 +262,44 @@ class Tests:
         """upsd(8) says after how many seconds a machine counts as gone that answers no probe."""
         idle, interval, probes = numbers("nut_server_sockets/keepalive IDLE INTERVAL PROBES")
         ensure(f"client's machine answers no probe {idle + interval * probes} s" in words("upsd.8"), "the time of probes in upsd(8)")
+
+    def test_diagnostics_of_upsmon_are_written(self):
+        """What a line has between its places is a text of the sources, or several, since some texts are put together."""
+        literals = [it for _, source in codes((*OF_UPSMON, *OF_OTHERS)) for it in re.findall(r'"((?:[^"\\]|\\.)*)"', source)]
+        known = {it for literal in literals for it in parts(literal, r"\{[^{}]*\}|\b\d+\b")}
+        any_of = "|".join(sorted(map(re.escape, known), key=len, reverse=True))
+        written = re.compile(f"(?:{any_of})(?:[ ;(]+(?:{any_of}))*")
+        found = heads("upsmon.8", "DIAGNOSTICS")
+        ensure(len(found) > 50, f"upsmon(8) has {len(found)} diagnostics")
+        for head in found:
+            for part in parts(head, PLACE):
+                ensure(written.fullmatch(part), f"upsmon(8) has {part!r} of {head!r}, which nothing writes")
+
+    def test_what_upsmon_writes_is_on_the_page(self):
+        there = "\n".join(lines("upsmon.8")) + "\n".join(lines("mulgefa.7"))
+        for name, source in codes(OF_UPSMON, NOT_ON_THE_PAGE):
+            for text in WRITTEN.findall(source):
+                # what is wrong with a word of the command line is said of the word
+                for part in [] if text.startswith("--") else parts(text, r"\{[^{}]*\}|\\\w|\b\d+\b"):
+                    ensure(part in there, f"upsmon(8) lacks {part!r} of {name}: {text!r}")
+
+    def test_sections_of_upsmon(self):
+        """What an operator needs first comes first."""
+        names = re.findall(r'^\.SH "?([^"\n]*)"?$', "\n".join(lines("upsmon.8")), re.MULTILINE)
+        expect(names[2:5], ["DESCRIPTION", "IN AN EMERGENCY", "WHEN THE MACHINE IS SHUT DOWN"], "the first sections")
+        for name in ("OPTIONS", "EXIT STATUS", "ENVIRONMENT", "FILES", "DIAGNOSTICS", "SECURITY", "EXAMPLES", "SEE ALSO"):
+            ensure(name in names, f"upsmon(8) has no section {name}")
+
+    def test_script_of_upsmon(self):
+        """The script that shuts down after some minutes is the one that from-nut(7) has, which the packages' tests run."""
+        script = re.search(r"^#!/bin/sh\n.*?^esac$", "\n".join(lines("upsmon.8")), re.MULTILINE | re.DOTALL)
+        ensure(script, "upsmon(8) has no script")
+        source = read(os.path.join(ROOT, "docs", "from-nut.md"))
+        ensure(f"```\n{script[0]}\n```" in source, "the script isn't that of docs/from-nut.md")
+
+    def test_size_of_upsmon(self):
+        size = os.path.getsize(os.path.join(ROOT, "man", "upsmon.8"))
+        ensure(size <= MOST_BYTES, f"upsmon(8) has {size:,} bytes, more than {MOST_BYTES:,}")
 
 
 if __name__ == "__main__":

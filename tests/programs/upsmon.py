@@ -23,8 +23,8 @@ from tests.support.harness import (
     streams_without_readers, write,
 )
 from tests.support.monitored import (
-    BATTERY_LOW, ESTABLISHED, FLAG, FORCED, LOST, OF_SHUTDOWN, ON_BATTERY, QUICK, SHUTDOWN, UNAVAILABLE, ByteByByte, Closing, Endless,
-    MonitorTests, Rubbish, Silent, Upstream, children_of, play, put_program,
+    BATTERY_LOW, ESTABLISHED, FLAG, FORCED, LOST, OF_SHUTDOWN, ON_BATTERY, QUICK, SHUTDOWN, UNAVAILABLE, ByteByByte, MonitorTests, Silent,
+    Upstream, children_of, play, put_program,
 )
 from tests.support.room import SOON, STATUS, accepted, free_port, until
 from tests.support.room_model import Watched
@@ -208,24 +208,6 @@ class Tests(MonitorTests):
                 until(lambda: watch.lines().count(line % server.target) == count + 1, f"{line} is told")
             expect(watch.lines(), [it % server.target for it in (LOST, ESTABLISHED, LOST)], "what is told")
 
-    def test_dead_time(self):
-        with self.watched(QUICK + "DEADTIME 2\n", role="secondary", status=b"OB") as (server, watch):
-            watch.until_printed(ON_BATTERY % server.target)
-            server.close()
-            self.expect_halt(watch, [ON_BATTERY % server.target, LOST % server.target, SHUTDOWN])
-
-    def test_hostile_servers(self):
-        for kind, lines in ((Closing, [LOST]), (Rubbish, [LOST]), (Endless, [LOST]), (Silent, [])):
-            with kind() as hostile, Upstream() as server:
-                with self.watch("MINSUPPLIES 1\n" + hostile.line("secondary", 0) + server.line("secondary") + QUICK) as watch:
-                    server.until_asked(3)
-                    expect(watch.lines(), [], f"{kind.__name__}: what is told of a UPS without a status in the first seconds")
-                    expect(watch.is_idle(), True, f"{kind.__name__}: processor time")
-                    server.statuses[b"su700"] = b"OB LB"
-                    expect(watch.status(), 0, f"{kind.__name__}: status")
-                    told = [ON_BATTERY % server.target, BATTERY_LOW % server.target, *(line % hostile.target for line in lines), SHUTDOWN]
-                    expect(watch.lines(), told, f"{kind.__name__}: what is told")
-
     def test_server_byte_by_byte(self):
         with self.watched(QUICK, status=b"OB LB", kind=ByteByByte) as (server, watch):
             self.expect_halt(watch, fails(server.target))
@@ -321,7 +303,7 @@ class Tests(MonitorTests):
         with self.watched(QUICK + "DEADTIME 3\nSHUTDOWNCMD true\n", "-q", status=b"OB") as (server, watch):
             watch.until_printed(ON_BATTERY % server.target)
             server.close()
-            expect(watch.status(20), 0, "status")
+            self.expect_halt(watch, [ON_BATTERY % server.target, LOST % server.target, SHUTDOWN], within=20)
             wanted = [f"UPS {server.target} was on battery when its status was last known", f"FSD on UPS {server.target} was not accepted"]
             expect(watch.of_shutdown(), wanted, "what is told")
 
@@ -367,13 +349,6 @@ class Tests(MonitorTests):
             with self.watched(conf, "-q", status=b"FSD") as (server, watch):
                 self.expect_halt(watch, [FORCED % server.target, SHUTDOWN], 1)
                 expect((watch.told(), watch.read("flag")), ([f"upsmon: {said}"], FLAG), command)
-
-    def test_flag_that_cannot_be_written(self):
-        with self.watched(QUICK + FLAGGED.replace("/flag", "/none/flag"), "-q", status=b"FSD") as (server, watch):
-            self.expect_halt(watch, [FORCED % server.target, SHUTDOWN])
-            said = f"upsmon: POWERDOWNFLAG {watch.folder}/none/flag cannot be written: "
-            expect([line.startswith(said) for line in watch.told()], [True, True], "what is said of it")
-            expect(watch.read("halted"), b"", "SHUTDOWNCMD is run all the same")
 
     def test_output_that_is_closed(self):
         with streams_without_readers() as streams, Upstream(status=b"OB LB") as server:
@@ -496,48 +471,28 @@ class Tests(MonitorTests):
         enough, short = ("upsmon: m1: HOSTSYNC %d is enough: %s needs the most, %d\n", "upsmon: m1: HOSTSYNC %d is too short: %s needs the most, %d\n")
         battery = "upsmon: m1: battery.runtime.low: at least %d s, and what a machine takes from SHUTDOWNCMD until it is off\n"
         alone = "upsmon: %s: no machine here is the primary of its UPSes: none waits for it\n"
+        answers = "upsmon: m2: 6 s for an answer are too long: upsmon gives a server up after 5 s while a UPS is on battery, so nothing is known of this room\n"
+        several = "upsmon: m1: its UPSes are at several servers: HOSTSYNC and the battery are reckoned for one\n"
+        keeps = "upsmon: m1: keeps running without the UPSes of which it is the primary: it forces no shutdown while their battery is low\n"
+        unset = "upsmon: m1: SHUTDOWNCMD is not set: nothing will shut down this machine\n"
+        lonely, never = "upsmon: m1: no other machine here needs its UPSes\n", "upsmon: m3: never shuts down: MINSUPPLIES is 0\n"
+        m1, m2 = stops % ("m1", 28, 2), stops % ("m2", 28, 2)
         for files, words, out, err in (
             # FSD is accepted within 3 s; a second for the clocks; POLLFREQ 5, an answer 2, FINALDELAY 5 - 1
-            ({"m1": primary, "m2": secondary}, (), (stops % ("m1", 28, 2), stops % ("m2", 28, 2), enough % (15, "m2", 15), battery % 28), ()),
+            ({"m1": primary, "m2": secondary}, (), (m1, m2, enough % (15, "m2", 15), battery % 28), ()),
             # the room of docs/room.md
-            (
-                {"m1": primary, "m2": secondary, "m5": secondary},
-                ("--delay", "m1=1", "--delay", "m2=1", "--delay=m5=3"),
-                (stops % ("m1", 27, 1), stops % ("m2", 27, 1), stops % ("m5", 29, 3), enough % (15, "m5", 14), battery % 27),
-                (),
-            ),
+            ({"m1": primary, "m2": secondary, "m5": secondary}, ("--delay", "m1=1", "--delay", "m2=1", "--delay=m5=3"),
+             (stops % ("m1", 27, 1), stops % ("m2", 27, 1), stops % ("m5", 29, 3), enough % (15, "m5", 14), battery % 27), ()),
             # a HOSTSYNC that is too short: the last machine is halted after the primary
-            (
-                {"m1": primary + "HOSTSYNC 9\n", "m2": secondary + "FINALDELAY 30\n"},
-                (),
-                (stops % ("m1", 22, 2), stops % ("m2", 53, 2), battery % 47),
-                (short % (9, "m2", 40),),
-            ),
+            ({"m1": primary + "HOSTSYNC 9\n", "m2": secondary + "FINALDELAY 30\n"}, (),
+             (stops % ("m1", 22, 2), stops % ("m2", 53, 2), battery % 47), (short % (9, "m2", 40),)),
             # a primary of two UPSes; a machine that needs one of them and one that needs none
-            (
-                {"m1": two, "m2": secondary, "m3": secondary + "MINSUPPLIES 0\n"},
-                (),
-                (stops % ("m1", 28, 2), stops % ("m2", 28, 2), "upsmon: m3: never shuts down: MINSUPPLIES is 0\n", battery % 28),
-                (short % (15, "m2", 16),),
-            ),
-            ({"m1": primary}, (), (stops % ("m1", 28, 2), "upsmon: m1: no other machine here needs its UPSes\n", battery % 28), ()),
-            ({"m2": secondary}, (), (stops % ("m2", 28, 2),), (alone % "m2",)),
-            (
-                {"m1": primary + "MONITOR su800@m9 1 mon m1 secondary\n"},
-                (),
-                (stops % ("m1", 44, 2),),
-                (
-                    "upsmon: m1: its UPSes are at several servers: HOSTSYNC and the battery are reckoned for one\n",
-                    "upsmon: m1: keeps running without the UPSes of which it is the primary: it forces no shutdown while their battery is low\n",
-                ),
-            ),
-            (
-                {"m1": primary, "m2": secondary},
-                ("--delay", "m2=6"),
-                (stops % ("m1", 28, 2),),
-                ("upsmon: m2: 6 s for an answer are too long: upsmon gives a server up after 5 s while a UPS is on battery, so nothing is known of this room\n",),
-            ),
-            ({"m1": "MONITOR su700@m1 1 mon m1 primary\n"}, (), (stops % ("m1", 28, 2), "upsmon: m1: no other machine here needs its UPSes\n", battery % 28), ("upsmon: m1: SHUTDOWNCMD is not set: nothing will shut down this machine\n",)),
+            ({"m1": two, "m2": secondary, "m3": secondary + "MINSUPPLIES 0\n"}, (), (m1, m2, never, battery % 28), (short % (15, "m2", 16),)),
+            ({"m1": primary}, (), (m1, lonely, battery % 28), ()),
+            ({"m2": secondary}, (), (m2,), (alone % "m2",)),
+            ({"m1": primary + "MONITOR su800@m9 1 mon m1 secondary\n"}, (), (stops % ("m1", 44, 2),), (several, keeps)),
+            ({"m1": primary, "m2": secondary}, ("--delay", "m2=6"), (m1,), (answers,)),
+            ({"m1": "MONITOR su700@m1 1 mon m1 primary\n"}, (), (m1, lonely, battery % 28), (unset,)),
         ):
             expect(self.checked_room(files, *words, *files), (0, "".join(out), "".join(err)), f"{files} {words}")
 

@@ -130,8 +130,7 @@ class Tests(MonitorTests):
             expect((dummy.poll(), upsd.poll()), (None, None), "the daemons that run")
         conf = f"POWERDOWNFLAG FOLDER/flag\nNOTIFYCMD true\nNOTIFYFLAG FSD EXEC\n{HALTED}"
         with self.halting(conf, preexec_fn=stack(STACK)) as (_, watch):
-            self.expect_halt(watch)
-            expect(watch.read("flag"), FLAG, "the flag")
+            expect((watch.status(), watch.read("flag"), watch.read("halted")), (0, FLAG, b""), "a halt")
 
     def test_full_output_holds_up_no_halt(self):
         notices = "".join(f"NOTIFYFLAG {it} SYSLOG+EXEC\n" for it in ("ONBATT", "LOWBATT", "SHUTDOWN"))

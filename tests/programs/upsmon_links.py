@@ -21,8 +21,8 @@ import time
 from tests.support.harness import Missing, apart, build_library, ended, ensure, expect, named_error, write
 from tests.support.model import LINE_MAX
 from tests.support.monitored import (
-    BATTERY_LOW, ESTABLISHED, LOST, ON_BATTERY, QUICK, SHUTDOWN, Closing, Endless, MonitorTests, Nonsense, Rubbish, Upstream, Urgent,
-    children_of, play, put_program,
+    BATTERY_LOW, ESTABLISHED, LOST, ON_BATTERY, QUICK, SHUTDOWN, Closing, Endless, MonitorTests, Nonsense, Rubbish, Silent, Upstream,
+    Urgent, children_of, play, put_program,
 )
 from tests.support.room import STATUS, has_ipv6, raise_loopback, stopped, until
 
@@ -351,18 +351,26 @@ class Tests(MonitorTests):
 
     def test_servers_that_never_serve(self):
         """A server that closes each connection, one that says what wasn't asked, one that answers with a line that is no answer,
-        and one that sends a line without an end. None costs processor time."""
+        one that sends a line without an end, and one that is silent. None costs processor time, or holds up the other UPS."""
         closes, unread = "server closed the connection before answering", "server gave an unexpected answer"
-        for kind, why in ((Closing, closes), (Rubbish, unread), (Nonsense, unread), (Endless, unread)):
+        for kind, reports in ((Closing, [closes]), (Rubbish, [unread]), (Nonsense, [unread]), (Endless, [unread]), (Silent, [])):
+            name = kind.__name__
             with kind() as server, Upstream() as other:
                 with self.watch("MINSUPPLIES 1\n" + server.line("secondary", 0) + other.line("secondary") + QUICK) as watch:
                     begun = time.monotonic()
-                    until(lambda: len(server.ends) >= 4, "it is called again", 20)
-                    # after pauses of 1, 2 and 4 seconds
-                    ensure(time.monotonic() - begun > 5, f"the pauses grow: {kind.__name__}")
-                    expect(reports_of(watch, server.target), [why], f"what is told once: {kind.__name__}")
+                    if reports:
+                        until(lambda: len(server.ends) >= 4, "it is called again", 20)
+                        # after pauses of 1, 2 and 4 seconds
+                        ensure(time.monotonic() - begun > 5, f"the pauses grow: {name}")
+                    other.until_asked(3)
+                    expect(reports_of(watch, server.target), reports, f"what is told once: {name}")
                     expect(reports_of(watch, other.target), ["server connected"], "what is told of the other")
-                    ensure(watch.is_idle(3, 0.15), f"processor time: {kind.__name__}")
+                    expect(watch.lines(), [], f"what is told of a UPS without a status in the first seconds: {name}")
+                    ensure(watch.is_idle(3, 0.15), f"processor time: {name}")
+                    other.statuses[b"su700"] = b"OB LB"
+                    expect(watch.status(), 0, f"status: {name}")
+                    told = [ON_BATTERY % other.target, BATTERY_LOW % other.target, *[LOST % server.target] * len(reports), SHUTDOWN]
+                    expect(watch.lines(), told, f"what is told: {name}")
 
     def test_server_that_is_no_longer_understood(self):
         with self.watched(QUICK, role="secondary", kind=Moody) as (server, watch):

@@ -287,7 +287,7 @@ class Room:
         """Plays a step. Returns what it tells."""
         before = [it.phase for it in self.monitors]
         verb, *rest = step
-        told = [] if STEPS[verb](self, *rest) else [("skipped",)]
+        told = [] if getattr(self, "step_" + verb.replace("-", "_"))(*rest) else [("skipped",)]
         for m, monitor in enumerate(self.monitors):
             told += [("notice", m, kind, watch) for kind, watch in monitor.notices]
             monitor.notices = []
@@ -309,29 +309,29 @@ class Room:
     def is_linked(self, m, i):
         return self.monitors[m].watches[i].call is not None
 
-    # A method for each step. It returns whether the step was played; if not, it is skipped.
+    # A method for each step, by its word. It returns whether the step was played; if not, it is skipped.
 
-    def server_clock(self, at):
+    def step_server(self, at):
         for server in self.servers:
             server.moment(at)
         return True
 
-    def monitor_clock(self, m, at):
+    def step_monitor(self, m, at):
         return self.monitors[m].moment(at)
 
-    def up(self, u):
+    def step_up(self, u):
         server, number = self.served(u)
         return server.driver_up(number) is None
 
-    def driver(self, u, line):
+    def step_driver(self, u, line):
         server, number = self.served(u)
         return server.driver_bytes(number, line + b"\n") is None
 
-    def down(self, u):
+    def step_down(self, u):
         server, number = self.served(u)
         return server.driver_down(number) is None
 
-    def link(self, m, i):
+    def step_link(self, m, i):
         server = self.server_of(m, i)
         if self.is_open(m, i) or self.is_linked(m, i) or server.open(b"m%d" % m) is not None:
             return False
@@ -339,7 +339,7 @@ class Room:
         self.pipes[m][i].connection = server.opened
         return self.monitors[m].linked(i)
 
-    def out(self, m, i, n):
+    def step_out(self, m, i, n):
         if not self.is_linked(m, i):
             return False
         call = self.monitors[m].watches[i].call
@@ -350,7 +350,7 @@ class Room:
             self.monitors[m].link_took(i, len(moved))
         return True
 
-    def reach(self, m, i, n):
+    def step_reach(self, m, i, n):
         if not self.is_open(m, i):
             return False
         pipes = self.pipes[m][i]
@@ -362,7 +362,7 @@ class Room:
         pipes.to_server = pipes.to_server[len(piece) :]
         return True
 
-    def back(self, m, i, n):
+    def step_back(self, m, i, n):
         if not self.is_open(m, i):
             return False
         pipes = self.pipes[m][i]
@@ -374,7 +374,7 @@ class Room:
             server.took(pipes.connection, len(moved))
         return True
 
-    def land(self, m, i, n):
+    def step_land(self, m, i, n):
         if not self.is_linked(m, i):
             return False
         pipes = self.pipes[m][i]
@@ -384,12 +384,12 @@ class Room:
             self.monitors[m].link_bytes(i, piece)
         return True
 
-    def cut_server(self, m, i):
+    def step_cut_server(self, m, i):
         pipes = self.pipes[m][i]
         pipes.to_server = b""
         return self.server_of(m, i).close(pipes.connection) is None
 
-    def cut_monitor(self, m, i):
+    def step_cut_monitor(self, m, i):
         self.pipes[m][i].to_monitor = b""
         return self.monitors[m].link_lost(i)
 
@@ -412,22 +412,6 @@ class RoomOfServers(Room):
                 return server, u
             u -= len(server.upses)
         raise IndexError(u)
-
-
-STEPS = {
-    "server": Room.server_clock,
-    "monitor": Room.monitor_clock,
-    "up": Room.up,
-    "driver": Room.driver,
-    "down": Room.down,
-    "link": Room.link,
-    "out": Room.out,
-    "reach": Room.reach,
-    "back": Room.back,
-    "land": Room.land,
-    "cut-server": Room.cut_server,
-    "cut-monitor": Room.cut_monitor,
-}
 
 
 def shown(number, told):
