@@ -18,7 +18,9 @@ import tempfile
 
 from tests.programs import install
 from tests.support.debian_root import fresh_root, run
-from tests.support.harness import built_without_proof, ensure, expect, Missing, needed, ROOT, run_tests, VERSION
+from tests.support.harness import (
+    ROOT, VERSION, Missing, built_without_proof, ensure, expect, needed, read, read_bytes, run_tests, write,
+)
 
 PACKAGES = ("mulgefa-client", "mulgefa-server")
 # the files of each section of the manual, and the examples, that belong to the server
@@ -74,6 +76,13 @@ def state_of(folder):
                 digest = hashlib.sha256(read_bytes(path)).hexdigest()
             state[shown] = (found.st_mode, found.st_uid, found.st_gid, digest)
     return state
+
+
+def files_in(path, *wanted):
+    """Returns the entries of a package, each with its bytes if its name is wanted, and without the others if any is."""
+    with subprocess.Popen(["dpkg-deb", "--fsys-tarfile", path], stdout=subprocess.PIPE) as process:
+        with tarfile.open(fileobj=process.stdout, mode="r|") as tar:
+            return {it: tar.extractfile(it).read().decode() if wanted else None for it in tar if not wanted or it.name in wanted}
 
 
 class Packages:
@@ -147,15 +156,12 @@ class Tests:
         second = {**self.packages.made("deb", **again), **self.packages.made("tar", **again)}
         expect(sorted(first), ["mulgefa", *PACKAGES], "what is made")
         for name, path in first.items():
-            with open(path, "rb") as one, open(second[name], "rb") as other:
-                expect(one.read() == other.read(), True, f"{name} is the same")
+            expect(read_bytes(path) == read_bytes(second[name]), True, f"{name} is the same")
             expect(os.path.basename(path), os.path.basename(second[name]), "its name")
 
     def test_files(self):
         for name, path in self.all_debs().items():
-            with subprocess.Popen(["dpkg-deb", "--fsys-tarfile", path], stdout=subprocess.PIPE) as process:
-                with tarfile.open(fileobj=process.stdout, mode="r|") as tar:
-                    entries = [it for it in tar]
+            entries = list(files_in(path))
             for entry in entries:
                 expect((entry.uid, entry.gid, entry.uname, entry.gname), (0, 0, "root", "root"), f"{name}: the owner of {entry.name}")
                 if entry.isdir():
@@ -183,9 +189,7 @@ class Tests:
         _, version = run(["dpkg-deb", "--field", self.all_debs()["mulgefa-client"], "Version"])
         ensure(f"mulgefa-client (= {version.strip()})" in depends, f"the server wants this client: {depends}")
         ensure(re.fullmatch(re.escape(VERSION) + r"\+\d{8}\.\d{6}\n", version), f"the version of the programs, and the time of the commit: {version}")
-        with subprocess.Popen(["dpkg-deb", "--fsys-tarfile", self.all_debs()["mulgefa-client"]], stdout=subprocess.PIPE) as process:
-            with tarfile.open(fileobj=process.stdout, mode="r|") as tar:
-                check = next(tar.extractfile(it).read().decode() for it in tar if it.name == "./usr/sbin/mulgefa-check")
+        (check,) = files_in(self.all_debs()["mulgefa-client"], "./usr/sbin/mulgefa-check").values()
         ensure(f"\nbuild={version}" in check, "mulgefa-check of the package says its version")
 
     def test_libraries_that_cannot_be_told(self):
@@ -193,14 +197,10 @@ class Tests:
         for program, package in (("dpkg-deb", "dpkg"), ("dpkg-shlibdeps", "dpkg-dev"), ("strip", "binutils")):
             needed(program, package)
         folder, stand_in, to = (os.path.join(self.packages.folder, it) for it in ("machine-code", "stand-in", "nowhere"))
-        for path in (folder, stand_in):
-            os.mkdir(path)
+        write(os.path.join(folder, "third-party-notices"), "")
         for program in install.programs():
             shutil.copy(needed("true", "coreutils"), os.path.join(folder, program))
-        write(os.path.join(folder, "third-party-notices"), "")
-        with open(os.path.join(stand_in, "dpkg-shlibdeps"), "w") as file:
-            file.write("#!/bin/sh\necho cannot find a library >&2\nexit 2\n")
-        os.chmod(file.name, 0o755)
+        write(os.path.join(stand_in, "dpkg-shlibdeps"), "#!/bin/sh\necho cannot find a library >&2\nexit 2\n", 0o755)
         env = {**os.environ, "PATH": f"{stand_in}:{os.environ['PATH']}", "BIN": folder, "TO": to, "SOURCE_DATE_EPOCH": self.packages.epoch}
         status, said = run(["sh", os.path.join(ROOT, "packaging/packages.sh"), "deb"], env=env)
         expect((status, said, os.listdir(to)), (1, "cannot find a library\n", []), "what is said and made")
@@ -211,8 +211,7 @@ class Tests:
             tree = os.path.join(self.packages.folder, f"tree-{name}")
             run(["dpkg-deb", "-x", path, tree])
             for unit in os.listdir(os.path.join(tree, "lib/systemd/system")):
-                with open(os.path.join(tree, "lib/systemd/system", unit)) as file:
-                    text = file.read()
+                text = read(os.path.join(tree, "lib/systemd/system", unit))
                 excluded = re.findall(r"^Conflicts=(.*)$", text, re.MULTILINE)
                 expect([it for it in excluded if it in NAMES_OF_UNITS], [], f"{unit} excludes itself")
                 calls = "system-service|privileged|resources|module|debug|cpu-emulation|obsolete"
@@ -232,8 +231,8 @@ class Tests:
         subprocess.run(["tar", "-xf", archive, "-C", folder], check=True, timeout=60)
         (top,) = os.listdir(folder)
         expect(f"{top}.tar.gz", os.path.basename(archive), "its folder")
-        with open(os.path.join(folder, top, "README.md")) as file:
-            named = re.findall(r"`([a-z]+(?:/[a-z.-]+)?|docs/\S+|[A-Z]+[.]md)(?: [a-z]+)?`", file.read())
+        page = read(os.path.join(folder, top, "README.md"))
+        named = re.findall(r"`([a-z]+(?:/[a-z.-]+)?|docs/\S+|[A-Z]+[.]md)(?: [a-z]+)?`", page)
         ensure({"packaging/mulgefa-check", "packaging/mulgefa-nut-drivers", "docs/from-nut.md"} <= set(named), f"what its README names: {named}")
         expect([it for it in named if not os.path.exists(os.path.join(folder, top, it))], [], "what its README names and it lacks")
         wanted = os.path.join(self.packages.folder, "wanted")
@@ -247,11 +246,7 @@ class Tests:
             check = os.path.join(place, "opt/mulgefa/sbin/mulgefa-check")
             expect(run([check, "--version"]), (0, f"mulgefa-check (Mulgefa) {said}\n"), "the build")
             # but for that line it is the same
-            with open(check, "r+") as file:
-                text = re.sub("^build=.*$", "build=", file.read(), count=1, flags=re.MULTILINE)
-                file.seek(0)
-                file.write(text)
-                file.truncate()
+            write(check, re.sub("^build=.*$", "build=", read(check), count=1, flags=re.MULTILINE))
         shown = [{path: (it[0], it[3]) for path, it in state_of(folder).items() if not path.endswith("/")} for folder in (wanted, found)]
         for states in shown:
             for path in list(states):
@@ -282,18 +277,18 @@ class Tests:
 
         root.write("/etc/nut/ups.conf", "[mine]\n")
         root.write("/etc/nut/other", "mine\n")
-        kept = {name: root.read(f"/etc/nut/{name}") for name in os.listdir(root.path("/etc/nut"))}
+        kept = root.nut_files()
         later = self.packages.made("deb", env={"SOURCE_DATE_EPOCH": "4000000000"})
         for path in later.values():
             shutil.copy(path, root.path("/root/later-" + os.path.basename(path)))
         os.remove(root.path("/etc/nut/su700.dev"))
         del kept["su700.dev"]
         root.do("dpkg -i /root/later-mulgefa-*.deb")
-        expect({name: root.read(f"/etc/nut/{name}") for name in os.listdir(root.path("/etc/nut"))}, kept, "files after an upgrade")
+        expect(root.nut_files(), kept, "files after an upgrade")
         expect(root.do("id -u nut").strip(), nut, "the number of the user")
 
         root.do("dpkg --remove mulgefa-server mulgefa-client")
-        expect({name: root.read(f"/etc/nut/{name}") for name in os.listdir(root.path("/etc/nut"))}, kept, "files after the removal")
+        expect(root.nut_files(), kept, "files after the removal")
         root.do("dpkg --purge mulgefa-client mulgefa-server")
         expect(os.listdir(root.path("/etc/nut")), ["other"], "a file that no package made")
         shutil.rmtree(root.path("/etc/nut"))
@@ -314,17 +309,16 @@ class Tests:
     def test_files_of_others_stay(self):
         """A configuration that exists before, usually of NUT, is neither replaced nor removed."""
         root = self.fresh("mine")
-        os.mkdir(root.path("/etc/nut"))
         mine = {name: f"# my {name}\n" for name in ("ups.conf", "upsd.conf", "upsd.users", "upsmon.conf", "nut.conf")}
         for name, text in mine.items():
             root.write(f"/etc/nut/{name}", text)
         said = root.do("dpkg -i /root/mulgefa-*.deb")
         for name in ("ups.conf", "upsmon.conf"):
             ensure(f"/etc/nut/{name} is there already and stays as it is" in said, f"{name} isn't told of: {said}")
-        expect({name: root.read(f"/etc/nut/{name}") for name in os.listdir(root.path("/etc/nut"))}, mine, "files")
+        expect(root.nut_files(), mine, "files")
         ensure(not os.path.exists(root.path("/etc/systemd/system/multi-user.target.wants/mulgefa-upsd.service")), "something was enabled")
         root.do("dpkg --purge mulgefa-server mulgefa-client")
-        expect({name: root.read(f"/etc/nut/{name}") for name in os.listdir(root.path("/etc/nut"))}, mine, "files after a purge")
+        expect(root.nut_files(), mine, "files after a purge")
 
     def test_services_follow_nut_conf(self):
         """The services that NUT's nut.conf names are enabled, and nothing else."""
@@ -332,7 +326,6 @@ class Tests:
         wanted = {"none": [], "netclient": ["mulgefa-upsmon"], "standalone": both, "'standalone'": both, '"netserver"  # ours': both}
         root = self.fresh("modes")
         for mode, services in wanted.items():
-            os.makedirs(root.path("/etc/nut"), exist_ok=True)
             root.write("/etc/nut/nut.conf", f"# MODE=netserver\nMODE={mode}\n")
             root.do("dpkg -i /root/mulgefa-*.deb")
             found = [it.removesuffix(".service") for it in os.listdir(root.path("/etc/systemd/system/multi-user.target.wants")) if it.startswith("mulgefa")]
@@ -342,9 +335,7 @@ class Tests:
     def test_drop_in_of_nut(self):
         """A unit that would heed what was made for NUT's isn't started, and the packages say so."""
         root = self.fresh("drop-in")
-        os.mkdir(root.path("/etc/nut"))
         root.write("/etc/nut/nut.conf", "MODE=netserver\n")
-        os.mkdir(root.path("/etc/systemd/system/nut-monitor.service.d"))
         root.write("/etc/systemd/system/nut-monitor.service.d/override.conf", "[Service]\nExecStart=\nExecStart=/sbin/upsmon -F\n")
         said = root.do("dpkg -i /root/mulgefa-*.deb")
         told = "mulgefa-upsmon.service isn't started, since what was made for NUT's unit applies to it: /etc/systemd/system/nut-monitor.service.d"
@@ -353,7 +344,6 @@ class Tests:
     def test_service_that_was_disabled(self):
         """A package that was removed and comes back enables nothing, and says so where nut.conf names its service."""
         root = self.fresh("again")
-        os.mkdir(root.path("/etc/nut"))
         root.write("/etc/nut/nut.conf", "MODE=netserver\n")
         ensure("isn't enabled" not in root.do("dpkg -i /root/mulgefa-*.deb"), "the first installation enables both")
         root.do("systemctl disable mulgefa-upsd")
@@ -387,7 +377,6 @@ class Tests:
         ]
         for mode, last in (("none", []), ("standalone", gone)):
             told["mulgefa-server"] += last
-            os.makedirs(root.path("/etc/nut"))
             for name, text in {
                 "nut.conf": f"MODE={mode}\n",
                 "ups.conf": "maxretry = 3\n[apc]\n driver = usbhid-ups\n port = auto\n",
@@ -416,7 +405,6 @@ class Tests:
             "DEBIAN/control": "Package: nut-server\nVersion: 2.8.0-7\nArchitecture: all\nMaintainer: m <m@m.example>\nDepends: nut-client, adduser, dpkg\nDescription: d\n",
         }
         for path, text in files.items():
-            os.makedirs(os.path.dirname(os.path.join(tree, path)), exist_ok=True)
             write(os.path.join(tree, path), text, 0o755 if text.startswith("#!") else 0o644)
         for folder, _, _ in os.walk(tree):
             os.chmod(folder, 0o755)
@@ -456,7 +444,6 @@ class Tests:
             raise Missing("no built programs were handed in")
         root = self.fresh("drivers")
         shutil.copy(self.drivers_package(), root.path("/root"))
-        os.makedirs(root.path("/etc/nut"))
         files = {
             "nut.conf": "MODE=standalone\n",
             "ups.conf": "maxretry = 3\n[apc]\n driver = usbhid-ups\n port = auto\n vendorid = 051d\n[none]\n driver = snmp-ups\n port = h\n",
@@ -505,7 +492,7 @@ class Tests:
         root.do("dpkg --configure -a")
         expect(sorted(os.listdir(root.path("/etc/nut"))), sorted(install.EXAMPLES), "the files")
         root.do("dpkg --purge mulgefa-server mulgefa-client")
-        expect({name: root.read(f"/etc/nut/{name}") for name in os.listdir(root.path("/etc/nut"))}, {"upsd.conf": "LISTEN 127.0.0.1\n"}, "what a purge leaves")
+        expect(root.nut_files(), {"upsd.conf": "LISTEN 127.0.0.1\n"}, "what a purge leaves")
 
 
 def main(tests, wants):

@@ -1,12 +1,13 @@
 """A fresh Debian 12 in a folder, for tests of packages: made by debootstrap, entered by chroot, or started by
 systemd-nspawn."""
 
+import contextlib
 import os
 import signal
 import subprocess
-import time
 
-from tests.support.harness import Failed, Missing, ensure, needed
+from tests.support.harness import Failed, Missing, ensure, needed, read, write
+from tests.support.room import until
 
 SUITE = "bookworm"
 
@@ -49,13 +50,14 @@ class Root:
         return os.path.join(self.folder, name.lstrip("/"))
 
     def read(self, name):
-        with open(self.path(name), errors="replace") as file:
-            return file.read()
+        return read(self.path(name))
 
     def write(self, name, text, mode=0o640):
-        with open(self.path(name), "w") as file:
-            file.write(text)
-        os.chmod(self.path(name), mode)
+        write(self.path(name), text, mode)
+
+    def nut_files(self):
+        """Returns the texts of the configuration, by the names of the files."""
+        return {name: self.read(f"/etc/nut/{name}") for name in os.listdir(self.path("/etc/nut"))}
 
     def words(self, command):
         return ["chroot", self.folder, "sh", "-c", f"cd /root\n{command}"]
@@ -76,14 +78,10 @@ class Root:
 
     def wait_for(self, command, said, seconds=30):
         """Runs a program until it prints this."""
-        end = time.monotonic() + seconds
-        while True:
-            status, found = self.run(f"timeout 10 {command}")
-            if found.strip() == said:
-                return
-            if time.monotonic() > end:
-                raise Failed(f"'{command}' says {found!r}, and not {said!r}, after {seconds} s {self.journal()}")
-            time.sleep(0.5)
+        try:
+            until(lambda: self.run(f"timeout 10 {command}")[1].strip() == said, f"'{command}' says {said!r}", seconds, 0.5)
+        except Failed as failed:
+            raise Failed(f"{failed}; it says {self.run(command)[1]!r} {self.journal()}") from None
 
 
 class Booted(Root):
@@ -113,31 +111,25 @@ class Booted(Root):
 
     def find_init(self):
         """Returns the process that is its first."""
-        end = time.monotonic() + 30
-        while time.monotonic() < end:
-            if self.process.poll() is not None:
-                break
-            try:
-                with open(f"/proc/{self.process.pid}/task/{self.process.pid}/children") as file:
-                    for pid in file.read().split():
-                        with open(f"/proc/{pid}/status") as status:
-                            numbers = [it.split()[1:] for it in status if it.startswith("NSpid:")][0]
-                        if numbers[-1] == "1":
-                            return pid
-            except (OSError, IndexError):
-                pass
-            time.sleep(0.1)
-        with open(self.folder + ".console", errors="replace") as file:
-            raise Missing(f"systemd-nspawn starts no system here: {file.read()[-200:]!r}")
+        with contextlib.suppress(Failed):
+            return until(lambda: self.process.poll() is None and self.init_below(), "its first process", 30, 0.1)
+        raise Missing(f"systemd-nspawn starts no system here: {read(self.folder + '.console')[-200:]!r}")
+
+    def init_below(self):
+        """Returns the process below this one that is the first of its namespace, if there is one yet."""
+        with contextlib.suppress(OSError, IndexError):
+            for pid in read(f"/proc/{self.process.pid}/task/{self.process.pid}/children").split():
+                numbers = [it.split()[1:] for it in read(f"/proc/{pid}/status").splitlines() if it.startswith("NSpid:")][0]
+                if numbers[-1] == "1":
+                    return pid
+        return None
 
     def wait_for_start(self):
-        end = time.monotonic() + 120
-        while time.monotonic() < end:
-            status, said = self.run("systemctl is-system-running")
-            if said.strip() in ("running", "degraded"):
-                return
-            time.sleep(0.5)
-        raise Missing(f"the system in systemd-nspawn doesn't come up: {said}")
+        """Waits until it is up."""
+        is_up = lambda: self.run("systemctl is-system-running")[1].strip() in ("running", "degraded")
+        with contextlib.suppress(Failed):
+            return until(is_up, "the system is up", 120, 0.5)
+        raise Missing(f"the system in systemd-nspawn doesn't come up: {self.run('systemctl is-system-running')[1]}")
 
     def words(self, command):
         return ["nsenter", "--target", self.init, "--all", "--root", "sh", "-c", f"cd /root\n{command}"]
