@@ -35,7 +35,8 @@ case $what in
     configure)
         GROUP=
         if [ -z "$DESTDIR" ]; then
-            systemd-sysusers packaging/mulgefa.sysusers
+            # which looks for a relative path in the directories of sysusers.d alone
+            systemd-sysusers "$PWD/packaging/mulgefa.sysusers"
             GROUP=nut
         fi
         first_configuration examples "$DESTDIR$CONFDIR" $(files_of examples)
