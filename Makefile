@@ -4,7 +4,7 @@
 # make check         runs all tests; its last line is 'N passed, M failed'; with ANEW=--anew it uses nothing of earlier runs
 # make check-edits   tries each wrong body one by one, which takes hours; CRATES='a b' tries those of some crates
 # make check-times   keeps the processor times of the last make check, with which the next one compares its own
-# make check-peers   joins the programs in bin/ with NUT's own, where those are installed
+# make check-peers   joins the programs in bin/ with NUT's own, and replaces its packages on a Debian that it makes
 # make bench         measures the programs in bin/ on this machine
 # make install       builds, and installs programs, pages, units and examples under PREFIX; install-built doesn't build
 # make deb           makes Debian packages out of the programs in bin/, in dist/; make tar makes an archive

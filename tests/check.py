@@ -61,6 +61,10 @@ TESTS = (
     ("programs.from_nut", ("upsd", "dummy_ups", "upsc", "upsrw", "upscmd", "upsmon")),
     ("programs.troubleshooting", ("upsd", "dummy_ups", "upsc", "upsrw", "upscmd", "upsmon")),
     ("programs.packages", ("upsd", "dummy_ups", "upsc", "upsrw", "upscmd", "upsmon", "nutsim")),
+    ("peers.server", ("upsd", "dummy_ups")),
+    ("peers.clients", ("upsd", "dummy_ups")),
+    ("peers.tools", ("upsc", "upsrw", "upscmd")),
+    ("peers.monitor", ("upsmon",)),
 )
 
 # The beginnings and the ends of lines by which the toolchain or a test reports a failure, and how many of these are repeated.
