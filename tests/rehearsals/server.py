@@ -19,18 +19,18 @@ import time
 import urllib.parse
 from unittest import mock
 
-from tests.support.harness import Failed, ensure, expect, fewer, has_read_all, patience, refusals, run_tests
+from tests.support.harness import Failed, ensure, expect, fewer, has_read_all, patience, refusing, run_tests
 from tests.support.model import OPENED_MAX, Config
 from tests.support.player import Player, conf_steps, escaped, line_of, places, reload_steps
 from tests.support.reload_rows import RELOADS
 from tests.support.request_rows import FORMS, NO_FORMS, QUERIES
 from tests.support.server_rows import ID, LOGIN, ONLINE, OPEN, PROBE, ROOM, ROWS, SENSITIVITY, STATUS, Row, ask, err, listed, live, told
 from tests.support.schedules import UPSES, USERS, ScheduleMaker, shifted, variants
-from tests.support.stage import Stage
+from tests.support.stage import NEVER, Stage
 from tests.support.table_rows import NOTHING_NEW, TABLES
 
 # how much more memory may be in use if a schedule is played twice as often: less than a record of it takes
-GROWTH_MAX_KIB = 256
+GROWTH_MAX_KIB = 128
 # how many steps make a server
 HEAD = 4
 # a row with more steps than this repeats a request until a queue is full
@@ -109,6 +109,8 @@ class Tests:
         self.program = program
         self.folder = folder
         self.stage = Stage(program, folder)
+        # the steps that make a server of which each allocation was refused
+        self.refused = set()
 
     @property
     def shim(self):
@@ -133,17 +135,26 @@ class Tests:
         with open(out_path, "rb") as out, open(err_path, "rb") as err:
             return status, out.read(), err.read(), memory
 
-    def refuse_in_turn(self, name, config, steps):
-        """Plays a schedule with the first allocation refused, then with the second, and so on. Returns the refusals that
-        were reported, and counts the runs that ended before their schedule."""
+    def refuse_in_turn(self, name, config, steps, probe=()):
+        """Plays a schedule, and a probe behind it, with the first allocation refused, then with the second, and so on. Those that
+        make the server, and those of the probe, are refused in the first schedule of a configuration alone. Returns the
+        refusals that were reported, and counts the runs that ended before their schedule."""
         path = os.path.join(self.folder, "schedule")
-        steps = [*conf_steps(config), *steps]
+        head = conf_steps(config)
+        before_probe = [*head, *steps]
+        steps = [*before_probe, *probe]
+        made = b"".join(map(line_of, head))
+        is_known = made in self.refused
+        self.refused.add(made)
+        first = self.stage.allocations(head) + 1 if is_known else 1
+        last = self.stage.allocations(before_probe if is_known else steps)
         with open(path, "wb") as file:
             file.writelines(map(line_of, steps))
         player = Player(config)
         due = b"".join(player.play(step) for step in steps)
         told, ended = [], 0
-        for at, env, is_reached in refusals(self.shim):
+        for at in [*range(first, last + 1), NEVER]:
+            env, is_reached = refusing(self.shim, "allocation", at)
             status, out, err, _ = self.run(path, env)
             if not is_reached():
                 expect((status, out, err), (0, due, b""), f"{name}, without a refusal")
@@ -199,7 +210,7 @@ class Tests:
     def test_memory_does_not_grow(self):
         config = Config(UPSES, USERS)
         maker = ScheduleMaker(9, config, others=variants(9, config))
-        steps = [*maker.steps(1_000), *(("close", c) for c in maker.server.connections)]
+        steps = [*maker.steps(500), *(("close", c) for c in maker.server.connections)]
         # behind a configuration without UPSes, each turn begins alike
         steps += [*reload_steps(Config([], {})), *reload_steps(config)]
         opened, now = maker.server.opened, maker.server.now
@@ -351,7 +362,7 @@ class Tests:
     def test_worked_rows_with_each_allocation_refused(self):
         answers = ends = 0
         for row in ROWS + RELOADS:
-            told, ended = self.refuse_in_turn(row.name, row.config, row.steps + PROBE)
+            told, ended = self.refuse_in_turn(row.name, row.config, row.steps, PROBE)
             for it in row.wanted:
                 if it not in told:
                     raise Failed(f"{row.name}: {it!r} isn't among {sorted(set(told))}")

@@ -275,6 +275,11 @@ class FullPipe:
         return found.lstrip(b"x")
 
 
+def counted(shim):
+    """Returns the number of calls that a run under `refusing` made, 0 if it wrote none."""
+    return int(read(shim + ".count")) if os.path.exists(shim + ".count") else 0
+
+
 def refusal(shim, kind, at):
     """Returns the environment of a run in which a call fails, given by its kind and its number from 1 on."""
     return {"LD_PRELOAD": shim, "REFUSE": kind, "REFUSE_AT": str(at)}
@@ -286,7 +291,7 @@ def refusing(shim, kind, at):
     count = shim + ".count"
     if os.path.exists(count):
         os.remove(count)
-    return refusal(shim, kind, at) | {"REFUSE_COUNT": count}, lambda: os.path.exists(count) and int(read(count)) >= at
+    return refusal(shim, kind, at) | {"REFUSE_COUNT": count}, lambda: counted(shim) >= at
 
 
 def refusals(shim, kind="allocation"):

@@ -4,11 +4,13 @@ import os
 import subprocess
 import tempfile
 
-from tests.support.harness import Shimmed, ensure, expect, patience, refusals
+from tests.support.harness import Shimmed, counted, ensure, expect, patience, refusals, refusing
 from tests.support.player import line_of
 
 # how a run ends in which memory was refused while no engine reports it
 OUT_OF_MEMORY = b"rehearse: out of memory\n"
+# a number of calls that no run makes
+NEVER = 1 << 30
 
 
 class Stage(Shimmed):
@@ -54,4 +56,7 @@ class Stage(Shimmed):
 
     def allocations(self, steps):
         """Returns how many allocations these steps make."""
-        return sum(1 for _ in self.refused_in_turn(steps))
+        env, is_reached = refusing(self.shim, "allocation", NEVER)
+        expect((self.run(steps, env)[0], is_reached()), (0, False), "a run without a refusal")
+        # the file of the count takes one
+        return counted(self.shim) - 1
