@@ -11,7 +11,7 @@ import re
 import sys
 
 from tests.gate.definitions import CODE, Imports, Library, Scope, files_of, read, tokens, WORD
-from tests.support.harness import ensure, expect, Failed, ROOT, run_tests
+from tests.support.harness import ROOT, Failed, ensure, expect, run_tests, write
 
 PAGE = os.path.join(ROOT, "docs", "believe.md")
 
@@ -355,9 +355,7 @@ class Tests:
 
 def main(words):
     if words == ["--write"]:
-        text = page(Library())
-        with open(PAGE, "w", encoding="utf-8") as file:
-            file.write(text)
+        write(PAGE, page(Library()))
         return 0
     if words:
         library = Library()

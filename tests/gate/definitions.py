@@ -4,7 +4,7 @@ definition or a clause cites and that can't be found is an error, so nothing is 
 import os
 import re
 
-from tests.support.harness import ensure, Failed, ROOT
+from tests.support.harness import ROOT, Failed, ensure, read
 
 WORD = r"[^\W\d][\w'-]*"
 OPERATOR = r"◌[^\s{},()]+◌(?:[^\s{},()]+◌)?"
@@ -20,11 +20,6 @@ TOKEN = re.compile(
     rf"""--[^\n]*|//[^\n]*|"(?:\\.|[^"\\])*"|'(?:\\.|[^'\\])'|{WORD}|\d[\d_]*"""
     r"""|[(){}\[\]]|[.,;:](?![^\s\w(){}\[\]"])|[^\s\w(){}\[\]"]+"""
 )
-
-
-def read(path):
-    with open(path, encoding="utf-8") as file:
-        return file.read()
 
 
 def files_of(folder, ending):

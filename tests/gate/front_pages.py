@@ -10,7 +10,7 @@ import re
 import subprocess
 import sys
 
-from tests.support.harness import ROOT, Missing, ensure, expect, run_tests
+from tests.support.harness import ROOT, Missing, ensure, expect, read, run_tests
 from tools.crates import below, built_programs, is_program, name_of, rows
 
 PAGES = ("README.md", "CONTRIBUTING.md", "SECURITY.md", "CHANGELOG.md")
@@ -34,8 +34,7 @@ LICENCE = "No licence has been chosen for Mulgefa: that is its owner's to choose
 
 
 def text_of(page):
-    with open(os.path.join(ROOT, page), encoding="utf-8") as file:
-        return file.read()
+    return read(os.path.join(ROOT, page))
 
 
 def commands_in(page):

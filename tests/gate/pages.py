@@ -17,7 +17,7 @@ import sys
 
 from tests.gate.believe import LEFT_OUT
 from tests.gate.definitions import Library, crates, files_of, read
-from tests.support.harness import ensure, expect, ROOT, run_tests
+from tests.support.harness import ROOT, ensure, expect, run_tests, write
 from tests.support.manual import numbers
 
 DOCS = os.path.join(ROOT, "docs")
@@ -153,8 +153,7 @@ class Named:
 
     @staticmethod
     def code(path):
-        with open(path, encoding="utf-8", errors="replace") as file:
-            text = file.read()
+        text = read(path)
         return COMMENT.sub("", text) if path.endswith((".rt", ".antt")) else text
 
     @functools.lru_cache(maxsize=None)
@@ -288,9 +287,7 @@ class Tests:
 
 def main(words):
     if words == ["--write"]:
-        text = read(PROVED)
-        with open(PROVED, "w", encoding="utf-8") as file:
-            file.write(LAWS.sub(lambda _: laws(), text))
+        write(PROVED, LAWS.sub(lambda _: laws(), read(PROVED)))
         return 0
     if words and words[0] == "--tests":
         print_tests(words[1:])

@@ -34,13 +34,13 @@ import threading
 import time
 
 from tests.gate.functions import check_command, functions_of, toolchain
-from tests.support.harness import ROOT
+from tests.support.harness import ROOT, read, read_bytes, write
 
 FOLDERS = ("wrong-bodies", "must-fail")
 # How long a refusal is kept that no run asks for, in seconds, and how many are kept at most.
 KEPT_FOR, KEPT_MOST = 30 * 24 * 3600, 20_000
 # This tool's own files.
-TOOL = [f"{ROOT}/tests/gate/{it}" for it in ("wrong_bodies.py", "functions.py")]
+TOOL = [f"{ROOT}/tests/{it}" for it in ("gate/wrong_bodies.py", "gate/functions.py", "support/harness.py")]
 # A goal of a function that is open, on a line above the function's own.
 GOAL = re.compile(r"note: (src/\S+: .*\(`\S+`\).*)")
 # The beginnings of what a check says of a function whose proof passes, and of one that those which it calls may make fail.
@@ -59,8 +59,7 @@ class Edit:
     def __init__(self, crate, path, functions):
         self.crate, self.path, self.name = crate, path, f"{crate.name}/{os.path.basename(path)}"
         self.texts, self.fault = toolchain().read_edit(path, crate.folder)
-        with open(path, encoding="utf-8", errors="replace") as file:
-            lines = [line.rstrip("\n").partition(": ") for line in file]
+        lines = [line.partition(": ") for line in read(path).split("\n")]
         refused_by = next((words.strip() for key, _, words in lines if key == "refused by"), None)
         # the function that has to refuse it, and the goal of it that has to stay open, if the edit names them
         self.refused_by, _, self.goal = (refused_by or "").partition(" at ")
@@ -77,7 +76,7 @@ class Edit:
         for key, _, words in lines:
             if key == "file":
                 file = words.strip()
-                texts.setdefault(file, open_text(f"{self.crate.folder}/{file}"))
+                texts.setdefault(file, read_bytes(f"{self.crate.folder}/{file}"))
             elif key == "old":
                 old, at = words.encode(), texts[file].find(words.encode())
                 here = place_before(self.changes.setdefault(file, []), at)
@@ -108,11 +107,6 @@ class Edit:
         if self.is_of_bodies() or other.is_of_bodies():
             return self.is_of_bodies() != other.is_of_bodies() or bool(self.edited & other.edited)
         return not (self.goal and other.goal) or (self.wanted, self.goal) == (other.wanted, other.goal)
-
-
-def open_text(path):
-    with open(path, "rb") as file:
-        return file.read()
 
 
 def place_before(changes, at):
@@ -265,10 +259,9 @@ class Trial:
             shutil.copytree(proof, own)
         path = re.escape(f"Rattle.{self.crate.name}.proofs.{'.'.join(copy.of.parts)}")
         for file in glob.glob(f"{own}/**/*.antt", recursive=True):
-            text = open_text(file).decode()
+            text = read_bytes(file).decode()
             text = re.sub(rf"\b{path}\b(?!-)", f"Rattle.{self.crate.name}.proofs.{'.'.join(copy.parts)}", text)
-            with open(file, "w", encoding="utf-8") as it:
-                it.write(re.sub(rf"\b{name}_spec\b", f"{copy.parts[-1]}_spec", text))
+            write(file, re.sub(rf"\b{name}_spec\b", f"{copy.parts[-1]}_spec", text))
         self.begin_answers(copy)
 
     def leave_open(self, function):
@@ -277,20 +270,17 @@ class Trial:
         if not proof:
             return False
         shutil.rmtree(proof, ignore_errors=True)
-        os.makedirs(proof)
         name = function.parts[-1]
-        with open(f"{proof}/Proof.antt", "w", encoding="utf-8") as file:
-            file.write(f"use Rattle.{self.crate.name}.proofs.{function.path.replace('::', '.')}.Statement.{{statement}}\n\n")
-            file.write(f"pub {name}_spec : {{M : Type 1}} → statement M\n{name}_spec = ?\n")
+        statement = f"use Rattle.{self.crate.name}.proofs.{function.path.replace('::', '.')}.Statement.{{statement}}\n\n"
+        write(f"{proof}/Proof.antt", f"{statement}pub {name}_spec : {{M : Type 1}} → statement M\n{name}_spec = ?\n")
         return True
 
     def rewrite(self, function, start, words):
         """Replaces a function from this place on. Functions that aren't checked lose their bodies: a check would translate
         these, and check all that they call."""
         path = f"{self.folder}/{function.file}"
-        text = open_text(path)
-        with open(path, "wb") as file:
-            file.write(text[:start] + words + text[function.end :])
+        text = read_bytes(path)
+        write(path, text[:start] + words + text[function.end :])
 
     def apply(self, edit, functions):
         """Applies an edit of a definition, which one of these functions has to refuse. Returns why, if that is impossible."""
@@ -299,8 +289,7 @@ class Trial:
         texts, fault = toolchain().read_edit(edit.path, self.folder)
         for path, text in texts.items() if not fault else ():
             self.changed.add(path)
-            with open(f"{self.folder}/{path}", "w", encoding="utf-8") as file:
-                file.write(text)
+            write(f"{self.folder}/{path}", text)
         return fault
 
     def check(self, wanted, kept):
@@ -417,7 +406,7 @@ class Rounds:
         return edit.is_of_bodies() and not any(it.is_of_trait for it in found) and not is_inside and not shares
 
     def text_of(self, function):
-        return open_text(f"{self.crate.folder}/{function.file}")[function.start : function.end]
+        return read_bytes(f"{self.crate.folder}/{function.file}")[function.start : function.end]
 
     def copy(self, path, ending, edit=None):
         """Returns a copy of a function, as an edit makes it if one is given."""
@@ -530,7 +519,7 @@ class Refusals:
         self.sums[crate] = self.sum_of(crate) if self.kept else None
         for edit in edits if self.kept else ():
             # edits of definitions that name goals share rounds, so the others may be why it was refused
-            beside = [open_text(it.path) for it in edits if edit.goal and it.goal]
+            beside = [read_bytes(it.path) for it in edits if edit.goal and it.goal]
             self.names[edit] = self.kept.of_edit(edit.path, (self.sums[crate][0], beside))
             kind, why = self.kept.tried(self.names[edit]) or (None, None)
             if kind == toolchain().REFUSED:

@@ -13,6 +13,7 @@ import tempfile
 
 from tests.gate import wrong_bodies
 from tests.gate.functions import toolchain
+from tests.support.harness import write
 
 CODE = """//! Functions whose bodies are edited.
 #![tactic(auto)]
@@ -124,12 +125,6 @@ CHANGES = {
     "crates/high/must-fail/wrong.edit": ("count + 2", "count + 3", ["least", "most"]),
     "crates/high/wrong-bodies/most.edit": ("usize = 7", "usize = 9", ["wrong"]),
 }
-
-
-def write(path, text):
-    os.makedirs(os.path.dirname(path), exist_ok=True)
-    with open(path, "w", encoding="utf-8") as file:
-        file.write(text)
 
 
 def write_crates(root):

@@ -15,7 +15,10 @@ import sys
 import tempfile
 import time
 
-from tests.support.harness import ROOT, VERSION_SHOWN, Failed, Shimmed, cannot_read, ensure, expect, fewer, has_read_all, needs_proved_build, patience, refusals, refusing, run_tests, status_of
+from tests.support.harness import (
+    ROOT, VERSION_SHOWN, Failed, Shimmed, cannot_read, ended, ensure, expect, fewer, has_read_all, needs_proved_build, patience, read,
+    refusals, refusing, run_tests, status_of, write,
+)
 from tests.support.model import Config, User, quoted
 from tests.support.room_model import Room, Rules, Watched, line_of, shown
 from tests.support.room_schedules import UPSES, RoomMaker
@@ -93,14 +96,9 @@ class RoomFiles:
 
     def __init__(self, folder, config, rules):
         self.folder = folder
-        os.makedirs(folder, exist_ok=True)
         for name, text in server_files(config).items():
             write(os.path.join(folder, name), text)
-        self.monitors = []
-        for number, it in enumerate(rules):
-            path = os.path.join(folder, f"upsmon-{number}.conf")
-            write(path, it.text())
-            self.monitors.append(path)
+        self.monitors = [write(os.path.join(folder, f"upsmon-{number}.conf"), it.text()) for number, it in enumerate(rules)]
 
 
 def played(config, rules, steps):
@@ -130,16 +128,14 @@ class Tests(Shimmed):
         return RoomFiles(os.path.join(self.folder, name), config, rules)
 
     def write(self, name, data):
-        path = os.path.join(self.folder, name)
-        write(path, data)
-        return path
+        return write(os.path.join(self.folder, name), data)
 
-    def run(self, room, path, data=b"", env=None):
+    def run(self, room, path, data=b"", env=None, **options):
         """Returns the status, what is printed, and what is written about a failure. The schedule may be `/dev/stdin`, which
         has `data`."""
         words = [self.program, room.folder, path, *room.monitors]
-        done = subprocess.run(words, input=data, env={**os.environ, **(env or {})}, capture_output=True, timeout=patience(60))
-        return done.returncode, done.stdout, done.stderr
+        status, *streams = ended(words, input=data, env={**os.environ, **(env or {})}, timeout=patience(60), **options)
+        return status, *(it.encode() for it in streams)
 
     def plays(self, room, steps, due, what):
         data = b"".join(map(line_of, steps))
@@ -166,10 +162,9 @@ class Tests(Shimmed):
         self.plays(self.room("pair", ALONE, [PRIMARY, SECONDARY]), PAIR_ROW, PAIR_DUE, "a primary that waits")
 
     def test_examples_print_what_their_page_says(self):
-        with open(os.path.join(SCHEDULES, "README.md")) as file:
-            page = file.read()
-        shown = re.findall(r"```console\n\$ nutsim (.*)\n((?:.*\n)*?)```", page)
-        expect(sorted(words.split()[1] for words, _ in shown), sorted(f"examples/schedules/{it}" for it in os.listdir(SCHEDULES) if it.endswith(".sched")), "the schedules")
+        shown = re.findall(r"```console\n\$ nutsim (.*)\n((?:.*\n)*?)```", read(os.path.join(SCHEDULES, "README.md")))
+        there = [f"examples/schedules/{it}" for it in os.listdir(SCHEDULES) if it.endswith(".sched")]
+        expect(sorted(words.split()[1] for words, _ in shown), sorted(there), "the schedules")
         for words, due in shown:
             expect(ended([self.program, *words.split()], cwd=os.path.dirname(EXAMPLES)), (0, due, ""), words)
 
@@ -246,18 +241,16 @@ class Tests(Shimmed):
             ((0, 1, 2), path, (1, b"", b"")),
             ((2,), faulty, (1, b"", b"")),
         ):
-            words = [self.program, room.folder, schedule, *room.monitors]
-            done = subprocess.run(words, capture_output=True, timeout=60, preexec_fn=lambda closed=closed: [os.close(it) for it in closed])
-            expect((done.returncode, done.stdout, done.stderr), end, f"{schedule} without the streams {closed}")
+            found = self.run(room, schedule, preexec_fn=lambda closed=closed: [os.close(it) for it in closed])
+            expect(found, end, f"{schedule} without the streams {closed}")
 
     def test_files_without_a_folder(self):
         room = self.room("bare", ALONE, [PRIMARY])
         room.monitors = ["upsmon-0.conf", "other.conf"]
         self.write("bare/other.conf", b"MONITOR su700@localhost 1 mon m1 tertiary\n")
         self.write("bare/empty.sched", b"")
-        done = subprocess.run([self.program, ".", "empty.sched", *room.monitors], cwd=room.folder, capture_output=True, timeout=60)
-        said = b"nutsim: other.conf:1: UnknownWord\nnutsim: ROLE: 'primary' or 'secondary' is meant\n"
-        expect((done.returncode, done.stdout, done.stderr), (1, b"", said), "a monitor's file")
+        said = "nutsim: other.conf:1: UnknownWord\nnutsim: ROLE: 'primary' or 'secondary' is meant\n"
+        expect(ended([self.program, ".", "empty.sched", *room.monitors], cwd=room.folder), (1, "", said), "a monitor's file")
 
     def test_the_longest_file_of_a_monitor(self):
         room = self.room("longest", ALONE, [PRIMARY])
@@ -269,13 +262,11 @@ class Tests(Shimmed):
 
     def test_command_lines(self):
         for words, status in (([], 2), (["a"], 2), (["a", "b"], 2), (["a", "b", "c", "--none"], 2)):
-            done = subprocess.run([self.program, *words], capture_output=True, timeout=60)
-            expect((done.returncode, done.stdout), (status, b""), words)
-            ensure(b"Usage: nutsim" in done.stderr, f"{words}: {done.stderr!r}")
-        for word, text in (("--help", b"Usage: nutsim <DIR> <SCHEDULE> <MONCONF>..."), ("--version", f"nutsim {VERSION_SHOWN}\n".encode())):
-            done = subprocess.run([self.program, word], capture_output=True, timeout=60)
-            expect((done.returncode, done.stderr), (0, b""), word)
-            ensure(text in done.stdout, f"{word}: {done.stdout!r}")
+            found, out, err = ended([self.program, *words])
+            expect((found, out, "Usage: nutsim" in err), (status, "", True), f"{words}: {err!r}")
+        for word, text in (("--help", "Usage: nutsim <DIR> <SCHEDULE> <MONCONF>..."), ("--version", f"nutsim {VERSION_SHOWN}\n")):
+            status, out, err = ended([self.program, word])
+            expect((status, err, text in out), (0, "", True), f"{word}: {out!r}")
 
     def test_nutsim_with_each_allocation_refused_in_turn(self):
         room = self.room("refused", ALONE, [PRIMARY, SECONDARY])

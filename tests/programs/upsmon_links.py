@@ -369,7 +369,7 @@ class Tests(MonitorTests):
                     ensure(watch.is_idle(3, 0.15), f"processor time: {name}")
                     other.statuses[b"su700"] = b"OB LB"
                     expect(watch.status(), 0, f"status: {name}")
-                    told = [ON_BATTERY % other.target, BATTERY_LOW % other.target, *[LOST % server.target] * len(reports), SHUTDOWN]
+                    told = [ON_BATTERY % other.target, BATTERY_LOW % other.target, LOST % server.target, SHUTDOWN]
                     expect(watch.lines(), told, f"what is told: {name}")
 
     def test_server_that_is_no_longer_understood(self):
