@@ -5,6 +5,7 @@
 
 A file is used in place of a program that isn't given. The last line is 'N passed, M failed'."""
 
+import functools
 import os
 import re
 import resource
@@ -557,10 +558,15 @@ class Tests:
         for line in ("OL", "ups.id: rack7", "ups.status: OB"):
             expect(line in said.splitlines(), True, f"{line!r} is shown: {said}")
 
-    def check(self, *words, script=None, **env):
-        """Returns the status of mulgefa-check with the built programs beside it, and what it prints."""
+    @functools.cached_property
+    def checker(self):
+        """The path of mulgefa-check with the built programs beside it."""
         self.needs("upsd", "upsmon")
-        script = script or os.path.join(self.installed("checked"), "sbin/mulgefa-check")
+        return os.path.join(self.installed("checked"), "sbin/mulgefa-check")
+
+    def check(self, *words, script=None, **env):
+        """Returns the status of a mulgefa-check, and what it prints."""
+        script = script or self.checker
         env = {**{it: os.environ[it] for it in ("PATH", "TMPDIR") if it in os.environ}, **env}
         return ended([script, *words], env=env, stderr=subprocess.STDOUT)[:2]
 
@@ -659,14 +665,12 @@ class Tests:
 
     def test_check_in_a_full_folder(self):
         """A copy that can't be written whole changes nothing."""
-        self.needs("upsd", "upsmon")
         small = self.place()
         os.mkdir(small)
         mount = apart("--mount", "sh", "-c", 'mount -t tmpfs -o size=16k none "$0" && TMPDIR="$0" exec "$@"', small)
         folder = self.nuts_files({"ups.conf": "maxretry = 3\n" + "# what is in the rack\n" * 300})
         before = state_of(folder)
-        prefix = self.installed("checked-full")
-        status, _, err = ended([*mount, os.path.join(prefix, "sbin/mulgefa-check"), "-i", folder])
+        status, _, err = ended([*mount, self.checker, "-i", folder])
         expect((status, state_of(folder)), (2, before), err)
         ensure(err.endswith(": cannot write\n"), f"what it tells: {err}")
 
@@ -774,18 +778,16 @@ class Tests:
 
     def test_check_changes_all_or_nothing(self):
         """Where a disk becomes full, each file is what it was, and none is left over."""
-        self.needs("upsd", "upsmon")
         conf = "DEBUG_MIN 1\n" + "# what is in the rack\n" * 300
         folder = self.nuts_files({"upsd.users": "[a]\n actions = set\n", "upsd.conf": conf})
         before = state_of(folder)
-        prefix = self.installed("checked-small")
         small, left = self.place(), self.place()
         for path in (small, left):
             os.mkdir(path)
         # nine pages: six for the files, and not enough for what upsd.conf was and for what it becomes
         mount = apart("--mount", "sh", "-c", 'mount -t tmpfs -o size=36k none "$0" && exec "$@"', small)
         script = 'cp -p "$1"/*.* "$0" && status=0 && { "$2" -i "$0" || status=$?; } && cp -p "$0"/* "$3" && exit "$status"'
-        words = [*mount, "sh", "-c", script, small, folder, os.path.join(prefix, "sbin/mulgefa-check"), left]
+        words = [*mount, "sh", "-c", script, small, folder, self.checker, left]
         status, _, err = ended(words)
         ensure(err.endswith(f"mulgefa-check: {small}: cannot write, and no file is changed\n"), f"what it tells: {err}")
         expect(status, 2, "its status")
@@ -900,23 +902,22 @@ class Tests:
             text = read(os.path.join(prefix, "lib/systemd/system", UNITS[program]))
             expect(("=/srv/ups\n" in text, "/etc/nut" in text), (True, False), f"{program}: another folder")
 
-    def test_units_name_their_programs_in_the_journal(self):
-        """The journal would show 'env', by which the units start their programs."""
-        for program, unit in UNITS.items():
-            text = read(os.path.join(ROOT, "packaging", unit))
-            expect(re.findall("^SyslogIdentifier=(.*)$", text, re.MULTILINE), [program], f"{unit}: the name in the journal")
-        units = [name for name in os.listdir(os.path.join(ROOT, "packaging")) if name.endswith(".service")]
-        expect(sorted(units), sorted(UNITS.values()), "all units")
-
-    def test_units_start_again_and_wait_for_no_network(self):
-        """A network may come up long after a power failure. However often a program failed, it is started again, and whoever starts
-        it sees that it failed."""
-        for unit in UNITS.values():
-            text = read(os.path.join(ROOT, "packaging", unit))
-            ensure("Restart=on-failure\nRestartSec=5\n" in text, f"{unit}: when it starts again")
-            ensure("\nStartLimitIntervalSec=0\n" in text.partition("[Service]")[0], f"{unit}: how often it starts again")
-            expect(len(re.findall("^ExecStartPost=-/usr/bin/timeout 5 .*/until-ready [$]{MAINPID} ", text, re.MULTILINE)), 1, f"{unit}: its start")
-            ensure("network-online" not in text, f"{unit} waits for a network")
+    def test_settings_of_units(self):
+        """The journal has their programs' names, and not 'env', by which units start them. However often a program failed, it is started
+        again, and whoever starts it sees that it failed. None waits for a network, which may come up long after a power failure. What
+        SHUTDOWNCMD unmounts has to be unmounted for the whole machine, so upsmon's unit has no mounts of its own."""
+        folder = os.path.join(ROOT, "packaging")
+        expect(sorted(it for it in os.listdir(folder) if it.endswith(".service")), sorted(UNITS.values()), "all units")
+        texts = {program: read(os.path.join(folder, unit)) for program, unit in UNITS.items()}
+        for program, text in texts.items():
+            expect(re.findall("^SyslogIdentifier=(.*)$", text, re.MULTILINE), [program], f"{program}: the name in the journal")
+            ensure("Restart=on-failure\nRestartSec=5\n" in text, f"{program}: when it starts again")
+            ensure("\nStartLimitIntervalSec=0\n" in text.partition("[Service]")[0], f"{program}: how often it starts again")
+            waits = re.findall("^ExecStartPost=-/usr/bin/timeout 5 .*/until-ready [$]{MAINPID} ", text, re.MULTILINE)
+            expect(len(waits), 1, f"{program}: its start")
+            ensure("network-online" not in text, f"{program} waits for a network")
+        expect(OWN_MOUNTS.findall(texts["upsmon"]), [], "mounts of upsmon's unit")
+        ensure("ProtectKernelModules=yes" in OWN_MOUNTS.findall(texts["upsd"]), "those of upsd's aren't found")
 
     def test_units_wait_until_they_answer(self):
         """What starts after a driver or a server finds its socket or its values, and waits for none that has ended or listens
@@ -1010,14 +1011,6 @@ class Tests:
                 if not fault:
                     os.remove(os.path.join(room, "reload"))
             shutil.copy(os.path.join(ROOT, "examples", name), room)
-
-    def test_monitor_has_the_mounts_of_its_machine(self):
-        """What SHUTDOWNCMD unmounts has to be unmounted for the whole machine."""
-        texts = {}
-        for program, unit in UNITS.items():
-            texts[program] = read(os.path.join(ROOT, "packaging", unit))
-        expect(OWN_MOUNTS.findall(texts["upsmon"]), [], "settings of upsmon's unit")
-        ensure("ProtectKernelModules=yes" in OWN_MOUNTS.findall(texts["upsd"]), "those of upsd's aren't found")
 
     def test_units_are_read_by_systemd(self):
         analyze = needed("systemd-analyze", "systemd")
