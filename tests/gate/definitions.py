@@ -11,10 +11,9 @@ OPERATOR = r"◌[^\s{},()]+◌(?:[^\s{},()]+◌)?"
 HOLE = "◌"
 CODE = "code"
 
-# Words of the language of definitions, and of clauses beside them.
+# Words of the language of definitions.
 LANGUAGE = set("abbrev pub unfoldable opaque data record where let in if then else λ Type Unit tt inl inr infixl infixr _ with".split())
 NUMERALS = ("true", "false", "suc", "zero")
-CLAUSE = set("result self rt g l".split())
 
 TOKEN = re.compile(
     rf"""--[^\n]*|//[^\n]*|"(?:\\.|[^"\\])*"|'(?:\\.|[^'\\])'|{WORD}|\d[\d_]*"""

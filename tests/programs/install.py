@@ -91,12 +91,14 @@ CHECKED = {
     ),
     "all addresses, and IPv6 in brackets": (
         ("--upsd",),
-        {"upsd.conf": 'LISTEN *\nLISTEN "*" 24938 # all\nLISTEN *:24939\nLISTEN [::1]\nLISTEN [2001:470::1]:24940\nLISTEN "[2001:470::1]" 24941\n'},
+        {"upsd.conf": 'LISTEN *\nLISTEN "*" 24938 # all\nLISTEN *:24939\nLISTEN [::1]\nLISTEN [2001:470::1]:24940\n'
+         'LISTEN "[2001:470::1]" 24941\n'},
         1, "".join(f"FOLDER/upsd.conf:{line}: BadName: LISTEN {was}\n    change it to: LISTEN {is_now}\n" for line, was, is_now in (
             (3, "*:24939", "* 24939"), (1, "*", "::"), (2, '"*" 24938 # all', '"::" 24938 # all'), (3, "* 24939", ":: 24939"),
             (4, "[::1]", "::1"), (5, "[2001:470::1]:24940", "2001:470::1 24940"), (6, '"[2001:470::1]" 24941', '"2001:470::1" 24941'),
         )),
-        {"upsd.conf": 'LISTEN ::\nLISTEN "::" 24938 # all\nLISTEN :: 24939\nLISTEN ::1\nLISTEN 2001:470::1 24940\nLISTEN "2001:470::1" 24941\n'},
+        {"upsd.conf": 'LISTEN ::\nLISTEN "::" 24938 # all\nLISTEN :: 24939\nLISTEN ::1\nLISTEN 2001:470::1 24940\n'
+         'LISTEN "2001:470::1" 24941\n'},
     ),
     "an address of IPv6 in a MONITOR line": (
         ("--upsmon",), {"upsmon.conf": "MINSUPPLIES 0\nMONITOR su700@[::1]:3493 1 mon secret primary\n"},
@@ -105,8 +107,8 @@ CHECKED = {
     ),
     "bytes past ASCII that nobody reads": (
         ("--upsd",), {"upsd.conf": " #\tB\u00fcro\nMAXAGE 15 # \u00b0C\n", "ups.conf": '[u]\n desc = "a # b" # \u00fc\n'},
-        1, 'FOLDER/ups.conf:2: Unreadable: desc = "a # b" # \u00fc\n    change it to: desc = "a # b" # ??\nFOLDER/upsd.conf:1: Unreadable: # ..\n'
-        "    each byte of the comment that isn't printing ASCII becomes a question mark\n"
+        1, 'FOLDER/ups.conf:2: Unreadable: desc = "a # b" # \u00fc\n    change it to: desc = "a # b" # ??\n'
+        "FOLDER/upsd.conf:1: Unreadable: # ..\n    each byte of the comment that isn't printing ASCII becomes a question mark\n"
         "FOLDER/upsd.conf:2: Unreadable: MAXAGE 15 # \u00b0C\n    change it to: MAXAGE 15 # ??C\n",
         {"upsd.conf": " #\tB??ro\nMAXAGE 15 # ??C\n", "ups.conf": '[u]\n desc = "a # b" # ??\n'},
     ),
@@ -116,8 +118,8 @@ CHECKED = {
     ),
     "types of notices that aren't given here, and those of later versions of NUT": (
         ("--upsmon",),
-        {"upsmon.conf": 'MINSUPPLIES 0\nNOTIFYFLAG NOPARENT SYSLOG+WALL\n NOTIFYMSG "NOPARENT" "upsmon parent died"\nNOTIFYFLAG ONBATT EXEC\n'
-         "NOTIFYFLAG NOTOFF SYSLOG\nOFFDURATION 30\n"},
+        {"upsmon.conf": 'MINSUPPLIES 0\nNOTIFYFLAG NOPARENT SYSLOG+WALL\n NOTIFYMSG "NOPARENT" "upsmon parent died"\n'
+         "NOTIFYFLAG ONBATT EXEC\nNOTIFYFLAG NOTOFF SYSLOG\nOFFDURATION 30\n"},
         1, f"FOLDER/upsmon.conf:2: UnknownWord: NOTIFYFLAG NOPARENT SYSLOG+WALL\n{OF_A_PROCESS}"
         f'FOLDER/upsmon.conf:3: UnknownWord: NOTIFYMSG "NOPARENT" "upsmon parent died"\n{OF_A_PROCESS}'
         "FOLDER/upsmon.conf:5: UnknownWord: NOTIFYFLAG NOTOFF SYSLOG\n    take it out: no notice of NUT 2.8.0 has this type\n"
@@ -155,7 +157,8 @@ CHECKED = {
     ),
     "the mark of an editor": (
         ("--upsd",), {"ups.conf": "\ufeff[a]\n"},
-        1, "FOLDER/ups.conf:1: Unreadable: [a]\n    take out the three bytes before it, the byte order mark of UTF-8\n", {"ups.conf": "[a]\n"},
+        1, "FOLDER/ups.conf:1: Unreadable: [a]\n    take out the three bytes before it, the byte order mark of UTF-8\n",
+        {"ups.conf": "[a]\n"},
     ),
     "faults of cmdvartab": (
         ("--upsd",), {"cmdvartab": 'VARDESC ups.load "Load"\nVARIABLE ups.load "Load"\nVARDESC ups.temperature\n'},
@@ -679,7 +682,8 @@ class Tests:
             "ups.conf": 'maxretry = 3\n[apc]\n driver = usbhid-ups\n port = auto\n vendorid = 051d\n override.battery.charge.low = 30\n',
             "upsd.conf": "#\u00a0a comment\nMAXAGE 20\nSTATEPATH /run/nut\n",
             "upsd.users": '[mon]\n password = "s3 cret"\n actions = set\n upsmon = master\n[guest]\n actions = fsd\n upsmon slave # ours\n',
-            "upsmon.conf": 'RUN_AS_USER nut\nMONITOR apc 1 mon "s3 cret" master # mine\nMONITOR apc@rack 0 guest m2 slave\nNOTIFYCMD /sbin/upssched\n',
+            "upsmon.conf": 'RUN_AS_USER nut\nMONITOR apc 1 mon "s3 cret" master # mine\nMONITOR apc@rack 0 guest m2 slave\n'
+            "NOTIFYCMD /sbin/upssched\n",
         })
         before = state_of(folder)
         told = [

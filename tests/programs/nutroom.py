@@ -310,7 +310,8 @@ class Tests:
         path = self.room("machine m1 both.conf delay 0 1\nmachine m2 m2.conf delay 0 1\nmachine m3 m2.conf delay 0 5\n" + LOW)
         keeps = "  m1  keeps running: its UPSes are neither low nor forced, and DEADTIME is long enough"
         sync = "HOSTSYNC 15 of m1 {}; in brackets what is enough"
-        lines = self.expect_printed((keeps, sync.format("is enough for m2 (13)"), sync.format("may be too short for m3 (17)")), "-n", "2", path)
+        syncs = [sync.format(it) for it in ("is enough for m2 (13)", "may be too short for m3 (17)")]
+        lines = self.expect_printed([keeps, *syncs], "-n", "2", path)
         rows = {it.split()[0]: it.split()[2:] for it in lines if it.startswith(("m1 ", "m2 ", "m3 "))}
         expect((rows["m1"], rows["m2"][6], rows["m3"][6]), (["-"] * 6 + ["keeps", "running"], "42", "46"), "the table")
         cut = "; doesn't hold, since its link was cut"

@@ -26,7 +26,7 @@ from tests.support.monitored import (
     BATTERY_LOW, ESTABLISHED, FLAG, FORCED, LOST, OF_SHUTDOWN, ON_BATTERY, QUICK, SHUTDOWN, UNAVAILABLE, ByteByByte, MonitorTests, Silent,
     Upstream, children_of, play, put_program,
 )
-from tests.support.room import SOON, STATUS, accepted, free_port, until
+from tests.support.room import SOON, accepted, free_port, until
 from tests.support.room_model import Watched
 
 sys.path.append(os.path.join(ROOT, "tools"))
@@ -471,7 +471,10 @@ class Tests(MonitorTests):
         enough, short = ("upsmon: m1: HOSTSYNC %d is enough: %s needs the most, %d\n", "upsmon: m1: HOSTSYNC %d is too short: %s needs the most, %d\n")
         battery = "upsmon: m1: battery.runtime.low: at least %d s, and what a machine takes from SHUTDOWNCMD until it is off\n"
         alone = "upsmon: %s: no machine here is the primary of its UPSes: none waits for it\n"
-        answers = "upsmon: m2: 6 s for an answer are too long: upsmon gives a server up after 5 s while a UPS is on battery, so nothing is known of this room\n"
+        answers = (
+            "upsmon: m2: 6 s for an answer are too long: upsmon gives a server up after 5 s while a UPS is on battery, "
+            "so nothing is known of this room\n"
+        )
         several = "upsmon: m1: its UPSes are at several servers: HOSTSYNC and the battery are reckoned for one\n"
         keeps = "upsmon: m1: keeps running without the UPSes of which it is the primary: it forces no shutdown while their battery is low\n"
         unset = "upsmon: m1: SHUTDOWNCMD is not set: nothing will shut down this machine\n"
@@ -487,7 +490,8 @@ class Tests(MonitorTests):
             ({"m1": primary + "HOSTSYNC 9\n", "m2": secondary + "FINALDELAY 30\n"}, (),
              (stops % ("m1", 22, 2), stops % ("m2", 53, 2), battery % 47), (short % (9, "m2", 40),)),
             # a primary of two UPSes; a machine that needs one of them and one that needs none
-            ({"m1": two, "m2": secondary, "m3": secondary + "MINSUPPLIES 0\n"}, (), (m1, m2, never, battery % 28), (short % (15, "m2", 16),)),
+            ({"m1": two, "m2": secondary, "m3": secondary + "MINSUPPLIES 0\n"}, (),
+             (m1, m2, never, battery % 28), (short % (15, "m2", 16),)),
             ({"m1": primary}, (), (m1, lonely, battery % 28), ()),
             ({"m2": secondary}, (), (m2,), (alone % "m2",)),
             ({"m1": primary + "MONITOR su800@m9 1 mon m1 secondary\n"}, (), (stops % ("m1", 44, 2),), (several, keeps)),

@@ -404,7 +404,7 @@ class Tests(MonitorTests):
         """A file with a fault ends both, with the status and the line of one process."""
         with self.apart("MONITOR\n") as (_, watch):
             expect(watch.status(), 1, "its status")
-            until(lambda: any(line.startswith("upsmon: upsmon.conf:5: ") for line in watch.lines("err")), f"the fault: {watch.lines('err')}")
+            until(lambda: any(line.startswith("upsmon: upsmon.conf:5: ") for line in watch.lines("err")), "the fault is told")
 
 
 if __name__ == "__main__":

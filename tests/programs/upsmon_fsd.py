@@ -14,7 +14,9 @@ import sys
 import tempfile
 import time
 
-from tests.support.harness import NUTS_OPTIONS, ROOT, cannot_read, ended, ensure, expect, named_error, read, refusals, streams_without_readers, write
+from tests.support.harness import (
+    NUTS_OPTIONS, ROOT, cannot_read, ended, ensure, expect, named_error, read, refusals, streams_without_readers, write,
+)
 from tests.support.monitored import (
     FLAG, FORCED, QUICK, SHUTDOWN, USERS, ByteByByte, Closing, Endless, MonitorTests, Rubbish, Silent, Upstream, play,
 )
@@ -287,7 +289,8 @@ class Tests(MonitorTests):
     def test_folder_of_the_environment(self):
         with Forced() as server, tempfile.TemporaryDirectory(dir=self.folder) as folder:
             write(os.path.join(folder, "upsmon.conf"), line_of(server.target))
-            expect(ended([self.upsmon, "--fsd"], env={**os.environ, "NUT_CONFPATH": folder}), (0, is_set(server.target), ""), "NUT_CONFPATH")
+            found = ended([self.upsmon, "--fsd"], env={**os.environ, "NUT_CONFPATH": folder})
+            expect(found, (0, is_set(server.target), ""), "NUT_CONFPATH")
 
     def test_command_lines(self):
         with Forced() as server:

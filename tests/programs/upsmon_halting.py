@@ -22,7 +22,7 @@ import tempfile
 import time
 
 from tests.support.harness import ROOT, FullPipe, apart, cannot_read, ended, ensure, expect, patience, read, read_bytes, write
-from tests.support.monitored import FLAG, ON_BATTERY, QUICK, SHUTDOWN, MonitorTests, Upstream, Watch, children_of, play, put_program
+from tests.support.monitored import FLAG, ON_BATTERY, QUICK, SHUTDOWN, MonitorTests, Upstream, children_of, play, put_program
 from tests.support.room import ONLINE, SOON, STATUS, USERS, Lines, heed_modes, said, state_of, stopped, until
 
 WORD = FLAG.strip()
