@@ -9,7 +9,7 @@ import ast
 import os
 import sys
 
-from tests.support.harness import Missing, apart, ended, ensure, expect, play
+from tests.support.harness import Missing, apart, ended_in_bytes, ensure, expect, play
 from tests.peers.server import NutRoom, needed
 from tests.support.room import ONLINE, RoomTests, STATUS, until
 
@@ -80,7 +80,7 @@ class ClientRoom(NutRoom):
     def pynut(self, expression, *user):
         """Returns the value of an expression about PyNUT's client of this room."""
         words = [PYTHON, "-W", "ignore", "-c", SCRIPT, str(self.port), expression, *user]
-        status, out, err = ended(words)
+        status, out, err = ended_in_bytes(words)
         ensure(status == 0, f"{expression}: {err.decode()}")
         return values(ast.literal_eval(out.decode()))
 
@@ -112,7 +112,7 @@ class Tests(RoomTests):
     kind = ClientRoom
 
     def python_room(self):
-        if not os.access(PYTHON, os.X_OK) or ended([PYTHON, "-c", "import PyNUT"])[0] != 0:
+        if not os.access(PYTHON, os.X_OK) or ended_in_bytes([PYTHON, "-c", "import PyNUT"])[0] != 0:
             raise Missing("PyNUT isn't installed (Debian's package python3-nut)")
         return self.room()
 

@@ -10,7 +10,7 @@ import os
 import sys
 import time
 
-from tests.support.harness import ended, expect, play
+from tests.support.harness import ended, ended_in_bytes, expect, play
 from tests.support.monitored import BATTERY_LOW, ESTABLISHED, FLAG, FORCED, LOST, ON_BATTERY, QUICK, SHUTDOWN, USERS, Watch, put_program
 from tests.peers.server import NutRoom, needed
 from tests.support.room import stopped, until
@@ -57,7 +57,7 @@ class Tests:
             conf = f"MONITOR su700@localhost 1 mon m1 primary\nPOWERDOWNFLAG {watch.path(name)}\nSHUTDOWNCMD true\n"
             room.write("nut/upsmon.conf", conf.encode())
             os.chmod(room.path("nut/upsmon.conf"), 0o600)
-            expect(ended([upsmon, "-K"], env=room.environment())[0], status, f"'upsmon -K' with the file {name}")
+            expect(ended_in_bytes([upsmon, "-K"], env=room.environment())[0], status, f"'upsmon -K' with the file {name}")
 
     def test_two_machines(self):
         with self.room() as room:
@@ -75,7 +75,7 @@ class Tests:
 
     def force(self, folder):
         """Forces the shutdown that the upsmon.conf of this folder names. Returns the status, and what is written to both streams."""
-        return ended([self.upsmon, "--fsd", "--conf", folder], text=True)
+        return ended([self.upsmon, "--fsd", "--conf", folder])
 
     def test_shutdown_by_hand(self):
         with self.room() as room:

@@ -80,7 +80,7 @@ class NutRoom(Room):
 
     def tool(self, name, *words):
         """Returns what one of NUT's tools prints about this room's server."""
-        return ended([needed(name, "nut-client"), *self.named(words)], text=True)[:2]
+        return ended([needed(name, "nut-client"), *self.named(words)])[:2]
 
 
 class Tests(RoomTests):

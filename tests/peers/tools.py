@@ -31,7 +31,7 @@ class ToolRoom(NutRoom):
         return *self.tool(tool, *words), ""
 
     def ours(self, tool, *words):
-        return ended([self.tools[tool], *self.named(words)], text=True)
+        return ended([self.tools[tool], *self.named(words)])
 
 
 class Tests:

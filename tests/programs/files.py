@@ -11,7 +11,7 @@ import sys
 import tempfile
 
 from tests.support import manual
-from tests.support.harness import ended, ensure, expect, play
+from tests.support.harness import ended_in_bytes, ensure, expect, play
 
 
 def numbered(line, count):
@@ -369,7 +369,7 @@ class Tests:
                 with open(os.path.join(folder, name.replace("_", ".")), "wb") as file:
                     file.write(text)
             # upsmon looks for upsc, and finds none
-            return ended([program, "--check", "--conf", folder], env={"PATH": folder})
+            return ended_in_bytes([program, "--check", "--conf", folder], env={"PATH": folder})
 
     def compare(self, name, rows):
         """Compares what a program says of each text of a file with a row: the first fault, and what is expected. No password is in

@@ -14,7 +14,7 @@ import sys
 import tempfile
 
 from tests.support import manual
-from tests.support.harness import ended, ensure, expect, Missing, ROOT, run_tests
+from tests.support.harness import ended_in_bytes, ensure, expect, Missing, ROOT, run_tests
 
 SOURCE = os.path.join(ROOT, "docs", "from-nut.md")
 PAGE = os.path.join(ROOT, "man", "from-nut.7")
@@ -158,7 +158,7 @@ class Tests:
     def said(self, *words):
         """Returns what a program writes to standard error, which it does at once or not at all."""
         try:
-            return ended(words, timeout=20, env={"PATH": os.environ["PATH"], "NUT_CONFPATH": "/nowhere"})[2].decode()
+            return ended_in_bytes(words, timeout=20, env={"PATH": os.environ["PATH"], "NUT_CONFPATH": "/nowhere"})[2].decode()
         except subprocess.TimeoutExpired:
             return ""
 

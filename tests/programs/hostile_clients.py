@@ -19,7 +19,7 @@ import struct
 import sys
 import time
 
-from tests.support.harness import build_library, built_without_proof, cannot_listen, cannot_read, ended, ensure, expect
+from tests.support.harness import build_library, built_without_proof, cannot_listen, cannot_read, ended_in_bytes, ensure, expect
 from tests.support.harness import needs_proved_build, patience, play, processor_time
 from tests.support.room import NOT_CONNECTED, ONLINE, NO_PINGS, SOON, STATUS, VERSION, Client, RoomTests
 from tests.support.room import accepted, descriptors, said, stopped, until
@@ -448,7 +448,7 @@ class Tests(RoomTests):
 
     def expect_refused(self, room, path, why, what, **options):
         """Expects that a driver can't listen at a socket, for this reason."""
-        found = ended([room.dummy_program, room.path("su700.dev"), path], **options)
+        found = ended_in_bytes([room.dummy_program, room.path("su700.dev"), path], **options)
         expect(found, (1, b"", cannot_listen("dummy-ups", path, why).encode()), what)
 
     def expect_pong(self, path, what):
@@ -570,7 +570,7 @@ class Tests(RoomTests):
                 ([room.dummy_program, room.path("su700.dev"), room.path("socket")], b"dummy-ups: I/O failed\n"),
                 (room.command("-q"), b"upsd: I/O failed\n"),
             ):
-                status, _, err = ended(words, env=env)
+                status, _, err = ended_in_bytes(words, env=env)
                 ensure(status == 1 and err.endswith(told), f"{words[0]} ends with {status} and {err}")
 
     def test_files_that_are_no_scripts(self):
@@ -584,7 +584,7 @@ class Tests(RoomTests):
             (lambda: self.sparse(path, 1 << 34), f"dummy-ups: {path}: more than 16777216 bytes\n"),
         ):
             make()
-            expect(ended([self.programs[1], path, at]), (1, b"", said.encode()), said)
+            expect(ended_in_bytes([self.programs[1], path, at]), (1, b"", said.encode()), said)
             os.rmdir(path) if os.path.isdir(path) else os.remove(path)
         ensure(not os.path.exists(at), "a socket was made")
 

@@ -16,7 +16,9 @@ import threading
 import time
 from concurrent import futures
 
-from tests.support.harness import NUTS_OPTIONS, VERSION_SHOWN, Failed, Shimmed, built_without_proof, ended, ensure, expect, play, refusals
+from tests.support.harness import (
+    NUTS_OPTIONS, VERSION_SHOWN, Failed, Shimmed, built_without_proof, ended_in_bytes, ensure, expect, play, refusals,
+)
 from tests.support.model import LINE_MAX
 from tests.support.room import free_port
 from tests.support.server_rows import listed
@@ -284,7 +286,7 @@ class Tests(Shimmed):
         words = [word.replace("AT", self.server.at) if isinstance(word, str) else word for word in arguments]
         self.server.queries = []
         self.server.left.clear()
-        return ended([self.tools[tool], *words], env={**os.environ, **(env or {})}, **streams)
+        return ended_in_bytes([self.tools[tool], *words], env={**os.environ, **(env or {})}, **streams)
 
     def heard(self):
         """Returns the queries of the client that has just left."""
@@ -316,7 +318,7 @@ class Tests(Shimmed):
         """Runs a tool with the server at a place. Returns what it did, as `run` does, and for how many seconds it ran."""
         tool, arguments, at = case
         started = time.monotonic()
-        found = ended([self.tools[tool], *(word.replace("AT", at) for word in arguments)])
+        found = ended_in_bytes([self.tools[tool], *(word.replace("AT", at) for word in arguments)])
         return found, time.monotonic() - started
 
     def test_servers_that_take_too_long(self):

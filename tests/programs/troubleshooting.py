@@ -17,7 +17,7 @@ from concurrent import futures
 
 from tests.support.harness import ROOT, ended, ensure, expect, play
 from tests.support.monitored import FLAG, QUICK, USERS as MONITORS, Closing, Rubbish, Silent, Upstream, Watch
-from tests.support.room import STATUS, Room, heed_modes, play_driver, said, until
+from tests.support.room import Room, heed_modes, play_driver, said, until
 
 PAGE = os.path.join(ROOT, "man", "mulgefa-troubleshooting.7")
 # The greatest size of the page in bytes, and how many symptoms it has at least.
@@ -73,7 +73,7 @@ class Tests:
 
     def run(self, *words, **options):
         """Runs a program, and keeps what it prints."""
-        self.lines += ended(words, stderr=subprocess.STDOUT, text=True, **options)[1].splitlines()
+        self.lines += ended(words, stderr=subprocess.STDOUT, **options)[1].splitlines()
 
     def monitor(self, conf, *words):
         """Runs upsmon with this file until it ends, and keeps what it prints."""

@@ -16,7 +16,7 @@ import threading
 import time
 from concurrent import futures
 
-from tests.support.harness import Failed, Missing, apart, ended, ensure, expect, expect_rest, fewer, needed, play, refusal
+from tests.support.harness import Failed, Missing, apart, ended_in_bytes, ensure, expect, expect_rest, fewer, needed, play, refusal
 from tests.support.room import Client, DEVICE, Lines, NOT_CONNECTED, ONLINE, Room, RoomTests, NO_PINGS, SOON, STATUS, USERS, VERSION
 from tests.support.room import descriptors, first_lines, play_driver, stopped, until
 
@@ -102,7 +102,7 @@ class Reloaded(Room):
         """Has upsd read files again that have this fault, ups.conf with this text. It writes what a start writes, and below that it
         keeps the earlier configuration."""
         self.reload(ups, KEPT)
-        status, out, err = ended(self.command())
+        status, out, err = ended_in_bytes(self.command())
         at_start = err.decode().splitlines()
         expect((status, out, at_start[:1], len(at_start)), (1, b"", [fault], 2), "a start with the same files")
         expect(self.lines.found_last(3), [*at_start, KEPT], "what is told of a fault")
@@ -305,7 +305,7 @@ class Tests(RoomTests):
         with self.room(ups=TWO) as room:
             room.online()
             words = ["timeout", str(int(SOON)), upsc, f"su700@{room.host}:{room.port}"]
-            poller = Poller(lambda variable: ended([*words, variable])[:2], [("ups.status", (0, b"OL\n"))], 0.05)
+            poller = Poller(lambda variable: ended_in_bytes([*words, variable])[:2], [("ups.status", (0, b"OL\n"))], 0.05)
             for turn in range(10):
                 room.reload(TWO if turn % 2 else ONE)
             poller.stop(0)
@@ -545,7 +545,7 @@ class Tests(RoomTests):
         with self.room() as room:
             room.touch()
             for word in ("--stdio", "--check"):
-                expect(ended([room.upsd_program, word, "--conf", room.folder])[0], 0, word)
+                expect(ended_in_bytes([room.upsd_program, word, "--conf", room.folder])[0], 0, word)
             ensure(room.is_asked(), "the file is removed by one who doesn't serve on")
 
     def test_lack_of_memory(self):

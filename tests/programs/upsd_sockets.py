@@ -16,7 +16,9 @@ import sys
 import time
 from concurrent import futures
 
-from tests.support.harness import NUTS_OPTIONS, Missing, apart, built_without_proof, cannot_listen, cannot_read, ended, ensure, expect
+from tests.support.harness import (
+    NUTS_OPTIONS, Missing, apart, built_without_proof, cannot_listen, cannot_read, ended_in_bytes, ensure, expect,
+)
 from tests.support.harness import expect_rest, play
 from tests.support.room import Client, DEVICE, Lines, NOT_CONNECTED, ONLINE, NO_PINGS, RoomTests, SOON, STATUS, VERSION
 from tests.support.room import accepted, connected, family_of, first_lines, free_port, give_address, has_ipv6, heed_modes, play_driver
@@ -183,18 +185,18 @@ class Tests(RoomTests):
             driver, _ = room.online()
             *_, upsrw, upscmd = self.all_programs
             login = ["-u", "admin", "-p", "pw", f"su700@{room.host}:{room.port}"]
-            expect(ended([upsrw, "-w", "-s", "ups.id=new", *login]), (0, b"SUCCESS\n", b""), "upsrw -w")
+            expect(ended_in_bytes([upsrw, "-w", "-s", "ups.id=new", *login]), (0, b"SUCCESS\n", b""), "upsrw -w")
             expect(room.ask(b"GET VAR su700 ups.id\n"), b'VAR su700 ups.id "new"\n', "what upsrw -w set")
-            expect(ended([upscmd, "-w", *login, "load.off", "now"]), (0, b"SUCCESS\n", b""), "upscmd -w")
-            expect(ended([upscmd, *login, "load.off"]), (0, b"OK\n", b""), "upscmd")
+            expect(ended_in_bytes([upscmd, "-w", *login, "load.off", "now"]), (0, b"SUCCESS\n", b""), "upscmd -w")
+            expect(ended_in_bytes([upscmd, *login, "load.off"]), (0, b"OK\n", b""), "upscmd")
             with stopped(driver), futures.ThreadPoolExecutor(1) as pool:
-                found = pool.submit(ended, [upscmd, "-w", *login, "load.on"])
+                found = pool.submit(ended_in_bytes, [upscmd, "-w", *login, "load.on"])
                 # the third that is tracked
                 room.until(b"GET TRACKING 3\n", b"TRACKING 3 PENDING\n")
                 driver.kill()
                 expect(found.result(), (1, b"", b"Error: FAILED\n"), "a driver that is killed")
             refused = (1, b"", b"Error: DRIVER-NOT-CONNECTED\n")
-            expect(ended([upscmd, "-w", *login, "load.on"]), refused, "a request without a driver")
+            expect(ended_in_bytes([upscmd, "-w", *login, "load.on"]), refused, "a request without a driver")
 
     def test_driver_that_says_how_requests_ended(self):
         with self.room() as room, room.driver() as listener:
@@ -259,7 +261,7 @@ class Tests(RoomTests):
             for name in ("su700.dev", "other.dev", "folder", "pipe", *links):
                 path = room.path(name)
                 there = cannot_listen("dummy-ups", path, NOT_A_SOCKET).encode()
-                expect(ended([room.dummy_program, script, path]), (1, b"", there), name)
+                expect(ended_in_bytes([room.dummy_program, script, path]), (1, b"", there), name)
             after = {it.name: it.stat(follow_symlinks=False).st_ino for it in os.scandir(room.folder)}
             expect(after, before, "what lies there")
             for path in (script, other):
@@ -272,7 +274,7 @@ class Tests(RoomTests):
                 with Client(path) as server:
                     expect(server.ask(b"PING\n"), b"PONG\n", f"a driver at the place of {name}")
                     in_use = cannot_listen("dummy-ups", path, IN_USE).encode()
-                    expect(ended([room.dummy_program, other, path]), (1, b"", in_use), "another driver")
+                    expect(ended_in_bytes([room.dummy_program, other, path]), (1, b"", in_use), "another driver")
                     expect((driver.poll(), server.ask(b"PING\n")), (None, b"PONG\n"), "the first driver")
 
     def refuses(self, hosts, missing, error, taken=None):
@@ -282,7 +284,7 @@ class Tests(RoomTests):
             if taken:
                 closing.enter_context(socket.create_server((taken, room.port)))
             put_listeners(room, *hosts)
-            expect(ended(room.command()), without_listener(missing, room.port, error), f"{hosts}, with a program at {taken}")
+            expect(ended_in_bytes(room.command()), without_listener(missing, room.port, error), f"{hosts}, with a program at {taken}")
 
     def test_port_in_use(self):
         """A listener at another address doesn't stand for the one that is in use."""
@@ -293,7 +295,7 @@ class Tests(RoomTests):
         """That everybody can read the passwords comes before the fault."""
         with self.room() as room, socket.create_server(("127.0.0.1", room.port)):
             os.chmod(room.path("upsd.users"), 0o644)
-            status, out, err = ended(room.command())
+            status, out, err = ended_in_bytes(room.command())
             warning, fault, *_ = err.decode().splitlines()
             expect((status, out), (1, b""), "a port in use")
             ensure(warning.startswith("upsd: upsd.users holds passwords"), f"it comes first: {warning}")
@@ -308,7 +310,7 @@ class Tests(RoomTests):
                 upsd = [*words, *room.command()]
                 if taken == addresses[0]:
                     wanted = without_listener(name, room.port, errno.EADDRINUSE)
-                    expect(ended(upsd), wanted, f"{taken} in use, the first of {addresses}")
+                    expect(ended_in_bytes(upsd), wanted, f"{taken} in use, the first of {addresses}")
                 else:
                     wanted = [f"upsd: listening on {shown(addresses[0])}:{room.port}"]
                     expect(first_lines(room.start(upsd), 1), wanted, f"{taken} in use, of {addresses}")
@@ -319,7 +321,7 @@ class Tests(RoomTests):
 
     def test_name_of_two_addresses_in_use(self):
         words = with_hosts(self.folder, b"127.0.0.2 twofold\n127.0.0.3 twofold\n")
-        _, found, _ = ended([*words, "getent", "ahostsv4", "twofold"])
+        _, found, _ = ended_in_bytes([*words, "getent", "ahostsv4", "twofold"])
         addresses = list(dict.fromkeys(line.split()[0] for line in found.decode().splitlines()))
         expect(sorted(addresses), ["127.0.0.2", "127.0.0.3"], "the addresses of the name")
         self.each_in_use("twofold", addresses, words)
@@ -338,7 +340,7 @@ class Tests(RoomTests):
     def play_inside(self, name):
         """Plays a test of `Inside` in a network of its own."""
         inside = [sys.executable, "-m", "tests.programs.upsd_sockets", "--inside", name, self.folder, *self.all_programs]
-        status, out, err = ended([*apart("--net"), *inside])
+        status, out, err = ended_in_bytes([*apart("--net"), *inside])
         ensure(status == 0, (out + err).decode().strip())
 
     def test_address_that_comes_late(self):
@@ -354,7 +356,7 @@ class Tests(RoomTests):
             words = with_hosts(room.folder)
             upsd = [*words, *room.command("-q")]
             put_listeners(room, "late.example", "192.0.2.1")
-            expect(ended(upsd), without_listener("late.example", room.port, unknown), "no address at all")
+            expect(ended_in_bytes(upsd), without_listener("late.example", room.port, unknown), "no address at all")
             put_listeners(room, "late.example", "127.0.0.1")
             lines = Lines(room.start(upsd))
             told = f"upsd: cannot listen on late.example:{room.port} yet: {unknown}"
@@ -402,7 +404,7 @@ class Tests(RoomTests):
     def test_listeners_of_ipv6_alone(self):
         """This program plays the test again in a network of its own, where a socket of IPv6 takes no clients of IPv4."""
         needs_ipv6()
-        status, _, err = ended([*apart("--net"), "sh", "-c", f"echo 1 >{ONLY_IPV6}"])
+        status, _, err = ended_in_bytes([*apart("--net"), "sh", "-c", f"echo 1 >{ONLY_IPV6}"])
         if status:
             raise Missing(f"the network can't be set up: {err.decode().strip()}")
         self.play_inside("play_ipv6_alone")
@@ -598,10 +600,10 @@ class Tests(RoomTests):
             [upsd, "--stdio", "-q"], [upsd, *conf, *sockets, "--ups", "a=b"], [upsd, *sockets, "--ups", "a=b"],
             [upsd, *conf, *sockets, "-c", "reload"], [dummy], [dummy, "a.dev"], [dummy, "a.dev", "b", "c"],
         ):
-            status, out, err = ended(words)
+            status, out, err = ended_in_bytes(words)
             expect((status, out, err != b""), (2, b"", True), f"{words}")
         for program, word in ((upsd, b"SOCKDIR"), (dummy, b"SOCKET")):
-            status, out, err = ended([program, "--help"])
+            status, out, err = ended_in_bytes([program, "--help"])
             expect((status, word in out, err), (0, True, b""), "help")
 
     def test_options_of_nut(self):
@@ -629,7 +631,7 @@ class Tests(RoomTests):
             (dummy, ["-k", "-a", "su700"], "-k is not supported: use upscmd NAME load.off"),
             (dummy, ["-q"], None),
         ):
-            status, out, err = ended([program, *words])
+            status, out, err = ended_in_bytes([program, *words])
             name = "upsd" if program == upsd else "dummy-ups"
             said = f"{name}: {way}\n" if way else ""
             expect((status, out), (2, b""), f"{name} {words}")
@@ -674,7 +676,7 @@ class Tests(RoomTests):
                 with open(path, "wb") as file:
                     file.write(text)
             between = ":" if said[0].isdigit() else ": "
-            found = ended([dummy, path, at])
+            found = ended_in_bytes([dummy, path, at])
             told = f"dummy-ups: {path}{between}{said}\n"
             if said == "cannot read":
                 told = cannot_read("dummy-ups", path, path, errno.ENOENT)
@@ -691,7 +693,7 @@ class Tests(RoomTests):
             ("x" * 200, "path must be shorter than SUN_LEN"),
             ("", "invalid input parameter"),
         ):
-            found = ended([dummy, path, at])
+            found = ended_in_bytes([dummy, path, at])
             expect(found, (1, b"", cannot_listen("dummy-ups", at, cause).encode()), f"socket {at!r}")
 
     def test_dummy_and_its_servers(self):

@@ -14,7 +14,7 @@ import subprocess
 import sys
 
 from tests.programs.files import faults_of_each_kind
-from tests.support.harness import Failed, Missing, ROOT, Shimmed, VERSION_SHOWN, cannot_read, children_time, ended, ensure, expect
+from tests.support.harness import Failed, Missing, ROOT, Shimmed, VERSION_SHOWN, cannot_read, children_time, ended_in_bytes, ensure, expect
 from tests.support.harness import needs_proved_build, play, refusal, refusals, unread
 from tests.support.room import VERSION, until
 
@@ -70,7 +70,7 @@ class Tests(Shimmed):
     def run(self, args, data=b"", env=None, **streams):
         if "stdin" not in streams:
             streams["input"] = data
-        return ended([self.upsd, *args], env={**os.environ, **(env or {})}, **streams)
+        return ended_in_bytes([self.upsd, *args], env={**os.environ, **(env or {})}, **streams)
 
     def expect_usage(self, args, data=b""):
         """Expects that these words are refused. Returns what is said of them."""

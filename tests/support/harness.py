@@ -51,12 +51,18 @@ def write(path, data, mode=None):
     return path
 
 
-def ended(words, **options):
+def ended_in_bytes(words, **options):
     """Runs a program to its end, without input and for at most a minute if the options don't say otherwise. Returns its status, and
-    what it wrote to both streams as text."""
+    what it wrote to standard output and to standard error."""
     streams = {"stdout": subprocess.PIPE, "stderr": subprocess.PIPE, **({} if "input" in options else {"stdin": subprocess.DEVNULL})}
     done = subprocess.run(words, **{**streams, "timeout": 60, **options})
-    return done.returncode, *((it or b"").decode(errors="replace") for it in (done.stdout, done.stderr))
+    return done.returncode, done.stdout, done.stderr
+
+
+def ended(words, **options):
+    """Does the same as `ended_in_bytes`, and returns what the program wrote as text."""
+    status, *written = ended_in_bytes(words, **options)
+    return status, *((it or b"").decode(errors="replace") for it in written)
 
 
 def processor_time(pid):
@@ -71,15 +77,6 @@ def expect_rest(process, seconds, most, what):
     time.sleep(seconds)
     used = processor_time(process.pid) - used
     ensure(used <= patience(most), f"{used:.2f} s of processor time are used: {what}")
-
-
-def ended(words, **options):
-    """Runs a program to its end. Returns its status, and what it writes to standard output and to standard error."""
-    streams = {"stdout": subprocess.PIPE, "stderr": subprocess.PIPE, "timeout": 60}
-    if "input" not in options:
-        streams["stdin"] = subprocess.DEVNULL
-    done = subprocess.run(words, **{**streams, **options})
-    return done.returncode, done.stdout, done.stderr
 
 
 def children_time():
