@@ -351,11 +351,11 @@ def texts_of_numbers(page):
 
 
 def faults_of_each_kind():
-    """Yields for each file of upsd a text with a fault of each kind, as its file, its text and the two lines that are said of it."""
+    """Yields for each file of upsd the shortest text with a fault of each kind, as its file, its text and what is said of it."""
     for name, rows in FILES.items():
-        kinds = {row[1].split(": ")[1]: row for row in reversed(rows) if len(row) == 3}
-        if name != "upsmon.conf":
-            yield from ((name, *row) for row in kinds.values())
+        longest_first = sorted((row for row in rows if len(row) == 3), key=lambda row: -len(row[0]))
+        kinds = {row[1].split(": ")[1]: row for row in longest_first if name != "upsmon.conf"}
+        yield from ((name, *row) for row in kinds.values())
 
 
 class Tests:

@@ -387,13 +387,7 @@ class Tests(RoomTests):
         with self.room(conf=b"MAXAGE 6\n") as room, room.driver() as listener:
             upsd = self.hastened(room, 20)
             with accepted(listener) as driver, room.client() as client:
-
-                def is_heard():
-                    # what it told stays fresh for a third of a second only
-                    driver.sendall(b'SETINFO ups.status "OL"\nDATAOK\nDUMPDONE\n')
-                    return client.ask(STATUS) == ONLINE
-
-                until(is_heard, "the driver is heard")
+                room.until_heard(driver)
                 with stopped(upsd):
                     client.send(STATUS)
                     driver.sendall(b'SETINFO ups.status "OB"\n')

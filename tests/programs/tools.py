@@ -302,17 +302,17 @@ class Tests(Shimmed):
                 expect(self.heard(), queries, f"the queries of {what}")
 
     def test_requests_that_take_time(self):
+        """A tool asks once a second, and eleven times at most."""
         self.server.whole()
-        request, question = b"INSTCMD su700 takes.time", b"GET TRACKING 999999999"
-        started = time.monotonic()
-        expect(self.run("upscmd", ["-w", *ADMIN, "su700@AT", "takes.time"]), (0, b"SUCCESS\n", b""), "a request that ends")
-        expect(self.heard(), [*TRACKED, request, *[question] * 3], "what it asks")
-        expect(2 <= time.monotonic() - started < 5, True, "it pauses for a second twice")
-        started = time.monotonic()
-        found = self.run("upscmd", ["-w", *ADMIN, "su700@AT", "never.ends"])
-        expect(found, (1, b"", b"Error: PENDING\n"), "a request that doesn't end")
-        expect(self.heard(), [*TRACKED, b"INSTCMD su700 never.ends", *[b"GET TRACKING 6"] * 11], "what it asks")
-        expect(10 <= time.monotonic() - started < 15, True, "it stays for ten seconds")
+        for command, question, asked, end, least, most in (
+            ("takes.time", b"GET TRACKING 999999999", 3, (0, b"SUCCESS\n", b""), 2, 5),
+            ("never.ends", b"GET TRACKING 6", 11, (1, b"", b"Error: PENDING\n"), 10, 15),
+        ):
+            started = time.monotonic()
+            expect(self.run("upscmd", ["-w", *ADMIN, "su700@AT", command]), end, command)
+            expect(self.heard(), [*TRACKED, b"INSTCMD su700 " + command.encode(), *[question] * asked], f"what {command} asks")
+            took = time.monotonic() - started
+            ensure(least <= took < most, f"{command} took {took:.1f} s")
 
     def timed(self, case):
         """Runs a tool with the server at a place. Returns what it did, as `run` does, and for how many seconds it ran."""

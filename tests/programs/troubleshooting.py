@@ -107,11 +107,8 @@ class Tests:
             driver = room.listener("dummy-ups-mute")
             at = f"@127.0.0.1:{room.port}"
             mute = play_driver(driver, b'SETINFO ups.status "OL"', b'SETINFO ups.id "a"b"')
-            self.run(self.upsc, f"dead{at}")
-            self.run(self.upsc, f"nope{at}")
-            self.run(self.upsc, f"su700{at}", "no.var")
-            self.run(self.upsc, "su700@[::1]")
-            self.run(self.upsc, "su700@127.0.0.1:1")
+            for words in ([f"dead{at}"], [f"nope{at}"], [f"su700{at}", "no.var"], ["su700@[::1]"], ["su700@127.0.0.1:1"]):
+                self.run(self.upsc, *words)
             for user, password in (("admin", "bad"), ("nobody", "bad")):
                 self.run(self.upsrw, "-s", "ups.id=y", "-u", user, "-p", password, f"su700{at}")
                 time.sleep(1.1)
@@ -200,21 +197,21 @@ class Tests:
 
     def shutdowns(self):
         """Machines that shut down, each for another reason."""
+        primary = "MONITOR {} 1 mon m1 primary\n" + QUICK
         with Upstream(status=b"FSD OL") as server:
             server.logins = 3
-            with self.watching(f"MONITOR {server.target} 1 mon m1 primary\nSHUTDOWNCMD \"exit 3\"\n{QUICK}") as watch:
+            with self.watching(primary.format(server.target) + 'SHUTDOWNCMD "exit 3"\n') as watch:
                 watch.status(20)
-        with Refusing(status=b"OB LB") as server:
-            with self.watching(f"MONITOR {server.target} 1 mon m1 primary\nSHUTDOWNCMD true\n{QUICK}") as watch:
-                watch.status(20)
+        with Refusing(status=b"OB LB") as server, self.watching(primary.format(server.target) + "SHUTDOWNCMD true\n") as watch:
+            watch.status(20)
         with Upstream(status=b"OB") as server:
-            with self.watching(f"MONITOR {server.target} 1 mon m1 primary\nSHUTDOWNCMD true\nDEADTIME 3\n{QUICK}") as watch:
+            with self.watching(primary.format(server.target) + "SHUTDOWNCMD true\nDEADTIME 3\n") as watch:
                 until(lambda: server.told, "the status is asked for")
                 reload(watch, "RBWARNTIME 100\n")
                 until(lambda: b"not reloaded yet" in watch.read("err"), "a reload waits")
                 server.close()
                 watch.status(30)
-        with Upstream() as server, self.watching(f"MONITOR {server.target} 1 mon m1 primary\n{QUICK}") as watch:
+        with Upstream() as server, self.watching(primary.format(server.target)) as watch:
             until(lambda: server.told, "the status is asked for")
             reload(watch, "FAULTY\n")
             until(lambda: b"stays in force" in watch.read("err"), "a reload fails")

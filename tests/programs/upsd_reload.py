@@ -9,6 +9,7 @@ import contextlib
 import errno
 import os
 import re
+import select
 import shutil
 import sys
 import tempfile
@@ -16,7 +17,7 @@ import threading
 import time
 from concurrent import futures
 
-from tests.support.harness import Failed, Missing, apart, ended_in_bytes, ensure, expect, expect_rest, fewer, needed, play, refusal
+from tests.support.harness import Missing, apart, ended_in_bytes, ensure, expect, expect_rest, fewer, needed, play, refusal
 from tests.support.room import Client, DEVICE, Lines, NOT_CONNECTED, ONLINE, Room, RoomTests, NO_PINGS, SOON, STATUS, USERS, VERSION
 from tests.support.room import descriptors, first_lines, play_driver, stopped, until
 
@@ -163,16 +164,6 @@ class Tests(RoomTests):
                 expect(room.upses(), ["su700", "old"], "in the order of the file")
                 expect(second.ask(b"GET NUMLOGINS su700\n"), b"NUMLOGINS su700 1\n", "the login still stays")
 
-    def test_forced_shutdown_stays(self):
-        with self.room(ups=TWO) as room:
-            room.online()
-            with room.logged_in() as client:
-                expect(client.ask(b"FSD su700\n"), b"OK FSD-SET\n", "FSD")
-                forced = client.ask(STATUS)
-                ensure(b"FSD" in forced, f"the status after FSD is {forced!r}")
-                room.reload(b"[old]\n" + ONE, ORDER)
-                expect(client.ask(STATUS), forced, "the status after a reload")
-
     def test_order_of_upses(self):
         """It is said if those that stay are in another order. One that comes or goes between them changes nothing of theirs."""
         with self.room(ups=TWO) as room:
@@ -188,20 +179,19 @@ class Tests(RoomTests):
                 room.reload(b"".join(ONE if name == "su700" else b"[%s]\n" % name.encode() for name in names), said)
                 expect(room.upses(), names, said)
 
-    def test_same_link_to_a_driver_that_stays(self):
+    def test_driver_and_forced_shutdown_of_a_ups_that_stays(self):
+        """The link to its driver stays the same, and the shutdown forced."""
         with self.room(ups=TWO, conf=NO_PINGS) as room, room.driver() as listener:
             room.serve()
-            with play_driver(listener, ON_LINE) as link:
+            with play_driver(listener, ON_LINE) as link, room.logged_in() as client:
                 room.until(STATUS, ONLINE)
+                expect(client.ask(b"FSD su700\n"), b"OK FSD-SET\n", "FSD")
                 room.reload(b"[new]\n[su700]\ndesc = x\n", "upsd: reloaded: UPS new added, UPS old removed, UPS su700: description")
+                expect(client.ask(STATUS), b'VAR su700 ups.status "FSD OL"\n', "the status after a reload")
                 link.sendall(b'SETINFO ups.status "OB"\n')
-                room.until(STATUS, b'VAR su700 ups.status "OB"\n')
-                listener.settimeout(LOOKS)
-                try:
-                    listener.accept()
-                except TimeoutError:
-                    return
-                raise Failed("a driver that stays is dialled again")
+                room.until(STATUS, b'VAR su700 ups.status "FSD OB"\n')
+                dialled, _, _ = select.select([listener], [], [], LOOKS)
+                expect(dialled, [], "a driver that stays, and is dialled again")
 
     def test_other_driver(self):
         with self.room(ups=ONE, conf=NO_PINGS) as room, room.driver() as listener, room.listener("other-su700") as other:

@@ -533,13 +533,7 @@ class Tests(RoomTests):
         with self.room(conf=b"MAXAGE 2\n") as room, room.driver() as listener:
             lines = room.serve()
             with accepted(listener) as driver:
-
-                def is_heard():
-                    # what it told stays fresh for two seconds only
-                    driver.sendall(b'SETINFO ups.status "OL"\nDATAOK\nDUMPDONE\n')
-                    return room.ask(STATUS) == ONLINE
-
-                until(is_heard, "the driver is heard")
+                room.until_heard(driver)
                 # the driver says so
                 driver.sendall(b"DATASTALE\n")
                 lines.next(stale)
@@ -660,41 +654,30 @@ class Tests(RoomTests):
                     expect(room.ask(asked), answer, f"{asked} with {descriptions}")
 
     def test_faults_of_scripts(self):
-        dummy = self.programs[1]
-        at = os.path.join(self.folder, "a-socket")
-        for name, text, said in (
-            ("a.txt", None, "unknown kind"),
-            ("a", b"", "unknown kind"),
-            ("a.dev", None, "cannot read"),
-            ("a.dev", b"TIMER 5\n", "1: TimerInDev"),
-            ("a.dev", b"a: b\n\na b: c\n", "3: BadName"),
-            ("a.seq", b"a: b\n", "0: NoTimer"),
-            ("a.seq", b"a: b\nTIMER 0\n", "2: BadTimer"),
-        ):
-            path = os.path.join(self.folder, name)
-            if text is not None:
-                with open(path, "wb") as file:
-                    file.write(text)
-            between = ":" if said[0].isdigit() else ": "
-            found = ended_in_bytes([dummy, path, at])
-            told = f"dummy-ups: {path}{between}{said}\n"
-            if said == "cannot read":
-                told = cannot_read("dummy-ups", path, path, errno.ENOENT)
-            expect(found, (1, b"", told.encode()), f"{name}: {text}")
-            if text is not None:
-                os.remove(path)
-        expect(os.path.exists(at), False, "no socket was made")
-        path = os.path.join(self.folder, "b.dev")
-        with open(path, "wb") as file:
-            file.write(DEVICE)
-        for at, cause in (
-            (self.folder, NOT_A_SOCKET),
-            (os.path.join(self.folder, "none", "at"), errno.ENOENT),
-            ("x" * 200, "path must be shorter than SUN_LEN"),
-            ("", "invalid input parameter"),
-        ):
-            found = ended_in_bytes([dummy, path, at])
-            expect(found, (1, b"", cannot_listen("dummy-ups", at, cause).encode()), f"socket {at!r}")
+        with self.room() as room:
+            for name, text, told in (
+                ("none.txt", None, "dummy-ups: FILE: unknown kind\n"),
+                ("a", b"", "dummy-ups: FILE: unknown kind\n"),
+                ("none.dev", None, cannot_read("dummy-ups", "FILE", "FILE", errno.ENOENT)),
+                ("a.dev", b"TIMER 5\n", "dummy-ups: FILE:1: TimerInDev\n"),
+                ("a.dev", b"a: b\n\na b: c\n", "dummy-ups: FILE:3: BadName\n"),
+                ("a.seq", b"a: b\n", "dummy-ups: FILE:0: NoTimer\n"),
+                ("a.seq", b"a: b\nTIMER 0\n", "dummy-ups: FILE:2: BadTimer\n"),
+            ):
+                if text is not None:
+                    room.write(name, text)
+                found = ended_in_bytes([room.dummy_program, room.path(name), room.path("socket")])
+                expect(found, (1, b"", told.replace("FILE", room.path(name)).encode()), f"{name}: {text}")
+            ensure(not os.path.exists(room.path("socket")), "no socket is made")
+            room.write("b.dev", DEVICE)
+            for at, cause in (
+                (room.folder, NOT_A_SOCKET),
+                (room.path("none/at"), errno.ENOENT),
+                ("x" * 200, "path must be shorter than SUN_LEN"),
+                ("", "invalid input parameter"),
+            ):
+                found = ended_in_bytes([room.dummy_program, room.path("b.dev"), at])
+                expect(found, (1, b"", cannot_listen("dummy-ups", at, cause).encode()), f"socket {at!r}")
 
     def test_dummy_and_its_servers(self):
         with self.room() as room:

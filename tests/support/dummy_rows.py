@@ -1,5 +1,7 @@
 """Worked scenes of a dummy driver: a script, the calls of the driver, what it tells after each, and which values change."""
 
+import functools
+
 from tests.support.server_rows import listed
 
 # what is told of a writable variable behind its value
@@ -38,16 +40,7 @@ class Step:
         self.changes = {name.replace("_", "."): value for name, value in changes.items()}
 
 
-def link():
-    return Step("link")
-
-
-def moment(at, tells="", **changes):
-    return Step("moment", at, tells, **changes)
-
-
-def says(piece, tells="", **changes):
-    return Step("bytes", piece, tells, **changes)
+link, moment, says = (functools.partial(Step, verb) for verb in ("link", "moment", "bytes"))
 
 
 class Scene:

@@ -399,6 +399,16 @@ class Room:
         with self.client() as client:
             until(lambda: client.ask(request) == wanted, f"{request!r} gives {wanted!r}", within)
 
+    def until_heard(self, driver):
+        """Has a driver that the test plays tell that the UPS is on line, until upsd shows it: data may become stale soon."""
+
+        def is_heard(client):
+            driver.sendall(b'SETINFO ups.status "OL"\nDATAOK\nDUMPDONE\n')
+            return client.ask(STATUS) == ONLINE
+
+        with self.client() as client:
+            until(lambda: is_heard(client), "a driver is heard")
+
     def listener(self, name):
         """Returns a listener at the socket of a driver."""
         listener = socket.socket(socket.AF_UNIX, socket.SOCK_STREAM)
