@@ -11,7 +11,7 @@ import sys
 
 from tests.support.harness import Missing, apart, ended_in_bytes, ensure, expect, play
 from tests.peers.server import NutRoom, needed
-from tests.support.room import ONLINE, RoomTests, STATUS, until
+from tests.support.room import ONLINE, RoomTests, STATUS, USERS as ROOM_USERS, until
 
 # Debian's module is for Debian's Python.
 PYTHON = "/usr/bin/python3"
@@ -64,8 +64,7 @@ class ClientRoom(NutRoom):
 
     def __init__(self, *words):
         super().__init__(*words)
-        with open(self.path("upsd.users"), "ab") as file:
-            file.write(USERS)
+        self.write("upsd.users", ROOM_USERS + USERS)
 
     def begin(self):
         """Starts a driver of a UPS that is on line, and the server."""

@@ -200,11 +200,8 @@ class Server:
             client, _ = self.listener.accept()
             client.setsockopt(socket.IPPROTO_TCP, socket.TCP_NODELAY, 1)
             self.queries = []
-            try:
+            with client, contextlib.suppress(OSError):
                 self.answer(client)
-            except OSError:
-                pass
-            client.close()
             self.left.set()
 
     def answer(self, client):
@@ -230,8 +227,7 @@ class Teller:
     and leaves each connection open."""
 
     def __init__(self, pieces, pause=0):
-        self.pieces = pieces
-        self.pause = pause
+        self.pieces, self.pause = pieces, pause
         self.clients = []
         self.listener = socket.create_server(("127.0.0.1", 0))
         self.at = "127.0.0.1:%d" % self.listener.getsockname()[1]
@@ -437,10 +433,6 @@ class Tests(Shimmed):
             found = self.run("upsc", ["stale@AT"], preexec_fn=lambda closed=closed: [os.close(it) for it in closed])
             expect((found, self.heard()), ((1, b"", b""), [b"LIST VAR stale"]), f"a refusal without the streams {closed}")
 
-    def test_words_that_are_no_text(self):
-        for tool in ("upsc", "upsrw", "upscmd"):
-            expect(self.run(tool, [b"su700\xff"]), (2, b"", b"Error: bad arguments\n"), f"{tool} with a word that is no text")
-
     def test_passwords_of_standard_input(self):
         """`-p -` is a line of standard input, however it is written and whatever the password begins with."""
         self.server.whole()
@@ -492,6 +484,7 @@ class Tests(Shimmed):
             expect(self.run(tool, [option, "su700@AT"]), (2, b"", self.refused(tool, option)), f"{tool} {option}")
         expect(self.run("upsc", ["su700@AT", "a", "b"]), (2, b"", self.refused("upsc", "b")), "a word more")
         for tool in ("upsc", "upsrw", "upscmd"):
+            expect(self.run(tool, [b"su700\xff"]), (2, b"", b"Error: bad arguments\n"), f"{tool} with a word that is no text")
             expect(self.run(tool, ["--version"]), (0, f"{tool} {VERSION_SHOWN}\n".encode(), b""), f"{tool} --version")
             status, output, text = self.run(tool, ["--help"])
             expect((status, tool.encode() in output, text), (0, True, b""), f"{tool} --help")

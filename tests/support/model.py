@@ -482,11 +482,9 @@ class Server(Forms):
         self.now = max(self.now, at)
         pause = self.config.max_age // 3
         for ups in self.upses:
-            if not ups.is_connected or self.now - ups.last_heard <= pause:
-                continue
-            if ups.last_ping is not None and self.now - ups.last_ping <= pause:
-                continue
-            if ups.ask(b"PING\n"):
+            is_silent = ups.is_connected and self.now - ups.last_heard > pause
+            is_due = ups.last_ping is None or self.now - ups.last_ping > pause
+            if is_silent and is_due and ups.ask(b"PING\n"):
                 ups.last_ping = self.now
 
     def open(self, address):

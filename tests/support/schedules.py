@@ -121,11 +121,9 @@ class ScheduleMaker:
         self.random = random.Random(seed)
         self.player = Player(config)
         self.server = self.player.model
-        self.forced = forced
-        self.others = others
+        self.forced, self.others = forced, others
         # what connections and drivers have still to send
-        self.said = {}
-        self.told = {}
+        self.said, self.told = {}, {}
         self.may_set = False
 
     @property

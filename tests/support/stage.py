@@ -17,8 +17,7 @@ class Stage(Shimmed):
     """The program, and the library that makes its calls fail."""
 
     def __init__(self, program, folder):
-        self.program = program
-        self.folder = folder
+        self.program, self.folder = program, folder
 
     def run(self, steps, env=None):
         """Plays steps, each a tuple of a verb and its words. Returns the status, the output, and what is written about a
