@@ -411,4 +411,4 @@ class Tests:
 
 
 if __name__ == "__main__":
-    sys.exit(play(Tests, 2, at_once=4))
+    sys.exit(play(Tests, 2))
