@@ -63,7 +63,9 @@ class Halter(Watch):
 
     def shell(self):
         """Returns the shell that waits, once there is only one."""
-        return until(lambda: len(children_of(self.process.pid)) == 1 and children_of(self.process.pid), "a shell waits")[0]
+        # until it is one, upsmon waits for it, which a stopped one would make it do for ever
+        children = lambda: children_of(self.process.pid)
+        return until(lambda: [name_of(it) for it in children()] == ["sh"] and children(), "a shell waits")[0]
 
 
 class Watcher(Watch):
