@@ -33,15 +33,31 @@ TOLD = [
 ]
 
 
+def page(*names):
+    with open(os.path.join(ROOT, *names)) as file:
+        return file.read()
+
+
 def shown(section, block):
     """Returns one of the blocks of code that a section of docs/from-nut.md has."""
-    with open(os.path.join(ROOT, "docs", "from-nut.md")) as file:
-        text = re.search(rf"^## {section}\n(.*?)^## ", file.read(), re.MULTILINE | re.DOTALL)[1]
+    text = re.search(rf"^## {section}\n(.*?)^## ", page("docs", "from-nut.md"), re.MULTILINE | re.DOTALL)[1]
     return re.findall(r"^```\n(.*?)^```", text, re.MULTILINE | re.DOTALL)[block]
 
 
 def shown_commands(section, block):
     return shown(section, block).splitlines()
+
+
+def archive_commands(block):
+    """Returns the commands of one of the blocks that the README of the archive has."""
+    return re.findall(r"^```sh\n(.*?)^```", page("packaging", "archive.md"), re.MULTILINE | re.DOTALL)[block].splitlines()
+
+
+def install_steps():
+    """Returns what stands as code in each numbered step of the README's "Install"; root needs no sudo."""
+    text = page("README.md").partition("\n## Install\n")[2].partition("\n## ")[0]
+    numbered = re.findall(r"^(\d)\. (.*)$", text, re.MULTILINE)
+    return {int(number): [it.removeprefix("sudo ") for it in re.findall("`(.*?)`", step)] for number, step in numbered}
 
 
 class Tests:
@@ -238,6 +254,118 @@ class Tests:
         finally:
             machine.stop()
 
+    def fresh(self, name, *wanted):
+        """Makes a Debian without NUT, with these packages of Debian, and with this project's packages and archive."""
+        root = fresh_root(os.path.join(self.packages.folder, name), self.saved)
+        root.write("/etc/apt/apt.conf.d/90test", 'APT::Get::Assume-Yes "true";\nAPT::Install-Recommends "false";\n', 0o644)
+        root.write("/etc/hosts", "127.0.0.1 localhost\n", 0o644)
+        status, said = root.run(f"apt-get update && apt-get install {' '.join(wanted)}")
+        if status != 0:
+            raise Missing(f"Debian's packages can't be had: {said.splitlines()[-1:]}")
+        os.mkdir(root.path("/root/dist"))
+        for path in (*self.packages.made("deb").values(), *self.packages.made("tar").values()):
+            shutil.copy(path, root.path("/root/dist"))
+        return root.folder
+
+    def test_install_steps(self):
+        """Each command of the README's "Install", as it stands there, leads to a machine that goes off once its battery is low."""
+        machine = Booted(self.fresh("steps", "nftables", "iproute2"))
+        try:
+            steps = install_steps()
+            machine.do(next(it for it in steps[3] if it.startswith("apt-get ")))
+            enable, show = steps[4]
+            machine.do(enable)
+            mains, script, low, dummy, journal = steps[5]
+            ensure(mains in machine.do(show).splitlines(), f"the variables have {mains}")
+            self.firewall_passes_the_port_to_some(machine)
+
+            text = machine.read(script)
+            ensure(mains in text, f"{script}: {text}")
+            machine.do(f"sed -i 's/^{mains}$/ups.status: {low}/' {script} && systemctl restart {dummy}")
+            machine.wait_for(f"{journal} -o cat | grep -c '^upsmon would stop this machine now$'", "1", 60)
+            machine.do(f"sed -i 's/^ups.status: {low}$/{mains}/' {script} && systemctl restart {dummy}")
+            expect(machine.read(script), text, "the line is changed back")
+            machine.wait_for(show + " ups.status 2> /dev/null", "FSD OL")
+            machine.do(f"systemctl restart {steps[6][0]}")
+
+            ask, status, directive, conf, restart, flag = steps[7][1:]
+            machine.wait_for(ask + " 2> /dev/null", status)
+            ensure(os.path.exists(machine.path(flag)) or machine.run(f"ls {flag}")[0] == 0, f"the rehearsal leaves {flag}")
+            machine.do(f"sed -i 's|^SHUTDOWNCMD .*|{directive}|' {conf} && {restart}")
+            ensure(machine.run(f"ls {flag}")[0] != 0, f"the restart removes {flag}")
+            machine.do(f"sed -i 's/^{mains}$/ups.status: {low}/' {script} && systemctl restart {dummy}")
+            machine.process.wait(60)
+        finally:
+            machine.stop()
+
+    def firewall_passes_the_port_to_some(self, machine):
+        """The table that upsd.conf(5) shows keeps strangers out, and lets this machine in, and the other ports."""
+        blocks = re.findall(r"^\.EX\n(.*?)^\.EE", page("man", "upsd.conf.5"), re.MULTILINE | re.DOTALL)
+        machine.do(f"cat >> /etc/nftables.conf << 'END'\n{blocks[0]}END\n{blocks[1]}")
+        before = machine.read("/etc/nut/upsd.conf")
+        machine.write("/etc/nut/upsd.conf", "LISTEN 0.0.0.0\nLISTEN 0.0.0.0 3494\n")
+        machine.do("chgrp nut /etc/nut/upsd.conf && systemctl restart mulgefa-upsd")
+        machine.do("ip netns add far && ip link add near type veth peer name far netns far")
+        machine.do("ip addr add 192.0.2.17/24 dev near && ip link set near up")
+        connects = "timeout 3 bash -c '< /dev/tcp/192.0.2.17/{}' 2> /dev/null"
+        expect(machine.run(connects.format(3493))[0], 0, "this machine connects")
+        for address, port, is_passed in (("192.0.2.14", 3493, True), ("192.0.2.99", 3493, False), ("192.0.2.99", 3494, True)):
+            machine.do(f"ip -n far addr flush dev far && ip -n far addr add {address}/24 dev far && ip -n far link set far up")
+            status, _ = machine.run("ip netns exec far " + connects.format(port))
+            expect(status == 0, is_passed, f"{address} connects to {port}")
+        machine.write("/etc/nut/upsd.conf", before)
+        machine.do("chgrp nut /etc/nut/upsd.conf && systemctl restart mulgefa-upsd")
+        machine.wait_for("upsc -c su700 2> /dev/null", "127.0.0.1")
+
+    def test_archive_is_installed(self):
+        """What the README of the archive shows, as it stands there, and the way back."""
+        machine = Booted(self.fresh("unpacked"))
+        try:
+            machine.do("tar -xf dist/mulgefa-*.tar.gz")
+            for command in archive_commands(0):
+                machine.do(f"cd mulgefa-*/ && {command}")
+            machine.wait_for("upsc su700 ups.status 2> /dev/null", "OL")
+            machine.wait_for("upsc -c su700 2> /dev/null", "127.0.0.1")
+            modes = machine.do("stat -c '%U %G %a' /etc/nut /etc/nut/upsd.users /etc/nut/upsmon.conf")
+            expect(modes, "root nut 750\nroot nut 640\nroot root 600\n", "who reads the files")
+            for command in archive_commands(1):
+                machine.do(f"cd mulgefa-*/ && {command}")
+            left = machine.do("find / -xdev -name '*mulgefa*' -not -path '/root/*' -not -path '/proc/*' -not -path '/sys/*'")
+            expect(left, "", "what is left")
+            expect(len(os.listdir(machine.path("/etc/nut"))), 5, "the files of the configuration")
+        finally:
+            machine.stop()
+
+    def test_nuts_packages_stay(self):
+        """The second way of docs/from-nut.md to keep NUT's drivers: an upgrade of NUT's packages and a boot start neither its server nor its
+        monitor, and there is a way back. The driver is NUT's dummy-ups under another name."""
+        folder = self.nut_installed("stay")
+        root = Root(folder)
+        root.do("dpkg-divert --local --rename --add /lib/nut/usbhid-ups && cp /lib/nut/dummy-ups /lib/nut/usbhid-ups")
+        root.write("/etc/nut/ups.conf", root.read("/etc/nut/ups.conf").replace("driver = dummy-ups", "driver = usbhid-ups\n  pollinterval = 1"))
+        machine = Booted(folder)
+        try:
+            self.nut_serves(machine)
+            for command in shown_commands("Drivers", 1):
+                # the files have lines of drivers, which stay
+                status, said = machine.run(command)
+                ensure(status == 0 or command.endswith("mulgefa-check -i"), f"{command}: {said}")
+            machine.wait_for("upsc su700 ups.status 2> /dev/null", "OL")
+            runs = "systemctl is-active mulgefa-upsd mulgefa-upsmon nut-driver@su700 nut-server nut-monitor || true"
+            for change in (lambda: machine.do("apt-get install --reinstall nut-server nut-client"), machine.restart):
+                change()
+                machine.wait_for("upsc su700 ups.status 2> /dev/null", "OL", 60)
+                machine.wait_for("upsc -c su700 2> /dev/null", "127.0.0.1")
+                expect(machine.do(runs), "active\n" * 3 + "inactive\n" * 2, "what runs")
+            ensure("2.8.0" not in self.version(machine), "this project's server answers")
+            for command in archive_commands(1) + archive_commands(2):
+                machine.do(f"cd mulgefa-*/ && {command.replace('mulgefa-dummy-ups@su700 ', '')}")
+            self.nut_serves(machine)
+            machine.restart()
+            self.nut_serves(machine)
+        finally:
+            machine.stop()
+
     def test_tutorial(self):
         """Each command of docs/tutorial.md in its order, on a machine that has no UPS software, shows what the page says. The UPS is a
         file that NUT's dummy-ups plays under the name usbhid-ups."""
@@ -263,9 +391,8 @@ class Tests:
             machine.stop()
 
     def follow_the_tutorial(self, machine):
-        with open(os.path.join(ROOT, "docs", "tutorial.md")) as file:
-            page = file.read().partition("\n## A UPS with SNMP")[0]
-        for number, step in enumerate(page.split("\n## ")):
+        text = page("docs", "tutorial.md").partition("\n## A UPS with SNMP")[0]
+        for number, step in enumerate(text.split("\n## ")):
             if number == 3:
                 machine.write("/etc/nut/auto", "battery.charge: 100\nbattery.runtime.low: 120\nups.status: OL\n")
                 machine.do("chgrp nut /etc/nut/auto")

@@ -44,7 +44,7 @@ class Root:
     def __init__(self, folder):
         self.folder = folder
         # a shell outside may name folders that don't exist here
-        self.env = {"PATH": "/usr/sbin:/usr/bin:/sbin:/bin", "DEBIAN_FRONTEND": "noninteractive", "LC_ALL": "C.UTF-8"}
+        self.env = {"PATH": "/usr/local/sbin:/usr/local/bin:/usr/sbin:/usr/bin:/sbin:/bin", "DEBIAN_FRONTEND": "noninteractive", "LC_ALL": "C.UTF-8"}
 
     def path(self, name):
         return os.path.join(self.folder, name.lstrip("/"))
