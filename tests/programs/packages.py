@@ -259,6 +259,14 @@ class Tests:
         expect(run([script, "uninstall"], env=env, cwd="/"), (0, ""), "its script")
         expect([it for it in install.files_below(found) if not it.startswith("etc/nut/")], [], "what is left")
 
+    def test_archive_configures_a_system(self):
+        """The archive's first configuration, not below DESTDIR: it makes the user nut, who reads the server's files."""
+        root = self.fresh("configured")
+        shutil.copy(self.packages.made("tar")["mulgefa"], root.path("/root"))
+        root.do("tar -xf mulgefa-*.tar.gz && mulgefa-*/packaging/install.sh configure")
+        modes = root.do("stat -c '%U %G %a' /etc/nut /etc/nut/upsd.users /etc/nut/upsmon.conf")
+        expect(modes, "root nut 750\nroot nut 640\nroot root 600\n", "who reads the files")
+
     def test_fresh_system(self):
         """Installed, changed by hand, upgraded, removed and purged; only the user nut is left."""
         root = self.fresh("fresh")
