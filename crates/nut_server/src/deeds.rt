@@ -64,54 +64,25 @@ pub struct Deed {
     pub act: Act,
 }
 
-/// The last deed of a client, and how many there were.
-#[derive(Drop)]
-pub struct Deeds {
-    count: u64,
-    last: Option<Deed>,
+/// Notes a request of a connection that had this effect, if it is a deed. `line` is the request to the driver, if the effect
+/// has one.
+pub fn note(
+    deed: &mut Option<Deed>,
+    connection: &Connection,
+    effect: &Effect<'_>,
+    line: &[u8],
+    is_denied: bool,
+) {
+    // most requests only ask for something
+    if is_denied || !matches!(effect, Effect::Nothing) {
+        note_act(deed, connection, Act::of(effect, line, is_denied));
+    }
 }
 
-impl Deeds {
-    /// Returns the state before any deed.
-    pub fn none() -> Deeds {
-        Deeds {
-            count: 0,
-            last: None,
-        }
-    }
-
-    /// How many deeds there were.
-    pub fn count(&self) -> u64 {
-        self.count
-    }
-
-    /// Returns the last deed, if there was one.
-    pub fn last(&self) -> Option<&Deed> {
-        self.last.as_ref()
-    }
-
-    /// Notes a request of a connection that had this effect, if it is a deed. `line` is the request to the driver, if the
-    /// effect has one.
-    pub fn note(
-        &mut self,
-        connection: &Connection,
-        effect: &Effect<'_>,
-        line: &[u8],
-        is_denied: bool,
-    ) {
-        // most requests only ask for something
-        if is_denied || !matches!(effect, Effect::Nothing) {
-            self.note_act(connection, Act::of(effect, line, is_denied));
-        }
-    }
-
-    /// Notes an act of a connection, if there is one.
-    fn note_act(&mut self, connection: &Connection, act: Option<Act>) {
-        let Some(act) = act else {
-            return;
-        };
-        self.count = self.count.wrapping_add(1);
-        self.last = Some(Deed {
+/// Notes an act of a connection, if there is one.
+fn note_act(deed: &mut Option<Deed>, connection: &Connection, act: Option<Act>) {
+    if let Some(act) = act {
+        *deed = Some(Deed {
             connection: connection.number(),
             address: copied(connection.address()),
             user: copied(connection.user().unwrap_or(&[])),

@@ -17,7 +17,7 @@ ghost use Rattle.nut_server.specs.Settling.{IsNextUnsettled, IsNextWaiting};
 use crate::arrival::Arrival;
 use crate::config::Config;
 use crate::connections::Connections;
-use crate::deeds::Deeds;
+use crate::deeds::Deed;
 use crate::device::Device;
 use crate::limits::ANSWER_LINE_MAX;
 use crate::numbering::{Numbers, first_numbers};
@@ -74,8 +74,8 @@ struct Parts {
     likely: usize,
     /// The place of the variable that was found last: the next query probably asks for the same one, or for the next.
     likely_variable: usize,
-    /// What clients did that an operator wants to know of. No answer depends on it.
-    deeds: Deeds,
+    /// What a client did by the last arrival, if an operator wants to know of it. No answer depends on it.
+    deed: Option<Deed>,
     alloc: Global,
 }
 
@@ -95,7 +95,7 @@ impl Drop for Parts {
             reader: _reader,
             likely: _,
             likely_variable: _,
-            deeds: _deeds,
+            deed: _deed,
             alloc: _,
         } = self;
     }
@@ -179,7 +179,7 @@ impl Parts {
                 reader: PlainReader::new(),
                 likely: 0,
                 likely_variable: 0,
-                deeds: Deeds::none(),
+                deed: None,
                 alloc,
             }),
             Err(AllocError) => {
@@ -194,6 +194,7 @@ impl Parts {
         ensures answered { Answers self.old (event_of arrival.entry) result }
         ensures content { self.new ≡ content_after result self.old (event_of arrival.entry) }
     {
+        self.deed = None;
         match arrival {
             Arrival::Moment(t) => {
                 self.moment(t);

@@ -1,5 +1,5 @@
 -- What an arrival and the server's answer to it do to `Served`.
-use Rattle.std.proofs.Common.{◌≡◌, ℕ, List, [], ◌∷◌, ◌++◌, Option, Some, unwrap_or, Result, Ok, Err, refl, sym, ◌∙◌, ap, subst, true, false}
+use Rattle.std.proofs.Common.{◌≡◌, ℕ, List, [], ◌∷◌, ◌++◌, Option, Some, None, unwrap_or, Result, Ok, Err, refl, sym, ◌∙◌, ap, subst, true, false}
 use Rattle.std.specs.Prelude.{IfSome, option_map, is_err}
 use Rattle.std.proofs.lemmas.Bool.{true≢false}
 use Rattle.nut_server_spec.specs.declared.Place.{Place}
@@ -18,7 +18,7 @@ use Rattle.nut_server_spec.proofs.Sent.{taken_by, sent-refused}
 use Rattle.nut_server_spec.proofs.DriverSent.{drained_by, driver_sent-refused}
 use Rattle.nut_server.specs.declared.arrival.Arrival.{Arrival}
 use Rattle.nut_server.specs.Arrival.{event_of}
-use Rattle.nut_server_loop.specs.Record.{Entry, Gave, tells, tells_next, tells_arrival, arrival_of, is_reload}
+use Rattle.nut_server_loop.specs.Record.{Entry, Gave, tells, tells_next, tells_arrival, arrival_of, is_reload, LeadsTo}
 use Rattle.nut_server_loop.specs.declared.types.Next.{Next}
 use Rattle.nut_server_loop.specs.declared.types.Next.TheVariants as next
 use Rattle.nut_server_loop.specs.Served.{Served, ServedBefore, ended_in, to_close, ended_by, ended_by_event, ended_by_lack, ended_by_refusal, history_of, driver_taken}
@@ -138,3 +138,13 @@ reload_refused first o' s s' n items k (Err r) before is answer leads failed =
 -- What the world gave, before the server is told.
 pub given : (first : Configuration) (o o' : Option (List Entry)) (s : Content) (n : Next) (items : List ℕ) → Served first o s [] → o' ≡ tells_next n items o → ServedBefore first o' s n items
 given first o o' s n items served more = (o, served, more)
+
+-- ---- the answer to an arrival
+
+-- Where `next` gave an arrival, the world waits for the answer to it.
+pub waits_on : {A B : Type 0} (found : Option Arrival) (arrival : Arrival) (o : Option Event) → option_map event_of found ≡ o → found ≡ Some arrival → LeadsTo o A B → A
+waits_on found arrival o same is leads = leads.0 (λ none. absurd (cc))
+
+-- Where it gave none, the world waits for nothing.
+pub waits_not : {A B : Type 0} (found : Option Arrival) (o : Option Event) → option_map event_of found ≡ o → found ≡ None → LeadsTo o A B → B
+waits_not found o same is leads = leads.1 (sym same ∙ ap (λ a. option_map event_of a) is)

@@ -8,7 +8,7 @@ use Rattle.std.proofs.lemmas.List.Sums.{sum_by-cons}
 use Rattle.nut_server_spec.specs.Event.{Event}
 use Rattle.nut_server_spec.specs.Event as event
 use Rattle.nut_server_spec.specs.Content.{Content}
-use Rattle.nut_server_loop.specs.Record.{Entry, Gave, tells, tells_arrival, tells_next, arrival_of, MayCome}
+use Rattle.nut_server_loop.specs.Record.{Entry, Gave, tells, tells_arrival, tells_next, arrival_of, LeadsTo, MayCome}
 use Rattle.nut_server_loop.specs.Memory.{MemoryState, event_of_given, entry_of, log_of, gave_of, GoesOn, may_come, first_coming, GivesAt}
 use Rattle.nut_server_loop.specs.declared.types.Given.{Given}
 use Rattle.nut_server_loop.specs.declared.types.Given.TheVariants.{Close}
@@ -46,6 +46,10 @@ count-remove p (x ∷ left) zero g there =
     count-cons p (event_of_given x) (map event_of_given left) ∙ ap (λ y. cond (p (event_of_given y)) 1 0 + count_by p (map event_of_given left)) same
 count-remove p (x ∷ left) (suc i) g there =
     omega (arith, count-cons p (event_of_given x) (map event_of_given left), count-cons p (event_of_given x) (map event_of_given (remove left i)), count-remove p left i g there)
+
+-- Where waiting for an answer is nothing more.
+pub leads_both : (o : Option Event) (A : Type 0) → A → LeadsTo o A A
+leads_both o A a = (λ some. a, λ none. a)
 
 -- The log grew, and no arrival was given.
 pub goes_on_more : (a b : MemoryState) (e : Entry) → gave_of (e ∷ []) ≡ [] → b.log ≡ e ∷ a.log → b.left ≡ a.left → GoesOn a b

@@ -67,16 +67,18 @@ pub closed_some : {T E : Type 0} (r : Result T E) (o o1 o' : Option (List Entry)
 closed_some (Ok _) o o1 o' before rest so_far same = tt
 closed_some (Err _) o o1 o' before rest so_far same = λ first s served. (rest, stays first o1 o' s rest same (so_far first s served))
 
--- What a call says of each server says it of this one.
-pub after_err : {T E : Type 0} (r : Result T E) (first : Configuration) (o o' : Option (List Entry)) (s : Content) (before : List Ended) → Served first o s before
-    → OnErr r ((first : Configuration) (s : Content) → Served first o s before → (x : List Ended) × Served first o' s x) → OnErr r ((x : List Ended) × Served first o' s x)
-after_err (Ok _) first o o' s before served says = tt
-after_err (Err _) first o o' s before served says = says first s served
+-- What a call says of each server says it of this one, also once the world got the answer.
+pub after_err : {T E : Type 0} (r : Result T E) (first : Configuration) (o o1 o' : Option (List Entry)) (s : Content) (before : List Ended) → Served first o s before → o' ≡ o1
+    → OnErr r ((first : Configuration) (s : Content) → Served first o s before → (x : List Ended) × Served first o1 s x) → OnErr r ((x : List Ended) × Served first o' s x)
+after_err (Ok _) first o o1 o' s before served same says = tt
+after_err (Err _) first o o1 o' s before served same says =
+    let owed = says first s served in
+    (owed.0, stays first o1 o' s owed.0 same owed.1)
 
-pub after_ok : {T E : Type 0} (r : Result T E) (first : Configuration) (o o' : Option (List Entry)) (s : Content) (before rest : List Ended) → Served first o s before
-    → OnOk r ((first : Configuration) (s : Content) → Served first o s before → Served first o' s rest) → OnOk r (Served first o' s rest)
-after_ok (Ok _) first o o' s before rest served says = says first s served
-after_ok (Err _) first o o' s before rest served says = tt
+pub after_ok : {T E : Type 0} (r : Result T E) (first : Configuration) (o o1 o' : Option (List Entry)) (s : Content) (before rest : List Ended) → Served first o s before → o' ≡ o1
+    → OnOk r ((first : Configuration) (s : Content) → Served first o s before → Served first o1 s rest) → OnOk r (Served first o' s rest)
+after_ok (Ok _) first o o1 o' s before rest served same says = stays first o1 o' s rest same (says first s served)
+after_ok (Err _) first o o1 o' s before rest served same says = tt
 
 -- ---- events that allocate no memory
 

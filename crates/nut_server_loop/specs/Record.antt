@@ -1,5 +1,5 @@
 -- The record of a world: a list of entries, the newest first.
-use Rattle.std.specs.Prelude.{◌≡◌, ◌<◌, ℕ, Bool, true, false, ◌==◌, List, [], ◌∷◌, ◌++◌, length, take, Option, Some, None, option_map, if◌then◌else◌}
+use Rattle.std.specs.Prelude.{◌≡◌, ◌≢◌, ◌<◌, ℕ, Bool, true, false, ◌==◌, List, [], ◌∷◌, ◌++◌, length, take, Option, Some, None, option_map, if◌then◌else◌}
 use Rattle.nut_server_spec.specs.Event.{Event}
 use Rattle.nut_server_spec.specs.Event as event
 use Rattle.nut_server_spec.specs.Content.{Content}
@@ -71,6 +71,10 @@ abbrev pub tells_request : Written → ℕ → List ℕ → Option (List Entry) 
 tells_request (Took n) u bytes o = tells (TookRequests u (take n bytes)) o
 tells_request Later u bytes o = tells (DriverWasLate u) o
 tells_request Failed u bytes o = tells (DriverBroke u) o
+
+-- What `next` leads to: the world waits for the answer to the arrival that it gave, if it gave one.
+abbrev pub LeadsTo : Option Event → Type 0 → Type 0 → Type 0
+LeadsTo arrival awaits reached = (arrival ≢ None → awaits) × (arrival ≡ None → reached)
 
 -- Bytes are given only of connections that may be read.
 abbrev pub MayCome : Next → Content → Type 0

@@ -2,14 +2,14 @@
 
 ghost use Rattle.std.specs.Prelude.{◌≡◌, ◌+◌, ◌-◌, ◌^◌, ◌<◌, ℕ, false, [], ◌∷◌, length, Some, None, Ok, IfOk, OnOk, OnErr, is_ok, if◌then◌else◌, IfSome, vec_len};
 ghost use Rattle.nut_io.specs.Writes.{IsWithin, late_after};
-ghost use Rattle.nut_server_loop.specs.Record.{tells, tells_next, tells_write, tells_request, MayCome, arrival_of};
+ghost use Rattle.nut_server_loop.specs.Record.{tells, tells_next, tells_write, tells_request, LeadsTo, MayCome, arrival_of};
 ghost use Rattle.nut_server_loop.specs.Record as entry;
 ghost use Rattle.nut_server_loop.specs.Memory.{MemoryState, log_of, entry_of, event_of_given, may_come, first_coming, GivesAt, GoesOn};
 ghost use Rattle.nut_server_loop.specs.inside.MemoryLaws.{goes_on_self, goes_on_twice};
 
 use crate::{Given, Next, Note, World};
 use nut_io::{Fault, Piece, Written};
-use nut_server::Server;
+use nut_server::{Refused, Server};
 use std::alloc::Global;
 use std::marker::Model;
 
@@ -66,9 +66,13 @@ impl World for MemoryWorld {
 
     ghost reached = { GoesOn };
 
+    ghost awaits = { GoesOn };
+
     ghost reached_self = { goes_on_self };
 
     ghost reached_on = { goes_on_twice };
+
+    ghost awaits_on = { goes_on_twice };
 
     fn faults(&self) -> u64 {
         self.faults
@@ -83,7 +87,8 @@ impl World for MemoryWorld {
         ensures none_late { (d : ℕ) → false ≡ false }
         ensures no_driver_late { (u : ℕ) → false ≡ false }
         ensures counted { self.new.faults ≡ (if is_ok result then self.old.faults else self.old.faults + 1) }
-        ensures reached { GoesOn self.old self.new }
+        ensures awaits { IfOk result (λ n. LeadsTo (arrival_of n piece.new.items) (GoesOn self.old self.new) (GoesOn self.old self.new)) }
+        ensures reached { OnErr result (GoesOn self.old self.new) }
         ensures gives { IfOk result (λ n. GivesAt (first_coming server.now self.old.left) self.old.left self.new.left n piece.new.items) }
         ensures left_err { OnErr result (self.new.left ≡ self.old.left) }
     {
@@ -98,6 +103,13 @@ impl World for MemoryWorld {
             }
         }
     }
+
+    fn told(&mut self, _server: &Server, _answer: &Result<(), Refused>)
+        ensures log { Some self.new.log ≡ Some self.old.log }
+        ensures counted { self.new.faults ≡ self.old.faults }
+        ensures reached { (w : MemoryState) → GoesOn w self.old → GoesOn w self.new }
+        ensures left { self.new.left ≡ self.old.left }
+    {}
 
     fn write(&mut self, c: u64, bytes: &[u8]) -> Result<Written, Fault>
         requires few { self.old.faults < 2 ^ 64 - 1 }

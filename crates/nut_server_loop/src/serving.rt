@@ -4,7 +4,7 @@ ghost use Rattle.std.specs.Prelude.{◌≡◌, ◌+◌, ◌-◌, ◌^◌, ◌<�
 ghost use Rattle.nut_server_spec.specs.Configuration.{Configuration};
 ghost use Rattle.nut_server_spec.specs.Content.{Content, content};
 ghost use Rattle.nut_server.specs.Arrival.{event_of};
-ghost use Rattle.nut_server_loop.specs.Record.{is_reload, NothingIsWithheld, NoRequestIsWithheld, NobodyLeaves};
+ghost use Rattle.nut_server_loop.specs.Record.{is_reload, LeadsTo, NothingIsWithheld, NoRequestIsWithheld, NobodyLeaves};
 ghost use Rattle.nut_server_loop.specs.Record as entry;
 ghost use Rattle.nut_server_loop.specs.Served.{Ended, ended_by_lack, ended_in, to_close, Served, ServedBefore};
 
@@ -16,10 +16,11 @@ use std::sync::Wait;
 
 /// Serves until the world ends.
 ///
-/// The server gets each arrival of the world and the outcome of each write. Before the loop asks for the next arrival,
-/// it offers each connection and each driver all that waits for it, until that is written or the world accepts no
-/// more. It closes each connection that has logged out and accepted everything. It also closes each connection and
-/// link to a driver that was ended by a failed write, a lack of memory or a reload. All others stay.
+/// The server gets each arrival of the world and the outcome of each write, and the world gets the server's answer to each
+/// arrival. Before the loop asks for the next arrival, it offers each connection and each driver all that waits for it,
+/// until that is written or the world accepts no more. It closes each connection that has logged out and accepted
+/// everything. It also closes each connection and link to a driver that was ended by a failed write, a lack of memory or
+/// a reload. All others stay.
 ///
 /// When it returns, the server holds the content of a history of accepted events that the world's record leads to. The
 /// bytes that the world accepted for each connection, and for each driver since it was last connected or a reload cleared
@@ -100,11 +101,16 @@ fn turn<W: World>(server: &mut Server, world: &mut W, piece: &mut Piece) -> Resu
     ensures reached { W.reached world.old world.new }
 {
     match world.next(server, piece)? {
-        Next::End => return Ok(false),
-        Next::Reload(config) => reload(server, world, config)?,
-        next => hand_on(server, world, &next, piece)?,
+        Next::End => Ok(false),
+        Next::Reload(config) => {
+            reload(server, world, config)?;
+            Ok(true)
+        }
+        next => {
+            hand_on(server, world, &next, piece)?;
+            Ok(true)
+        }
     }
-    Ok(true)
 }
 
 /// Gives the server a new configuration, and closes what the reload ended. If memory is lacking, the server keeps the
@@ -116,13 +122,17 @@ fn reload<W: World>(server: &mut Server, world: &mut W, config: Box<Config>) -> 
     ensures err { OnErr result ((owed : List Ended) × Served first (W.log world.new) server.new owed) }
     ensures ok { OnOk result (Served first (W.log world.new) server.new []) }
     ensures counted { W.fault_count world.new ≡ (if is_ok result then W.fault_count world.old else W.fault_count world.old + 1) }
-    ensures reached { W.reached world.old world.new }
+    ensures reached { (w : W) → W.awaits w world.old → W.reached w world.new }
 {
     let ended = server.ended_by(&config);
-    if server.arrive(Arrival::Reload(config)).is_err() {
+    let reloaded = server.arrive(Arrival::Reload(config));
+    if reloaded.is_err() {
+        world.told(server, &reloaded);
         return Ok(());
     }
-    close_ended(world, &ended)
+    let closed = close_ended(world, &ended);
+    world.told(server, &reloaded);
+    closed
 }
 
 /// Closes the links to drivers and then the connections that a reload ended.
@@ -159,12 +169,14 @@ fn hand_on<W: World>(
     ensures err { OnErr result ((owed : List Ended) × Served first (W.log world.new) server.new owed) }
     ensures ok { OnOk result (Served first (W.log world.new) server.new []) }
     ensures counted { W.fault_count world.new ≡ (if is_ok result then W.fault_count world.old else W.fault_count world.old + 1) }
-    ensures reached { W.reached world.old world.new }
+    ensures reached { (w : W) → LeadsTo (entry.arrival_of next.now piece.now.items) (W.awaits w world.old) (W.reached w world.old) → W.reached w world.new }
 {
     let Some(arrival) = arrival_of(next, piece) else {
         return Ok(());
     };
-    match place_of_lack(server.arrive(arrival)) {
+    let answer = server.arrive(arrival);
+    world.told(server, &answer);
+    match place_of_lack(answer) {
         None => settle_heard(server, world, next),
         Some(Place::Line(c, _)) => world.close(c),
         Some(Place::Report(u, _)) => world.close_driver(u),

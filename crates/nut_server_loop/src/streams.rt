@@ -4,13 +4,13 @@ ghost use Rattle.std.specs.Prelude.{◌≡◌, ◌+◌, ◌-◌, ◌^◌, ◌<�
 ghost use Rattle.std.specs.Io.KnownBytes.{Appends, Consumes, IsAtEnd, Keeps};
 ghost use Rattle.nut_server_spec.specs.Acceptance.{may_read, session_of};
 ghost use Rattle.nut_io.specs.Writes.{IsWithin, Takes, late_after};
-ghost use Rattle.nut_server_loop.specs.Record.{tells_next, tells_write, MayCome};
+ghost use Rattle.nut_server_loop.specs.Record.{tells_next, tells_write, arrival_of, LeadsTo, MayCome};
 ghost use Rattle.nut_server_loop.specs.Streams.{IsRead, no_record};
 ghost use Rattle.nut_server_loop.specs.declared.streams.Stage.TheVariants.{Ended};
 
 use crate::{Next, World};
 use nut_io::{Fault, Piece, Written, read_piece, write_some};
-use nut_server::Server;
+use nut_server::{Refused, Server};
 use std::io::{Read, Write};
 
 /// The number of the one connection, the first that a server opens.
@@ -93,9 +93,13 @@ impl<'a, R: Read, T: Write> World for StreamWorld<'a, R, T> {
 
     ghost reached = { λ a b. Unit {0} };
 
+    ghost awaits = { λ a b. Unit {0} };
+
     ghost reached_self = { λ w. tt };
 
     ghost reached_on = { λ a b c first second. tt };
+
+    ghost awaits_on = { λ a b c first second. tt };
 
     fn faults(&self) -> u64 {
         self.faults
@@ -110,7 +114,8 @@ impl<'a, R: Read, T: Write> World for StreamWorld<'a, R, T> {
         ensures none_late { (d : ℕ) → false ≡ false }
         ensures no_driver_late { (u : ℕ) → false ≡ false }
         ensures counted { self.new.faults ≡ (if is_ok result then self.old.faults else self.old.faults + 1) }
-        ensures reached { Unit {0} }
+        ensures awaits { IfOk result (λ n. LeadsTo (arrival_of n piece.new.items) (Unit {0}) (Unit {0})) }
+        ensures reached { OnErr result (Unit {0}) }
         ensures gives { IfOk result (λ n. IsRead n piece.new.items (R.remaining self.old.input.now) (R.remaining self.new.input.now)) }
         ensures gives_none { OnErr result (Keeps (R.remaining self.old.input.now) (R.remaining self.new.input.now)) }
         ensures at_end { result ≡ Ok Next.End → (self.old.stage ≡ Ended) ⊎ (may_read (session_of 1 server.now.sessions) ≡ false)
@@ -138,6 +143,8 @@ impl<'a, R: Read, T: Write> World for StreamWorld<'a, R, T> {
             }
         }
     }
+
+    fn told(&mut self, _server: &Server, _answer: &Result<(), Refused>) {}
 
     fn write(&mut self, _c: u64, bytes: &[u8]) -> Result<Written, Fault>
         requires few { self.old.faults < 2 ^ 64 - 1 }

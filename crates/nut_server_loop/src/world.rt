@@ -3,11 +3,11 @@
 ghost use Rattle.std.specs.Prelude.{◌≡◌, ◌+◌, ◌-◌, ◌^◌, ◌<◌, ℕ, Bool, false, List, length, Option, Ok, IfOk, OnOk, OnErr, is_ok, if◌then◌else◌};
 ghost use Rattle.nut_server_spec.specs.Content.{Content};
 ghost use Rattle.nut_io.specs.Writes.{IsWithin, late_after};
-ghost use Rattle.nut_server_loop.specs.Record.{Entry, WasClosed, DriverWasClosed, tells, tells_next, tells_write, tells_request, MayCome, NothingIsWithheld, NoRequestIsWithheld, NobodyLeaves};
+ghost use Rattle.nut_server_loop.specs.Record.{Entry, WasClosed, DriverWasClosed, tells, tells_next, tells_write, tells_request, arrival_of, LeadsTo, MayCome, NothingIsWithheld, NoRequestIsWithheld, NobodyLeaves};
 
 use crate::Next;
 use nut_io::{Fault, Piece, Written};
-use nut_server::Server;
+use nut_server::{Refused, Server};
 
 /// Gives arrivals, takes bytes, and closes connections and links to drivers. Connections have the numbers that the
 /// server gave them. Drivers have the numbers of their UPSes: the places in ups.conf, counted from 0, until a reload.
@@ -15,14 +15,10 @@ use nut_server::Server;
 /// After a reload the numbers are those that the server has given anew: each UPS that stays keeps its number, and each
 /// new one gets the least number that is free. Before the world is asked for the next arrival, it is asked to close
 /// each link and each connection that the reload ended. If the server lacks memory for the new configuration, all
-/// stays as it was: the server that `next` is given shows which configuration is in force.
+/// stays as it was.
 ///
-/// The loop doesn't report to the world that the server refused an arrival. After an `Open`, the world sees it at the
-/// next call of `next`: if [`Server::opened`] has risen, the connection was accepted and has that number. Otherwise
-/// the connection was refused (`BadAddress` or `Full`), and the world closes it unasked.
-///
-/// Any call except `faults` may return a fault instead, if its input or output fails. The record is then as it was, and
-/// the fault is counted. After `next`, also after its fault, nobody is late.
+/// Any call except `faults` and `told` may return a fault instead, if its input or output fails. The record is then as it
+/// was, and the fault is counted. After `next`, also after its fault, nobody is late.
 pub trait World {
     /// What it gave, took and closed, the newest first. `None` for a world without a record.
     ghost log: { Self → Option (List Entry) };
@@ -39,8 +35,11 @@ pub trait World {
     /// Nothing more comes as long as the server has this content.
     ghost has_ended: { Self → Content → Type 0 };
 
-    /// Calls may lead from the first state to the second.
+    /// Calls may lead from the first state to the second, which has had the answer to each arrival.
     ghost reached: { Self → Self → Type 0 };
+
+    /// Calls may lead from the first state to the second, which waits for the answer to the last arrival.
+    ghost awaits: { Self → Self → Type 0 };
 
     /// Returns how many calls have returned a fault.
     fn faults(&self) -> u64
@@ -63,7 +62,18 @@ pub trait World {
         ensures none_late { (d : ℕ) → late self.new d ≡ false }
         ensures no_driver_late { (u : ℕ) → driver_late self.new u ≡ false }
         ensures counted { fault_count self.new ≡ (if is_ok result then fault_count self.old else fault_count self.old + 1) }
-        ensures reached { reached self.old self.new };
+        ensures awaits { IfOk result (λ n. LeadsTo (arrival_of n piece.new.items) (awaits self.old self.new) (reached self.old self.new)) }
+        ensures reached { OnErr result (reached self.old self.new) };
+
+    /// Gets the server's answer to the arrival that `next` gave last. An accepted connection has the number
+    /// [`Server::opened`]. The world closes a refused one (`BadAddress` or `Full`) by itself.
+    ///
+    /// The call comes once for each arrival, before anything is written or closed for it. After a reload it comes once
+    /// the links and the connections that the reload ended are closed, or a fault has kept one open.
+    fn told(&mut self, server: &Server, answer: &Result<(), Refused>)
+        ensures log { log self.new ≡ log self.old }
+        ensures counted { fault_count self.new ≡ fault_count self.old }
+        ensures reached { (w : Self) → awaits w self.old → reached w self.new };
 
     /// Offers at least one byte to connection `c`, and returns the outcome.
     fn write(&mut self, c: u64, bytes: &[u8]) -> Result<Written, Fault>
@@ -115,4 +125,7 @@ pub trait World {
 
     /// What is reached from a reached state is reached.
     ghost reached_on: { (a b c : Self) → reached a b → reached b c → reached a c };
+
+    /// A world that waits for an answer does so until it gets that.
+    ghost awaits_on: { (a b c : Self) → awaits a b → reached b c → awaits a c };
 }

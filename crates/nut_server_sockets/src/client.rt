@@ -32,8 +32,6 @@ pub struct Client {
     held: Option<usize>,
     /// Whether there is something to read, which isn't read while an answer waits.
     is_parked: bool,
-    /// Whether the server was given bytes of it and hasn't offered it any since.
-    is_unanswered: bool,
     /// The second in which it connected.
     since: u64,
     /// The second in which it last sent a whole line, or took some of an answer; 0 if it has sent none.
@@ -51,7 +49,6 @@ impl Client {
             batches: Batches::new(),
             held: None,
             is_parked: false,
-            is_unanswered: false,
             since: second,
             spoke: 0,
         }
@@ -77,17 +74,6 @@ impl Client {
         self.login.take()
     }
 
-    /// Returns the address that it connected from, if the server was given bytes of it and hasn't offered it any since. If
-    /// the server then has the connection closed, a reload ended it or memory ran out at these bytes: for any other reason
-    /// it offers something first, a farewell or what can't be written.
-    pub fn unanswered(&self) -> Option<IpAddr> {
-        if self.is_unanswered {
-            Some(self.address)
-        } else {
-            None
-        }
-    }
-
     /// Reads up to a piece, and returns as much of it as the server is given at once. The rest is held, and returned
     /// before anything more is read. If there is no room to hold it, that is the end of the connection.
     pub fn hear(&mut self, piece: &mut Piece, held: &mut Slab<Piece>, second: u64) -> Heard {
@@ -98,7 +84,6 @@ impl Client {
         if heard == Heard::Nothing || heard == Heard::End {
             return heard;
         }
-        self.is_unanswered = true;
         let end = self.batches.cut(piece.as_slice());
         let (now, later) = piece.as_slice().split_at(end);
         if holds_line_end(now) {
@@ -129,7 +114,6 @@ impl Client {
     pub fn offer(&mut self, bytes: &[u8], second: u64) -> (Written, bool)
         ensures { IsWithin result.0 (length bytes.now) }
     {
-        self.is_unanswered = false;
         let written = self.link.offer(bytes);
         let Written::Took(_) = written else {
             return (written, false);

@@ -189,20 +189,6 @@ impl Clients {
         None
     }
 
-    /// Takes the client of a connection out, and forgets its login and what is held of it.
-    fn remove(&mut self, number: u64) -> Option<Client> {
-        let place = self.place(number)?;
-        let (_, key) = self.keys.remove(place);
-        let mut client = self.sockets.try_remove(key)?;
-        if let Some(login) = client.end_login() {
-            self.logins.try_remove(login);
-        }
-        if let Some(held) = client.end_held() {
-            self.held.try_remove(held);
-        }
-        Some(client)
-    }
-
     /// Returns the number of the connection that is closed if a client calls, if one has to be. Clients that gave the name and the
     /// password of a user make way only if there are no others without login.
     pub fn makes_way(&self, server: &Server) -> Option<u64> {
@@ -220,26 +206,18 @@ impl Clients {
         Some(chosen.unwrap_or(first))
     }
 
-    /// Closes the socket of a connection to let another client in. Returns the address of its client.
-    pub fn turn_out(&mut self, number: u64) -> Option<IpAddr> {
-        let client = self.remove(number)?;
-        Some(client.address())
+    /// Returns the address that the client of a connection connected from.
+    pub fn address(&self, number: u64) -> Option<IpAddr> {
+        Some(self.sockets.get(self.key(number)?)?.address())
     }
 
-    /// Notes that the client of a connection is logged in. Returns the login if the connection isn't open any more.
-    pub fn note_login(&mut self, number: u64, login: Login) -> Option<Login> {
-        let Some(key) = self.key(number) else {
-            return Some(login);
-        };
-        let Some(client) = self.sockets.get_mut(key) else {
-            return Some(login);
-        };
-        match self.logins.insert(login) {
-            Ok(key) => {
-                client.note_login(key);
-                None
-            }
-            Err(failed) => Some(failed.value),
+    /// Notes that the client of a connection is logged in.
+    pub fn note_login(&mut self, number: u64, login: Login) {
+        if let Some(key) = self.key(number)
+            && let Some(client) = self.sockets.get_mut(key)
+            && let Ok(key) = self.logins.insert(login)
+        {
+            client.note_login(key);
         }
     }
 
@@ -250,9 +228,15 @@ impl Clients {
         self.logins.try_remove(login)
     }
 
-    /// Closes the socket of a connection. Returns the address of its client if that is unanswered.
-    pub fn close(&mut self, number: u64) -> Option<IpAddr> {
-        self.remove(number)?.unanswered()
+    /// Closes the socket of a connection, and forgets what is held of its client. Returns the login of that, if it has one.
+    pub fn close(&mut self, number: u64) -> Option<Login> {
+        let place = self.place(number)?;
+        let (_, key) = self.keys.remove(place);
+        let mut client = self.sockets.try_remove(key)?;
+        if let Some(held) = client.end_held() {
+            self.held.try_remove(held);
+        }
+        self.logins.try_remove(client.end_login()?)
     }
 }
 

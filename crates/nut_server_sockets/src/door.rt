@@ -4,7 +4,6 @@ use crate::listeners::Listeners;
 use mio::Registry;
 use mio::net::TcpStream;
 use nut_poll::{LookUps, Reports};
-use nut_server::Server;
 use std::io;
 use std::io::ErrorKind;
 use std::net::{IpAddr, Net};
@@ -19,30 +18,14 @@ pub struct Guest {
     pub address: IpAddr,
 }
 
-/// A client that the server was told of, before it has said whether it accepts the connection.
-#[derive(Drop)]
-struct Arrival {
-    guest: Guest,
-    /// How many connections had been opened before.
-    opened: u64,
-}
-
-/// What became of the client that the server was told of last.
-#[derive(Drop)]
-pub enum Admission {
-    /// The server accepted the connection and gave it this number.
-    Accepted(u64, Guest),
-    /// The server refused the connection. The socket is closed.
-    Refused,
-}
-
 /// The listeners of a server, and the client that comes in.
 #[derive(Drop)]
 pub struct Door {
     listeners: Listeners,
-    /// The client that was accepted last, as long as the server hasn't been told of it.
+    /// The client that was accepted last, until it is announced to the server.
     guest: Option<Guest>,
-    arrival: Option<Arrival>,
+    /// The client that was announced, until the server has answered.
+    announced: Option<Guest>,
 }
 
 impl Door {
@@ -56,7 +39,7 @@ impl Door {
         Ok(Door {
             listeners,
             guest: None,
-            arrival: None,
+            announced: None,
         })
     }
 
@@ -89,29 +72,22 @@ impl Door {
         self.guest.is_some()
     }
 
-    /// Whether the server was told of a client, and nobody has asked since what became of it.
-    pub fn has_arrival(&self) -> bool {
-        self.arrival.is_some()
+    /// Whether a client was announced that the server hasn't answered.
+    pub fn has_announced(&self) -> bool {
+        self.announced.is_some()
     }
 
-    /// Returns the address of a client of which the server hasn't been told, and is told now. `opened` is the number of
-    /// connections opened before.
-    pub fn announce(&mut self, opened: u64) -> Option<IpAddr> {
+    /// Announces the client that was accepted last to the server, and returns its address.
+    pub fn announce(&mut self) -> Option<IpAddr> {
         let guest = self.guest.take()?;
         let address = guest.address;
-        self.arrival = Some(Arrival { guest, opened });
+        self.announced = Some(guest);
         Some(address)
     }
 
-    /// Returns what became of the client that the server was told of last, if that is new.
-    pub fn admission(&mut self, server: &Server) -> Option<Admission> {
-        let Arrival { guest, opened } = self.arrival.take()?;
-        let number = server.opened();
-        if number > opened {
-            Some(Admission::Accepted(number, guest))
-        } else {
-            Some(Admission::Refused)
-        }
+    /// Returns the announced client, once the server has answered.
+    pub fn take_announced(&mut self) -> Option<Guest> {
+        self.announced.take()
     }
 }
 

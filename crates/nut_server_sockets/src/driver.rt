@@ -3,7 +3,7 @@
 ghost use Rattle.std.specs.Prelude.{length};
 ghost use Rattle.nut_io.specs.Writes.{IsWithin};
 
-use crate::report::Report;
+use crate::report::{End, Report};
 use mio::event::Event;
 use mio::net::UnixStream;
 use mio::{Interest, Registry, Token};
@@ -167,8 +167,8 @@ impl Driver {
         heard
     }
 
-    /// Offers bytes to the driver. If that fails, the link is closed.
-    pub fn offer(&mut self, bytes: &[u8]) -> Written
+    /// Offers bytes to the driver. If that fails, the link is closed, which is reported.
+    pub fn offer(&mut self, bytes: &[u8], reports: &mut Reports<'_>) -> Written
         ensures { IsWithin result (length bytes.now) }
     {
         let written = match &mut self.link {
@@ -176,7 +176,7 @@ impl Driver {
             None => Written::Failed,
         };
         if matches!(written, Written::Failed) {
-            self.close();
+            self.end(End::Lost, reports);
         }
         written
     }
@@ -188,10 +188,12 @@ impl Driver {
         }
     }
 
-    /// Closes the link.
-    pub fn close(&mut self) {
-        self.link = None;
-        self.is_awaited = false;
-        self.has_more = false;
+    /// Closes the link for this reason and reports it, unless it is closed already.
+    pub fn end(&mut self, end: End, reports: &mut Reports<'_>) {
+        if self.link.take().is_some() {
+            self.is_awaited = false;
+            self.has_more = false;
+            reports.tell(Report::Ended(self.name(), end));
+        }
     }
 }

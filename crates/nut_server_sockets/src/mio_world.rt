@@ -15,7 +15,7 @@ use arrayvec::ArrayVec;
 use nut_conf::{CONNECTIONS_MAX, UPSES_MAX};
 use nut_io::{Fault, Piece, Written};
 use nut_poll::{LookUps, Reports, note_written};
-use nut_server::Server;
+use nut_server::{Refused, Server};
 use nut_server_loop::{Next, World};
 use std::alloc::Global;
 use std::io;
@@ -106,9 +106,13 @@ impl<'r, 'e, R: Net + Clock + Processes, L: Reloader + Drop> World for MioWorld<
 
     ghost reached = { λ a b. Unit {0} };
 
+    ghost awaits = { λ a b. Unit {0} };
+
     ghost reached_self = { λ w. tt };
 
     ghost reached_on = { λ a b c first second. tt };
+
+    ghost awaits_on = { λ a b c first second. tt };
 
     fn faults(&self) -> u64 {
         self.faults
@@ -124,6 +128,10 @@ impl<'r, 'e, R: Net + Clock + Processes, L: Reloader + Drop> World for MioWorld<
                 Err(Fault)
             }
         }
+    }
+
+    fn told(&mut self, server: &Server, answer: &Result<(), Refused>) {
+        self.sockets.told(&mut self.services, server, answer);
     }
 
     fn write(&mut self, c: u64, bytes: &[u8]) -> Result<Written, Fault>
@@ -150,7 +158,8 @@ impl<'r, 'e, R: Net + Clock + Processes, L: Reloader + Drop> World for MioWorld<
         ensures late { (d : ℕ) → is_noted self.new.late.items d ≡ is_noted self.old.late.items d }
         ensures drivers { IfOk result (λ w. (v : ℕ) → is_noted self.new.late_drivers.items v ≡ late_after w u (is_noted self.old.late_drivers.items) v) }
     {
-        let written = self.sockets.offer_driver(u, bytes);
+        let reports = &mut self.services.reports;
+        let written = self.sockets.offer_driver(u, bytes, reports);
         Ok(note_written(&mut self.late_drivers, u as u64, written))
     }
 

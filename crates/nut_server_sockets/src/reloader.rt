@@ -1,7 +1,7 @@
 //! Where new configurations come from.
 
 use nut_poll::Reports;
-use nut_server::{Config, Server};
+use nut_server::{Config, Refused, Server};
 
 /// Gives new configurations to a server.
 pub trait Reloader {
@@ -9,6 +9,6 @@ pub trait Reloader {
     /// `None`. The call is made once a second.
     fn look(&mut self, server: &Server, reports: &mut Reports<'_>) -> Option<Box<Config>>;
 
-    /// Reports what became of the configuration that was given last, once the server has accepted or refused it.
-    fn tell(&mut self, server: &Server, reports: &mut Reports<'_>);
+    /// Reports what became of the configuration that was given last: the server's answer to it.
+    fn tell(&mut self, answer: &Result<(), Refused>, reports: &mut Reports<'_>);
 }

@@ -12,10 +12,10 @@ ghost use Rattle.nut_server_sockets.specs.declared.source.Source.TheVariants as 
 ghost use Rattle.nut_server_sockets.specs.Turns.{Comes, ComesInTurn, IsGivenBy, token_of};
 ghost use Rattle.nut_server_spec.specs.Content.{Content};
 
-use crate::audit::{Audit, left};
+use crate::audit::{left, tell_deed};
 use crate::clients::Clients;
+use crate::denials::Denials;
 use crate::door::Door;
-use crate::driver::Driver;
 use crate::drivers::Drivers;
 use crate::hindrances::Hindrances;
 use crate::listeners::Listeners;
@@ -26,7 +26,7 @@ use crate::stall::Stall;
 use mio::{Events, Token};
 use nut_io::{Piece, Written};
 use nut_poll::{Heard, LookUps, Ready, Reports, Rounds, SOCKETS_MAX, may_be_read};
-use nut_server::Server;
+use nut_server::{Place, Refused, Server};
 use nut_server_loop::Next;
 use std::alloc::Global;
 use std::io;
@@ -57,12 +57,14 @@ pub struct Sockets {
     door: Door,
     clients: Clients,
     hindrances: Hindrances,
-    audit: Audit,
+    denials: Denials,
     drivers: Drivers,
     /// Whether the reloader has still to be asked in this second.
     asks: bool,
-    /// Whether a new configuration was given at the last call of `next`.
+    /// Whether the reloader gave a configuration that the server hasn't answered.
     has_given: bool,
+    /// A connection that the server accepted and whose socket can't be kept.
+    unkept: Option<u64>,
     /// The moment that was last given.
     moment: u64,
     stall: Stall,
@@ -82,7 +84,7 @@ impl Sockets {
     ) -> io::Result<Sockets> {
         let clients = Clients::with_room(alloc)?;
         let stall = Stall::new(alloc)?;
-        let audit = Audit::new(alloc)?;
+        let denials = Denials::new(alloc)?;
         let rounds = Rounds::new(rt, alloc, listeners.len())?;
         let door = Door::new(rounds.registry(), listeners)?;
         let mut sockets = Sockets {
@@ -90,10 +92,11 @@ impl Sockets {
             door,
             clients,
             hindrances: Hindrances::none(),
-            audit,
+            denials,
             drivers,
             asks: false,
             has_given: false,
+            unkept: None,
             moment: 0,
             stall,
         };
@@ -101,8 +104,8 @@ impl Sockets {
         Ok(sockets)
     }
 
-    /// Reports what a client did by the last arrival, and returns what comes next, after at most one wait. After each
-    /// second silent clients come first, then a new configuration, and then the drivers that aren't connected.
+    /// Returns what comes next, after at most one wait. After each second silent clients come first, then a new configuration,
+    /// and then the drivers that aren't connected.
     ///
     /// # Errors
     ///
@@ -117,14 +120,7 @@ impl Sockets {
         ensures goes_on { IfOk result (λ n. n ≢ next.End) }
         ensures turns { IfOk result (λ n. ComesInTurn n self.old.rounds self.new.rounds) }
     {
-        self.audit.tell(
-            server,
-            &mut self.clients,
-            &mut self.drivers,
-            &mut services.reports,
-        );
-        self.end_reload(server, &mut services.reloader, &mut services.reports);
-        if let Some(number) = self.seat(server, &mut services.reports) {
+        if let Some(number) = self.unkept.take() {
             return Ok(Next::Close(number));
         }
         if let Some(next) = self.admit(server, piece, &mut services.reports) {
@@ -156,6 +152,70 @@ impl Sockets {
         }
     }
 
+    /// Acts on the server's answer to the last arrival: reports a lack of memory, what a client did and what became of a
+    /// reload, and keeps the socket of a client or reports why it was refused.
+    pub fn told<R: Processes, L: Reloader>(
+        &mut self,
+        services: &mut Services<'_, '_, R, L>,
+        server: &Server,
+        answer: &Result<(), Refused>,
+    )
+        ensures { Comes self.old.rounds self.new.rounds }
+    {
+        self.tell_lack(answer, &mut services.reports);
+        self.audit(server, &mut services.reports);
+        self.seat(server, answer, &mut services.reports);
+        self.end_reload(
+            server,
+            answer,
+            &mut services.reloader,
+            &mut services.reports,
+        );
+    }
+
+    /// Reports that memory ran out at what a client or a driver sent, if it did, and closes the link to the driver.
+    fn tell_lack(&mut self, answer: &Result<(), Refused>, reports: &mut Reports<'_>)
+        ensures { self.new.rounds ≡ self.old.rounds }
+    {
+        let Err(Refused::Memory(place)) = answer else {
+            return;
+        };
+        match place {
+            Place::Line(number, _) => {
+                if let Some(address) = self.clients.address(*number) {
+                    self.hindrances.tell_lack(address, reports);
+                }
+            }
+            Place::Report(u, _) => self.end_driver(*u, End::OutOfMemory, reports),
+            Place::NewUpses => {}
+        }
+    }
+
+    /// Reports what a client did by the last arrival, if the operator wants to know of it.
+    fn audit(&mut self, server: &Server, reports: &mut Reports<'_>)
+        ensures { self.new.rounds ≡ self.old.rounds }
+    {
+        if let Some(deed) = server.deed() {
+            tell_deed(
+                deed,
+                server,
+                &mut self.clients,
+                &mut self.drivers,
+                &mut self.denials,
+                reports,
+            );
+        }
+    }
+
+    /// Closes the link to the driver of a UPS for this reason, and reports it.
+    fn end_driver(&mut self, u: usize, end: End, reports: &mut Reports<'_>)
+        ensures { self.new.rounds ≡ self.old.rounds }
+    {
+        if let Some(driver) = self.drivers.get_mut(u) {
+            driver.end(end, reports);
+        }
+    }
+
     /// Offers bytes to a connection.
     pub fn offer(&mut self, number: u64, bytes: &[u8]) -> Written
         ensures { IsWithin result (length bytes.now) }
@@ -167,46 +227,29 @@ impl Sockets {
         written
     }
 
-    /// Offers bytes to the driver of a UPS.
-    pub fn offer_driver(&mut self, u: usize, bytes: &[u8]) -> Written
+    /// Offers bytes to the driver of a UPS. If that fails, the link is closed, which is reported.
+    pub fn offer_driver(&mut self, u: usize, bytes: &[u8], reports: &mut Reports<'_>) -> Written
         ensures { IsWithin result (length bytes.now) }
     {
         match self.drivers.get_mut(u) {
-            Some(driver) => driver.offer(bytes),
+            Some(driver) => driver.offer(bytes, reports),
             None => Written::Failed,
         }
     }
 
-    /// Closes a connection, as the server wants it, and reports a lack of memory that is the reason.
-    pub fn close(&mut self, number: u64, reports: &mut Reports<'_>) {
-        if let Some(login) = self.clients.end_login(number) {
-            self.audit.close(number, login, reports);
-        }
-        let unanswered = self.clients.close(number);
-        if !self.has_given
-            && let Some(address) = unanswered
-        {
-            self.hindrances.tell_lack(address, reports);
-        }
-    }
-
-    /// Closes the link to the driver of a UPS, as the server wants it, and reports it.
-    pub fn close_driver(&mut self, u: usize, reports: &mut Reports<'_>) {
-        if let Some(driver) = self.drivers.get_mut(u) {
-            let end = end_of(driver, self.has_given);
-            driver.close();
-            reports.tell(Report::Ended(driver.name(), end));
-        }
-    }
-
-    /// Closes the socket of a client that hasn't logged out, and reports that if it was logged in.
-    fn drop_client(&mut self, number: u64, reports: &mut Reports<'_>)
+    /// Closes the socket of a connection, and reports that if its client is still logged in.
+    pub fn close(&mut self, number: u64, reports: &mut Reports<'_>)
         ensures { self.new.rounds ≡ self.old.rounds }
     {
-        if let Some(login) = self.clients.end_login(number) {
+        if let Some(login) = self.clients.close(number) {
             reports.tell(left(&login));
         }
-        let _ = self.clients.close(number);
+    }
+
+    /// Closes the link to the driver of a UPS, and reports that a reload ended it. A link that ended for another reason is
+    /// closed already.
+    pub fn close_driver(&mut self, u: usize, reports: &mut Reports<'_>) {
+        self.end_driver(u, End::Reloaded, reports);
     }
 
     /// Looks at the sockets of this round until one has something to tell.
@@ -306,8 +349,7 @@ impl Sockets {
                 Some(Next::DriverBytes(u))
             }
             Heard::End => {
-                driver.close();
-                reports.tell(Report::Ended(driver.name(), End::Lost));
+                driver.end(End::Lost, reports);
                 Some(Next::DriverDown(u))
             }
         }
@@ -340,7 +382,7 @@ impl Sockets {
                 Some(Next::Bytes(number))
             }
             Heard::End => {
-                self.drop_client(number, reports);
+                self.close(number, reports);
                 Some(Next::Close(number))
             }
         }
@@ -371,18 +413,6 @@ impl Sockets {
         if self.stall.is_on() && !self.drivers.are_awaited() {
             self.stall.end(&mut self.rounds.ready);
         }
-    }
-}
-
-/// Returns why the server has the link to a driver closed: a write to it failed, which has closed the link already, or a
-/// reload ended it, or memory ran out.
-fn end_of(driver: &Driver, is_reload: bool) -> End {
-    if !driver.is_connected() {
-        End::Lost
-    } else if is_reload {
-        End::Reloaded
-    } else {
-        End::OutOfMemory
     }
 }
 

@@ -5,7 +5,7 @@ use crate::configuration::{Settings, read_folder};
 use nut_conf::{Endpoint, MonConfig};
 use nut_poll::{ErrorLines, Reports};
 use nut_program::{ConfFile, FileFault, Look, ReloadFile, ReloadReport, Turn, tell_not_reloaded};
-use nut_server::{Config, Server};
+use nut_server::{Config, Refused, Server};
 use nut_server_sockets::Reloader;
 use std::alloc::{AllocError, Global};
 use std::mem;
@@ -28,17 +28,8 @@ pub struct Reloading<'r, F> {
     socket_file: Option<ReloadFile>,
     /// The LISTEN lines of the start.
     endpoints: Vec<Endpoint>,
-    /// The configuration that was given last, until it is reported what became of it.
-    given: Option<Given>,
-}
-
-/// What is known of a configuration that was given to the server.
-#[derive(Drop)]
-struct Given {
-    /// How many UPSes it has.
-    upses: usize,
-    /// What it changes; empty if nothing.
-    changes: String,
+    /// What the configuration that was given last changes, until it is reported what became of that; empty if nothing.
+    changes: Option<String>,
 }
 
 impl<'r, F: Files> Reloading<'r, F> {
@@ -61,7 +52,7 @@ impl<'r, F: Files> Reloading<'r, F> {
             file: file_in(files, alloc, folder)?,
             socket_file: file_in_other(files, alloc, sockets, folder)?,
             endpoints: Vec::new(alloc),
-            given: None,
+            changes: None,
         })
     }
 
@@ -109,9 +100,7 @@ impl<'r, F: Files> Reloading<'r, F> {
         new: &Config,
         listens_elsewhere: bool,
     ) -> Result<(), AllocError> {
-        let changes = changes(self.alloc, old, new, listens_elsewhere)?;
-        let upses = new.number_of_upses();
-        self.given = Some(Given { upses, changes });
+        self.changes = Some(changes(self.alloc, old, new, listens_elsewhere)?);
         Ok(())
     }
 }
@@ -175,16 +164,14 @@ impl<'r, F: Files> Reloader for Reloading<'r, F> {
         }
     }
 
-    /// A server refuses a configuration only if it has more UPSes than there have been at a time and memory for them is
-    /// lacking. So it has accepted one if it has as many UPSes.
-    fn tell(&mut self, server: &Server, reports: &mut Reports<'_>) {
-        let Some(given) = self.given.take() else {
+    /// A server refuses a configuration only for a lack of memory.
+    fn tell(&mut self, answer: &Result<(), Refused>, reports: &mut Reports<'_>) {
+        let Some(changes) = self.changes.take() else {
             return;
         };
-        if server.config().number_of_upses() == given.upses {
-            reports.tell(ReloadReport::Reloaded(given.changes.as_str()));
-        } else {
-            tell_not_reloaded(&FileFault::Memory, None, reports.err());
+        match answer {
+            Ok(()) => reports.tell(ReloadReport::Reloaded(changes.as_str())),
+            Err(_) => tell_not_reloaded(&FileFault::Memory, None, reports.err()),
         }
     }
 }

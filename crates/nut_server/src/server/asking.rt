@@ -99,15 +99,10 @@ impl Server {
         self.parts.devices.get(u).map(Device::unread)
     }
 
-    /// How many deeds of clients there were: requests that were handed on to a driver, LOGIN, LOGOUT and FSD that were
-    /// granted, and answers ACCESS-DENIED.
-    pub fn deeds(&self) -> u64 {
-        self.parts.deeds.count()
-    }
-
-    /// Returns the last deed of a client, if there was one.
-    pub fn last_deed(&self) -> Option<&Deed> {
-        self.parts.deeds.last()
+    /// Returns the last deed of the client whose bytes were the last arrival, if it did one by them: a request that was handed
+    /// on to a driver, a LOGIN, LOGOUT or FSD that was granted, or one that was answered ACCESS-DENIED.
+    pub fn deed(&self) -> Option<&Deed> {
+        self.parts.deed.as_ref()
     }
 
     /// How many bytes wait for the driver of a UPS, at most [`ASKS_MAX`]: 0 where there is no such UPS.

@@ -18,6 +18,7 @@ ghost use Rattle.nut_server.specs.inside.Lines.{IsHeard, IsMissed, line_heard_by
 ghost use Rattle.nut_server.specs.inside.Place.{Stands};
 
 use crate::decision::{Decision, decide};
+use crate::deeds::note;
 use crate::effect::Effect;
 use crate::plain::{kept_end, write_answer};
 use crate::scene::Scene;
@@ -64,7 +65,8 @@ impl Parts {
             .answer(at, self.scratch.as_slice(), &[], &effect)?;
         effect.act(&mut self.devices, self.line.as_slice());
         self.given = effect.given_after(self.given);
-        self.deeds.note(
+        note(
+            &mut self.deed,
             self.connections.at(at),
             &effect,
             self.line.as_slice(),

@@ -5,56 +5,61 @@ ghost use Rattle.nut_server_loop.specs.Record.{MayCome};
 ghost use Rattle.nut_server_loop.specs.declared.types.Next.TheVariants as next;
 ghost use Rattle.nut_server_sockets.specs.Turns.{Comes, IsGivenBy, is_piece, moment_of};
 
-use crate::door::{Admission, Guest, concerns_one};
+use crate::door::{Guest, concerns_one};
 use crate::sockets::Sockets;
 use crate::source::Source;
 use arrayvec::ArrayVec;
 use nut_io::Piece;
 use nut_poll::Reports;
-use nut_server::Server;
+use nut_server::{Refused, Server};
 use nut_server_loop::Next;
 use nut_server_spec::ADDRESS_MAX;
 use std::io::{ErrorKind, Write};
 use std::net::IpAddr;
 
 impl Sockets {
-    /// Keeps the socket of a connection that the server accepted, and reports that it refused one. Returns the number of a
-    /// connection that the server accepted and whose socket can't be kept.
-    pub(super) fn seat(&mut self, server: &Server, reports: &mut Reports<'_>) -> Option<u64>
+    /// Keeps the socket of the announced client, if there is one, or reports that the server refused it.
+    pub(super) fn seat(
+        &mut self,
+        server: &Server,
+        answer: &Result<(), Refused>,
+        reports: &mut Reports<'_>,
+    )
         ensures { self.new.rounds ≡ self.old.rounds }
     {
-        if !self.door.has_arrival() {
-            return None;
+        if self.door.has_announced() {
+            self.seat_announced(server, answer, reports);
         }
-        self.seat_arrival(server, reports)
     }
 
     /// Does what [`seat`](Self::seat) does. It stands apart, so that no other arrival pays for the place of a guest.
     #[inline(never)]
-    fn seat_arrival(&mut self, server: &Server, reports: &mut Reports<'_>) -> Option<u64>
+    fn seat_announced(
+        &mut self,
+        server: &Server,
+        answer: &Result<(), Refused>,
+        reports: &mut Reports<'_>,
+    )
         ensures { self.new.rounds ≡ self.old.rounds }
     {
-        match self.door.admission(server)? {
-            Admission::Accepted(number, guest) => self.keep(number, guest, reports),
-            Admission::Refused => {
-                self.hindrances.tell_refusal(server, reports);
-                None
-            }
+        let Some(guest) = self.door.take_announced() else {
+            return;
+        };
+        match answer {
+            Ok(()) => self.keep(server.opened(), guest, reports),
+            Err(_) => self.hindrances.tell_refusal(server, reports),
         }
     }
 
-    /// Keeps the socket of a connection. Returns its number if that is impossible.
-    fn keep(&mut self, number: u64, guest: Guest, reports: &mut Reports<'_>) -> Option<u64>
+    /// Keeps the socket of a connection. If that is impossible, the connection is closed next.
+    fn keep(&mut self, number: u64, guest: Guest, reports: &mut Reports<'_>)
         ensures { self.new.rounds ≡ self.old.rounds }
     {
         match self.clients.add(self.rounds.registry(), number, guest) {
-            Ok(()) => {
-                self.hindrances.end();
-                None
-            }
+            Ok(()) => self.hindrances.end(),
             Err(error) => {
                 self.hindrances.tell_error(error, reports);
-                Some(number)
+                self.unkept = Some(number);
             }
         }
     }
@@ -79,7 +84,8 @@ impl Sockets {
         self.admit_guest(server, piece, reports)
     }
 
-    /// Does what [`admit`](Self::admit) does, if a client was accepted. It stands apart as [`seat_arrival`](Self::seat_arrival).
+    /// Does what [`admit`](Self::admit) does, if a client was accepted. It stands apart as
+    /// [`seat_announced`](Self::seat_announced).
     #[inline(never)]
     fn admit_guest(
         &mut self,
@@ -97,7 +103,7 @@ impl Sockets {
             self.turn_out(server, number, reports);
             return Some(Next::Close(number));
         }
-        let address = self.door.announce(server.opened())?;
+        let address = self.door.announce()?;
         show_address(address, piece);
         Some(Next::Open)
     }
@@ -106,9 +112,10 @@ impl Sockets {
     fn turn_out(&mut self, server: &Server, number: u64, reports: &mut Reports<'_>)
         ensures { self.new.rounds ≡ self.old.rounds }
     {
-        if let Some(address) = self.clients.turn_out(number) {
+        if let Some(address) = self.clients.address(number) {
             self.hindrances.tell_way(address, server, reports);
         }
+        self.close(number, reports);
     }
 
     /// Accepts a client. If there is no descriptor for one, that is reported, and tried again in the next second.

@@ -10,7 +10,7 @@ use crate::report::Report;
 use crate::sockets::Sockets;
 use crate::source::Source;
 use nut_poll::Reports;
-use nut_server::{Config, Server, silence_before_ping};
+use nut_server::{Config, Refused, Server, silence_before_ping};
 
 impl Sockets {
     /// Closes the socket of a client that was silent for too long. Returns the number of its connection.
@@ -30,7 +30,7 @@ impl Sockets {
     {
         let silent = self.clients.find_silent(server)?;
         reports.tell(Report::Shed(silent.address, silent.seconds));
-        self.drop_client(silent.number, reports);
+        self.close(silent.number, reports);
         Some(silent.number)
     }
 
@@ -52,11 +52,11 @@ impl Sockets {
         Some(config)
     }
 
-    /// Once the server has been told a new configuration, has that reported, and takes the drivers of the UPSes that the
-    /// server has now.
+    /// Once the server has answered a new configuration, has that reported, and follows the UPSes that the server has now.
     pub(super) fn end_reload(
         &mut self,
         server: &Server,
+        answer: &Result<(), Refused>,
         reloader: &mut impl Reloader,
         reports: &mut Reports<'_>,
     )
@@ -64,7 +64,7 @@ impl Sockets {
     {
         if self.has_given {
             self.has_given = false;
-            reloader.tell(server, reports);
+            reloader.tell(answer, reports);
             self.drivers.follow(server);
             self.call_drivers();
         }
@@ -92,7 +92,7 @@ impl Sockets {
         self.moment = moment;
         self.clients.second();
         self.hindrances.second();
-        self.audit.second(reports);
+        self.denials.second(reports);
         self.drivers.catch_up(server);
         self.tell_changes(server, reports);
         self.call_drivers();

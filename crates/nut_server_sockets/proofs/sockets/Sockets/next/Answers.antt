@@ -1,44 +1,42 @@
-use Rattle.std.proofs.Common.{◌≡◌, None, refl, rules, sym, subst, ◌∙◌}
+use Rattle.std.proofs.Common.{◌≡◌, None, refl, rules, ◌∙◌}
 use Rattle.nut_server_loop.specs.declared.types.Next.TheVariants.{Again, Close, Reload}
-use Rattle.nut_server_sockets.specs.Turns.{Comes, ComesInTurn}
-use Rattle.nut_server_sockets.proofs.TurnLemmas.{came_of_none, in_turn, none_came, none_told, one_told}
+use Rattle.nut_server_sockets.specs.Turns.{ComesInTurn}
+use Rattle.nut_server_sockets.proofs.TurnLemmas.{came_of_none, in_turn, none_came, none_told, one_told, stays}
 use Rattle.nut_server_sockets.proofs.sockets.Sockets.next.Goals as goal
 
 pub returns-in-Some-clause-turns : goal.returns-in-Some-clause-turns
 returns-in-Some-clause-turns g c =
     let now = c.args.self.now.rounds in
-    came_of_none (Close c.in-Some.number) now c.seat.new.self.rounds refl refl (subst (Comes now) (sym c.seat.ensures) c.end_reload.ensures)
+    came_of_none (Close c.in-Some.number) now now refl refl (stays now now refl)
 
 pub returns-in-Some-admit-clause-turns : goal.returns-in-Some-admit-clause-turns
 returns-in-Some-admit-clause-turns g c =
     let now = c.args.self.now.rounds in
     came_of_none c.in-Some-admit.next now c.admit.new.self.rounds c.in-Some-admit.ensures.none.0 c.in-Some-admit.ensures.none.1
-    (subst (Comes now) (sym (c.admit.ensures.turns ∙ c.seat.ensures)) c.end_reload.ensures)
+    (stays now c.admit.new.self.rounds c.admit.ensures.turns)
 
 pub returns-in-Some-shed-clause-turns : goal.returns-in-Some-shed-clause-turns
 returns-in-Some-shed-clause-turns g c =
     let now = c.args.self.now.rounds in
     came_of_none (Close c.in-Some-shed.number) now c.shed.new.self.rounds refl refl
-    (subst (Comes now) (sym (c.shed.ensures ∙ c.admit.ensures.turns ∙ c.seat.ensures)) c.end_reload.ensures)
+    (stays now c.shed.new.self.rounds (c.shed.ensures ∙ c.admit.ensures.turns))
 
 pub returns-in-Some-reload-clause-turns : goal.returns-in-Some-reload-clause-turns
 returns-in-Some-reload-clause-turns g c =
     let now = c.args.self.now.rounds in
     came_of_none (Reload c.in-Some-reload.config) now c.reload.new.self.rounds refl refl
-    (subst (Comes now) (sym (c.reload.ensures ∙ c.shed.ensures ∙ c.admit.ensures.turns ∙ c.seat.ensures)) c.end_reload.ensures)
+    (stays now c.reload.new.self.rounds (c.reload.ensures ∙ c.shed.ensures ∙ c.admit.ensures.turns))
 
 pub returns-in-Some-look-clause-turns : goal.returns-in-Some-look-clause-turns
 returns-in-Some-look-clause-turns g c =
     let now = c.args.self.now.rounds in
-    let came : Comes now c.reload.new.self.rounds =
-    subst (Comes now) (sym (c.reload.ensures ∙ c.shed.ensures ∙ c.admit.ensures.turns ∙ c.seat.ensures)) c.end_reload.ensures in
+    let came = stays now c.reload.new.self.rounds (c.reload.ensures ∙ c.shed.ensures ∙ c.admit.ensures.turns) in
     in_turn c.in-Some-look.next now c.reload.new.self.rounds c.look.new.self.rounds (none_came now c.reload.new.self.rounds came) c.in-Some-look.ensures.turns
 
 pub returns-in-Some-2-clause-turns : goal.returns-in-Some-2-clause-turns
 returns-in-Some-2-clause-turns g c =
     let now = c.args.self.now.rounds in
-    let came : Comes now c.reload.new.self.rounds =
-    subst (Comes now) (sym (c.reload.ensures ∙ c.shed.ensures ∙ c.admit.ensures.turns ∙ c.seat.ensures)) c.end_reload.ensures in
+    let came = stays now c.reload.new.self.rounds (c.reload.ensures ∙ c.shed.ensures ∙ c.admit.ensures.turns) in
     let looked : ComesInTurn Again now c.look.new.self.rounds =
     in_turn Again now c.reload.new.self.rounds c.look.new.self.rounds (none_came now c.reload.new.self.rounds came) c.in_default-look.ensures.turns in
     one_told c.in-Some-2.moment c.in_ok-moment.field-0 now c.look.new.self.rounds c.wait.new.self.rounds c.begin_second.new.self.rounds
@@ -47,8 +45,7 @@ returns-in-Some-2-clause-turns g c =
 pub returns-in-Some-look-2-clause-turns : goal.returns-in-Some-look-2-clause-turns
 returns-in-Some-look-2-clause-turns g c =
     let now = c.args.self.now.rounds in
-    let came : Comes now c.reload.new.self.rounds =
-    subst (Comes now) (sym (c.reload.ensures ∙ c.shed.ensures ∙ c.admit.ensures.turns ∙ c.seat.ensures)) c.end_reload.ensures in
+    let came = stays now c.reload.new.self.rounds (c.reload.ensures ∙ c.shed.ensures ∙ c.admit.ensures.turns) in
     let looked : ComesInTurn Again now c.look.new.self.rounds =
     in_turn Again now c.reload.new.self.rounds c.look.new.self.rounds (none_came now c.reload.new.self.rounds came) c.in_default-look.ensures.turns in
     let none : c.in_ok-moment.field-0 ≡ None = search rules in
@@ -58,8 +55,7 @@ returns-in-Some-look-2-clause-turns g c =
 pub returns-in-None-clause-turns : goal.returns-in-None-clause-turns
 returns-in-None-clause-turns g c =
     let now = c.args.self.now.rounds in
-    let came : Comes now c.reload.new.self.rounds =
-    subst (Comes now) (sym (c.reload.ensures ∙ c.shed.ensures ∙ c.admit.ensures.turns ∙ c.seat.ensures)) c.end_reload.ensures in
+    let came = stays now c.reload.new.self.rounds (c.reload.ensures ∙ c.shed.ensures ∙ c.admit.ensures.turns) in
     let looked : ComesInTurn Again now c.look.new.self.rounds =
     in_turn Again now c.reload.new.self.rounds c.look.new.self.rounds (none_came now c.reload.new.self.rounds came) c.in_default-look.ensures.turns in
     let none : c.in_ok-moment.field-0 ≡ None = search rules in
