@@ -6,6 +6,7 @@ ghost use Rattle.nut_server_spec.specs.Content.{Content, content};
 ghost use Rattle.nut_server.specs.Arrival.{event_of};
 ghost use Rattle.nut_server_loop.specs.Record.{is_reload, LeadsTo, NothingIsWithheld, NoRequestIsWithheld, NobodyLeaves};
 ghost use Rattle.nut_server_loop.specs.Record as entry;
+ghost use Rattle.nut_server_loop.specs.inside.Going.{Ready, Goes};
 ghost use Rattle.nut_server_loop.specs.Served.{Ended, ended_by_lack, ended_in, to_close, Served, ServedBefore};
 
 use crate::settling::{settle, settle_all};
@@ -46,14 +47,10 @@ pub fn serve<W: World>(rt: &impl Wait, server: &mut Server, world: &mut W) -> Re
 /// Serves until the world ends, from any point of a history at which nothing is left to close.
 fn go_on<W: World>(rt: &impl Wait, server: &mut Server, world: &mut W) -> Result<(), ServeFault>
     ghost first: { Configuration }
-    requires served { Served first (W.log world.old) server.old [] }
-    requires few { W.fault_count world.old < 2 ^ 64 - 1 }
-    ensures err { OnErr result ((owed : List Ended) × Served first (W.log world.new) server.new owed) }
-    ensures ok { OnOk result (Served first (W.log world.new) server.new []) }
+    requires ready { Ready W.fault_count W.log first world.old server.old }
+    ensures goes { Goes W.fault_count W.log W.reached first world.old result world.new server.new }
     ensures left { OnOk result (NobodyLeaves server.new) }
     ensures ended { OnOk result (W.has_ended world.new server.new) }
-    ensures fault { OnErr result (W.fault_count world.old < W.fault_count world.new) }
-    ensures reached { W.reached world.old world.new }
 {
     let mut piece = Piece::new();
     for _ in rt.forever() {
@@ -71,14 +68,10 @@ fn settle_and_turn<W: World>(
     piece: &mut Piece,
 ) -> Result<bool, Fault>
     ghost first: { Configuration }
-    requires few { W.fault_count world.old < 2 ^ 64 - 1 }
-    requires served { Served first (W.log world.old) server.old [] }
-    ensures err { OnErr result ((owed : List Ended) × Served first (W.log world.new) server.new owed) }
-    ensures ok { OnOk result (Served first (W.log world.new) server.new []) }
+    requires ready { Ready W.fault_count W.log first world.old server.old }
+    ensures goes { Goes W.fault_count W.log W.reached first world.old result world.new server.new }
     ensures left { result ≡ Ok false → NobodyLeaves server.new }
     ensures ended { result ≡ Ok false → W.has_ended world.new server.new }
-    ensures counted { W.fault_count world.new ≡ (if is_ok result then W.fault_count world.old else W.fault_count world.old + 1) }
-    ensures reached { W.reached world.old world.new }
 {
     settle_all(server, world)?;
     turn(server, world, piece)
@@ -88,17 +81,13 @@ fn settle_and_turn<W: World>(
 /// the world.
 fn turn<W: World>(server: &mut Server, world: &mut W, piece: &mut Piece) -> Result<bool, Fault>
     ghost first: { Configuration }
-    requires few { W.fault_count world.old < 2 ^ 64 - 1 }
+    requires ready { Ready W.fault_count W.log first world.old server.old }
     requires withheld { NothingIsWithheld (W.late world.old) server.old }
     requires requests { NoRequestIsWithheld (W.driver_late world.old) server.old }
     requires left { NobodyLeaves server.old }
-    requires served { Served first (W.log world.old) server.old [] }
-    ensures err { OnErr result ((owed : List Ended) × Served first (W.log world.new) server.new owed) }
-    ensures ok { OnOk result (Served first (W.log world.new) server.new []) }
+    ensures goes { Goes W.fault_count W.log W.reached first world.old result world.new server.new }
     ensures left { result ≡ Ok false → NobodyLeaves server.new }
     ensures ended { result ≡ Ok false → W.has_ended world.new server.new }
-    ensures counted { W.fault_count world.new ≡ (if is_ok result then W.fault_count world.old else W.fault_count world.old + 1) }
-    ensures reached { W.reached world.old world.new }
 {
     match world.next(server, piece)? {
         Next::End => Ok(false),
@@ -169,7 +158,8 @@ fn hand_on<W: World>(
     ensures err { OnErr result ((owed : List Ended) × Served first (W.log world.new) server.new owed) }
     ensures ok { OnOk result (Served first (W.log world.new) server.new []) }
     ensures counted { W.fault_count world.new ≡ (if is_ok result then W.fault_count world.old else W.fault_count world.old + 1) }
-    ensures reached { (w : W) → LeadsTo (entry.arrival_of next.now piece.now.items) (W.awaits w world.old) (W.reached w world.old) → W.reached w world.new }
+    ensures reached { (w : W) → LeadsTo (entry.arrival_of next.now piece.now.items) (W.awaits w world.old) (W.reached w world.old)
+        → W.reached w world.new }
 {
     let Some(arrival) = arrival_of(next, piece) else {
         return Ok(());
@@ -187,12 +177,8 @@ fn hand_on<W: World>(
 /// Settles the connection whose bytes were handled. In most cases no other is unsettled, which saves a search.
 fn settle_heard<W: World>(server: &mut Server, world: &mut W, next: &Next) -> Result<(), Fault>
     ghost first: { Configuration }
-    requires few { W.fault_count world.old < 2 ^ 64 - 1 }
-    requires served { Served first (W.log world.old) server.old [] }
-    ensures err { OnErr result ((owed : List Ended) × Served first (W.log world.new) server.new owed) }
-    ensures ok { OnOk result (Served first (W.log world.new) server.new []) }
-    ensures counted { W.fault_count world.new ≡ (if is_ok result then W.fault_count world.old else W.fault_count world.old + 1) }
-    ensures reached { W.reached world.old world.new }
+    requires ready { Ready W.fault_count W.log first world.old server.old }
+    ensures goes { Goes W.fault_count W.log W.reached first world.old result world.new server.new }
 {
     match next {
         Next::Bytes(c) => settle(server, world, *c),

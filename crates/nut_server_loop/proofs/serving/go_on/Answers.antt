@@ -1,4 +1,4 @@
-use Rattle.std.proofs.Common.{refl, ◌∙◌, arith}
+use Rattle.std.proofs.Common.{rules, refl, ◌∙◌, arith}
 use Rattle.std.proofs.lemmas.Grind.{common_steps}
 use Rattle.nut_server_loop.proofs.Steps.{at_err}
 use Rattle.nut_server_loop.proofs.serving.go_on.Goals as goal
@@ -10,23 +10,29 @@ pub returns-then-not-branch-clause-ended : goal.returns-then-not-branch-clause-e
 returns-then-not-branch-clause-ended g c = grind (arith, common_steps)
 
 pub loop-init : goal.loop-init
-loop-init g c = record { same_count = refl; served = c.requires.1.1.0; reached = g.met.W.World.reached_self _ }
+loop-init g c = record { same_count = refl; served = c.requires.1.1.served; reached = g.met.W.World.reached_self _ }
 
-pub returns-in_err-settle_and_turn-clause-err : goal.returns-in_err-settle_and_turn-clause-err
-returns-in_err-settle_and_turn-clause-err g c = at_err _ g.first _ _ _ c.in_err-settle_and_turn.ensures.err.1
+pub returns-in_err-settle_and_turn-clause-goes : goal.returns-in_err-settle_and_turn-clause-goes
+returns-in_err-settle_and_turn-clause-goes g c =
+    record {
+      ok = search rules;
+      err = at_err _ g.first _ _ _ c.in_err-settle_and_turn.ensures.goes.err.1;
+      counted = search rules;
+      reached = g.met.W.World.reached_on _ _ _ c.loop.invariant.reached c.in_err-settle_and_turn.ensures.goes.reached;
+    }
 
-pub returns-in_err-settle_and_turn-clause-reached : goal.returns-in_err-settle_and_turn-clause-reached
-returns-in_err-settle_and_turn-clause-reached g c = g.met.W.World.reached_on _ _ _ c.loop.invariant.reached c.in_err-settle_and_turn.ensures.reached
-
-pub returns-then-not-branch-clause-ok : goal.returns-then-not-branch-clause-ok
-returns-then-not-branch-clause-ok g c = c.in_ok-settle_and_turn.ensures.ok
-
-pub returns-then-not-branch-clause-reached : goal.returns-then-not-branch-clause-reached
-returns-then-not-branch-clause-reached g c = g.met.W.World.reached_on _ _ _ c.loop.invariant.reached c.in_ok-settle_and_turn.ensures.reached
+pub returns-then-not-branch-clause-goes : goal.returns-then-not-branch-clause-goes
+returns-then-not-branch-clause-goes g c =
+    record {
+      ok = c.in_ok-settle_and_turn.ensures.goes.ok;
+      err = search rules;
+      counted = search rules;
+      reached = g.met.W.World.reached_on _ _ _ c.loop.invariant.reached c.in_ok-settle_and_turn.ensures.goes.reached;
+    }
 
 pub loop-preserved : goal.loop-preserved
 loop-preserved g c = record {
-  same_count = c.in_ok-settle_and_turn.ensures.counted ∙ c.loop.invariant.same_count;
-  served = c.in_ok-settle_and_turn.ensures.ok;
-  reached = g.met.W.World.reached_on _ _ _ c.loop.invariant.reached c.in_ok-settle_and_turn.ensures.reached;
+  same_count = c.in_ok-settle_and_turn.ensures.goes.counted ∙ c.loop.invariant.same_count;
+  served = c.in_ok-settle_and_turn.ensures.goes.ok;
+  reached = g.met.W.World.reached_on _ _ _ c.loop.invariant.reached c.in_ok-settle_and_turn.ensures.goes.reached;
 }

@@ -9,7 +9,10 @@ use Rattle.nut_server_loop.proofs.serving.hand_on.Goals as goal
 pub settle_heard-requires : goal.settle_heard-requires
 settle_heard-requires g c = λ _ within. (
   within,
-  (subst (λ n. n < 2 ^ 64 - 1) (sym c.told.ensures.counted) c.requires.1.0, stays g.first _ _ _ _ c.told.ensures.log (gave_ending g.first _ _ _ _ _ _ _ _ _ None c.requires.1.1.1 c.arrival_of.ensures c.in-Some.is c.requires.1.1.0 c.arrive-answer.ensures.answered c.arrive-answer.ensures.stands c.place_of_lack.ensures c.in-None.is)),
+  record {
+    few = subst (λ n. n < 2 ^ 64 - 1) (sym c.told.ensures.counted) c.requires.1.0;
+    served = stays g.first _ _ _ _ c.told.ensures.log (gave_ending g.first _ _ _ _ _ _ _ _ _ None c.requires.1.1.1 c.arrival_of.ensures c.in-Some.is c.requires.1.1.0 c.arrive-answer.ensures.answered c.arrive-answer.ensures.stands c.place_of_lack.ensures c.in-None.is);
+  },
 )
 
 pub returns-in-Some-Line-clause-err : goal.returns-in-Some-Line-clause-err
@@ -49,7 +52,7 @@ pub returns-in_default-clause-reached : goal.returns-in_default-clause-reached
 returns-in_default-clause-reached g c = λ w leads. waits_not _ _ c.arrival_of.ensures c.in_default.is leads
 
 pub returns-in-None-clause-reached : goal.returns-in-None-clause-reached
-returns-in-None-clause-reached g c = λ w leads. g.met.W.World.reached_on w _ _ (c.told.ensures.reached w (waits_on _ _ _ c.arrival_of.ensures c.in-Some.is leads)) c.settle_heard.ensures.reached
+returns-in-None-clause-reached g c = λ w leads. g.met.W.World.reached_on w _ _ (c.told.ensures.reached w (waits_on _ _ _ c.arrival_of.ensures c.in-Some.is leads)) c.settle_heard.ensures.goes.reached
 
 pub returns-in-Some-Line-clause-reached : goal.returns-in-Some-Line-clause-reached
 returns-in-Some-Line-clause-reached g c = λ w leads. g.met.W.World.reached_on w _ _ (c.told.ensures.reached w (waits_on _ _ _ c.arrival_of.ensures c.in-Some.is leads)) c.close.ensures.reached

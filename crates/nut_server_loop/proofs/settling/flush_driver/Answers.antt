@@ -1,35 +1,44 @@
-use Rattle.std.proofs.Common.{refl, ◌∙◌}
+use Rattle.std.proofs.Common.{rules, refl, ◌∙◌}
 use Rattle.nut_server_loop.proofs.Steps.{at_err}
 use Rattle.nut_server_loop.proofs.settling.flush_driver.Goals as goal
 
 pub loop-init : goal.loop-init
 loop-init g c = record {
   same_count = refl;
-  served = c.requires.1.1;
+  served = c.requires.1.served;
   only = (refl, λ v ne. refl);
   late = λ d. refl;
   drivers = λ d is. is;
   reached = g.met.W.World.reached_self _;
 }
 
-pub returns-in_err-write_requests_once-clause-err : goal.returns-in_err-write_requests_once-clause-err
-returns-in_err-write_requests_once-clause-err g c = at_err _ g.first _ _ _ c.in_err-write_requests_once.ensures.err.1
-
-pub returns-in_err-write_requests_once-clause-reached : goal.returns-in_err-write_requests_once-clause-reached
-returns-in_err-write_requests_once-clause-reached g c = g.met.W.World.reached_on _ _ _ c.loop.invariant.reached c.in_err-write_requests_once.ensures.reached
+pub returns-in_err-write_requests_once-clause-goes : goal.returns-in_err-write_requests_once-clause-goes
+returns-in_err-write_requests_once-clause-goes g c =
+    record {
+      ok = search rules;
+      err = at_err _ g.first _ _ _ c.in_err-write_requests_once.ensures.goes.err.1;
+      counted = search rules;
+      reached = g.met.W.World.reached_on _ _ _ c.loop.invariant.reached c.in_err-write_requests_once.ensures.goes.reached;
+    }
 
 pub loop-preserved : goal.loop-preserved
 loop-preserved g c = record {
-  same_count = c.in_ok-write_requests_once.ensures.counted ∙ c.loop.invariant.same_count;
-  served = c.in_ok-write_requests_once.ensures.ok;
+  same_count = c.in_ok-write_requests_once.ensures.goes.counted ∙ c.loop.invariant.same_count;
+  served = c.in_ok-write_requests_once.ensures.goes.ok;
   only = (c.in_ok-write_requests_once.ensures.only.0 ∙ c.loop.invariant.only.0, λ v ne. c.in_ok-write_requests_once.ensures.only.1 v ne ∙ c.loop.invariant.only.1 v ne);
   late = λ d. c.in_ok-write_requests_once.ensures.late d ∙ c.loop.invariant.late d;
   drivers = λ d is. c.in_ok-write_requests_once.ensures.drivers d (c.loop.invariant.drivers d is);
-  reached = g.met.W.World.reached_on _ _ _ c.loop.invariant.reached c.in_ok-write_requests_once.ensures.reached;
+  reached = g.met.W.World.reached_on _ _ _ c.loop.invariant.reached c.in_ok-write_requests_once.ensures.goes.reached;
 }
 
-pub returns-clause-ok : goal.returns-clause-ok
-returns-clause-ok g c = c.in_ok-write_requests_once.ensures.ok
+pub returns-clause-goes : goal.returns-clause-goes
+returns-clause-goes g c =
+    record {
+      ok = c.in_ok-write_requests_once.ensures.goes.ok;
+      err = search rules;
+      counted = c.in_ok-write_requests_once.ensures.goes.counted ∙ c.loop.invariant.same_count;
+      reached = g.met.W.World.reached_on _ _ _ c.loop.invariant.reached c.in_ok-write_requests_once.ensures.goes.reached;
+    }
 
 pub returns-clause-only : goal.returns-clause-only
 returns-clause-only g c = (c.in_ok-write_requests_once.ensures.only.0 ∙ c.loop.invariant.only.0, λ v ne. c.in_ok-write_requests_once.ensures.only.1 v ne ∙ c.loop.invariant.only.1 v ne)
@@ -39,9 +48,3 @@ returns-clause-late g c = λ d. c.in_ok-write_requests_once.ensures.late d ∙ c
 
 pub returns-clause-drivers : goal.returns-clause-drivers
 returns-clause-drivers g c = λ d is. c.in_ok-write_requests_once.ensures.drivers d (c.loop.invariant.drivers d is)
-
-pub returns-clause-counted : goal.returns-clause-counted
-returns-clause-counted g c = c.in_ok-write_requests_once.ensures.counted ∙ c.loop.invariant.same_count
-
-pub returns-clause-reached : goal.returns-clause-reached
-returns-clause-reached g c = g.met.W.World.reached_on _ _ _ c.loop.invariant.reached c.in_ok-write_requests_once.ensures.reached

@@ -1,11 +1,17 @@
-use Rattle.std.proofs.Common.{◌<◌, [], length, refl, sym, subst, ◌∙◌, arith}
+use Rattle.std.proofs.Common.{rules, ◌<◌, [], length, refl, sym, subst, ◌∙◌, arith}
 use Rattle.nut_server_loop.proofs.Steps.{at_err, stays, whole_is_front}
 use Rattle.nut_server_loop.proofs.Writes.{write_took, write_late, write_broke, closed_ended}
 use Rattle.nut_server_loop.proofs.Settles.{waits_less, waits_some, only_took, none_waits, only_broke}
 use Rattle.nut_server_loop.proofs.settling.write_once.Goals as goal
 
-pub returns-then-is_empty-clause-ok : goal.returns-then-is_empty-clause-ok
-returns-then-is_empty-clause-ok g c = c.requires.1.1
+pub returns-then-is_empty-clause-goes : goal.returns-then-is_empty-clause-goes
+returns-then-is_empty-clause-goes g c =
+    record {
+      ok = c.requires.1.served;
+      err = search rules;
+      counted = search rules;
+      reached = g.met.W.World.reached_self _;
+    }
 
 pub returns-then-is_empty-clause-only : goal.returns-then-is_empty-clause-only
 returns-then-is_empty-clause-only g c = λ d ne. refl
@@ -13,43 +19,60 @@ returns-then-is_empty-clause-only g c = λ d ne. refl
 pub returns-then-is_empty-clause-late : goal.returns-then-is_empty-clause-late
 returns-then-is_empty-clause-late g c = λ d is. is
 
-pub returns-then-is_empty-clause-reached : goal.returns-then-is_empty-clause-reached
-returns-then-is_empty-clause-reached g c = g.met.W.World.reached_self _
-
-pub returns-in-Took-clause-ok : goal.returns-in-Took-clause-ok
-returns-in-Took-clause-ok g c =
-    write_took g.first _ _ _ _ c.args.c c.waiting-waiting.result.now _ c.in-Took.n _ c.requires.1.1 c.in-Took.is c.in_ok-n.ensures.ok c.in_ok-n.ensures.within (whole_is_front _ _ c.waiting-waiting.ensures) c.arrive.ensures.answered c.arrive.ensures.stands
+pub returns-in-Took-clause-goes : goal.returns-in-Took-clause-goes
+returns-in-Took-clause-goes g c =
+    record {
+      ok = write_took g.first _ _ _ _ c.args.c c.waiting-waiting.result.now _ c.in-Took.n _ c.requires.1.served c.in-Took.is c.in_ok-n.ensures.ok c.in_ok-n.ensures.within (whole_is_front _ _ c.waiting-waiting.ensures) c.arrive.ensures.answered c.arrive.ensures.stands;
+      err = search rules;
+      counted = search rules;
+      reached = search rules;
+    }
 
 pub returns-in-Took-clause-less : goal.returns-in-Took-clause-less
 returns-in-Took-clause-less g c = λ same.
-    waits_less g.first _ _ _ c.args.c c.waiting-waiting.result.now _ c.in-Took.n _ c.requires.1.1 c.in-Took.is c.in_ok-n.ensures.within (whole_is_front _ _ c.waiting-waiting.ensures) c.arrive.ensures.answered c.arrive.ensures.stands
+    waits_less g.first _ _ _ c.args.c c.waiting-waiting.result.now _ c.in-Took.n _ c.requires.1.served c.in-Took.is c.in_ok-n.ensures.within (whole_is_front _ _ c.waiting-waiting.ensures) c.arrive.ensures.answered c.arrive.ensures.stands
 
 pub returns-in-Took-clause-only : goal.returns-in-Took-clause-only
 returns-in-Took-clause-only g c =
-    only_took g.first _ _ _ c.args.c c.waiting-waiting.result.now _ c.in-Took.n _ c.requires.1.1 c.in-Took.is c.in_ok-n.ensures.within (whole_is_front _ _ c.waiting-waiting.ensures) c.arrive.ensures.answered c.arrive.ensures.stands
+    only_took g.first _ _ _ c.args.c c.waiting-waiting.result.now _ c.in-Took.n _ c.requires.1.served c.in-Took.is c.in_ok-n.ensures.within (whole_is_front _ _ c.waiting-waiting.ensures) c.arrive.ensures.answered c.arrive.ensures.stands
 
-pub returns-in-Later-clause-ok : goal.returns-in-Later-clause-ok
-returns-in-Later-clause-ok g c =
-    write_late g.first _ _ _ c.args.c c.waiting-waiting.result.now _ c.requires.1.1 c.in-Later.is c.in_ok-n.ensures.ok
+pub returns-in-Later-clause-goes : goal.returns-in-Later-clause-goes
+returns-in-Later-clause-goes g c =
+    record {
+      ok = write_late g.first _ _ _ c.args.c c.waiting-waiting.result.now _ c.requires.1.served c.in-Later.is c.in_ok-n.ensures.ok;
+      err = search rules;
+      counted = search rules;
+      reached = search rules;
+    }
 
-pub returns-in_ok-close-in-Failed-clause-ok : goal.returns-in_ok-close-in-Failed-clause-ok
-returns-in_ok-close-in-Failed-clause-ok g c =
-    closed_ended g.first _ _ _ c.args.c []
-    (write_broke g.first _ _ _ _ c.args.c c.waiting-waiting.result.now _ _ c.requires.1.1 c.in-Failed.is c.in_ok-n.ensures.ok (waits_some c.waiting-waiting.result.now _ c.waiting-waiting.ensures (sym c.is_empty.ensures ∙ c.if-is_empty.false)) c.arrive-in-Failed.ensures.answered c.arrive-in-Failed.ensures.stands)
-    c.in_ok-close-in-Failed.ensures.ok
+pub returns-in_ok-close-in-Failed-clause-goes : goal.returns-in_ok-close-in-Failed-clause-goes
+returns-in_ok-close-in-Failed-clause-goes g c =
+    record {
+      ok = closed_ended g.first _ _ _ c.args.c []
+          (write_broke g.first _ _ _ _ c.args.c c.waiting-waiting.result.now _ _ c.requires.1.served c.in-Failed.is c.in_ok-n.ensures.ok (waits_some c.waiting-waiting.result.now _ c.waiting-waiting.ensures (sym c.is_empty.ensures ∙ c.if-is_empty.false)) c.arrive-in-Failed.ensures.answered c.arrive-in-Failed.ensures.stands)
+          c.in_ok-close-in-Failed.ensures.ok;
+      err = search rules;
+      counted = search rules;
+      reached = search rules;
+    }
 
 pub returns-in_ok-close-in-Failed-clause-settled : goal.returns-in_ok-close-in-Failed-clause-settled
 returns-in_ok-close-in-Failed-clause-settled g c = λ same some.
-    let none = none_waits g.first _ _ _ c.args.c _ c.requires.1.1 (waits_some c.waiting-waiting.result.now _ c.waiting-waiting.ensures (sym c.is_empty.ensures ∙ c.if-is_empty.false)) c.arrive-in-Failed.ensures.answered c.arrive-in-Failed.ensures.stands in
+    let none = none_waits g.first _ _ _ c.args.c _ c.requires.1.served (waits_some c.waiting-waiting.result.now _ c.waiting-waiting.ensures (sym c.is_empty.ensures ∙ c.if-is_empty.false)) c.arrive-in-Failed.ensures.answered c.arrive-in-Failed.ensures.stands in
     let never : 0 < 0 = subst (λ xs. 0 < length xs) none some in
     absurd (omega arith)
 
 pub returns-in_ok-close-in-Failed-clause-only : goal.returns-in_ok-close-in-Failed-clause-only
 returns-in_ok-close-in-Failed-clause-only g c =
-    only_broke g.first _ _ _ c.args.c _ c.requires.1.1 (waits_some c.waiting-waiting.result.now _ c.waiting-waiting.ensures (sym c.is_empty.ensures ∙ c.if-is_empty.false)) c.arrive-in-Failed.ensures.answered c.arrive-in-Failed.ensures.stands
+    only_broke g.first _ _ _ c.args.c _ c.requires.1.served (waits_some c.waiting-waiting.result.now _ c.waiting-waiting.ensures (sym c.is_empty.ensures ∙ c.if-is_empty.false)) c.arrive-in-Failed.ensures.answered c.arrive-in-Failed.ensures.stands
 
-pub returns-in_err-close-in-Failed-clause-err : goal.returns-in_err-close-in-Failed-clause-err
-returns-in_err-close-in-Failed-clause-err g c =
-    at_err _ g.first _ _ _
-    (stays g.first _ _ _ _ c.in_err-close-in-Failed.ensures.err
-    (write_broke g.first _ _ _ _ c.args.c c.waiting-waiting.result.now _ _ c.requires.1.1 c.in-Failed.is c.in_ok-n.ensures.ok (waits_some c.waiting-waiting.result.now _ c.waiting-waiting.ensures (sym c.is_empty.ensures ∙ c.if-is_empty.false)) c.arrive-in-Failed.ensures.answered c.arrive-in-Failed.ensures.stands))
+pub returns-in_err-close-in-Failed-clause-goes : goal.returns-in_err-close-in-Failed-clause-goes
+returns-in_err-close-in-Failed-clause-goes g c =
+    record {
+      ok = search rules;
+      err = at_err _ g.first _ _ _
+          (stays g.first _ _ _ _ c.in_err-close-in-Failed.ensures.err
+          (write_broke g.first _ _ _ _ c.args.c c.waiting-waiting.result.now _ _ c.requires.1.served c.in-Failed.is c.in_ok-n.ensures.ok (waits_some c.waiting-waiting.result.now _ c.waiting-waiting.ensures (sym c.is_empty.ensures ∙ c.if-is_empty.false)) c.arrive-in-Failed.ensures.answered c.arrive-in-Failed.ensures.stands));
+      counted = search rules;
+      reached = search rules;
+    }
