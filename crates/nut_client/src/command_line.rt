@@ -5,7 +5,7 @@ ghost use Rattle.nut_conf.specs.Target.{parted as parted_at};
 ghost use Rattle.nut_client.specs.CommandLine.{is_given as given, names_server as server_named, options_of as options_meant, until as until_meant};
 ghost use Rattle.nut_client.specs.inside.Reading.{AreOptions, IsReadBy, IsRefusalOf};
 ghost use Rattle.nut_client.specs.declared.command_line.Refusal.TheVariants.{Failed};
-ghost use Rattle.nut_client.specs.declared.failure.Failure.TheVariants.{Memory};
+ghost use Rattle.nut_client.specs.declared.failure.Failure.TheVariants.{BadArguments, BadName, Memory};
 ghost use Rattle.nut_client.specs.declared.wanted.Wanted.TheVariants.{Does};
 
 use crate::destination::{read_server, read_target};
@@ -31,6 +31,22 @@ pub(crate) enum Refusal {
     Usage(clap::Error),
     /// It was read, and this is wrong with it.
     Failed(Failure),
+}
+
+impl Refusal {
+    /// Whether the words were read, but the name of the UPS, its host or its port isn't valid.
+    pub fn is_bad_name(&self) -> bool
+        ensures { result ≡ true → self.now ≡ Failed BadName }
+    {
+        matches!(self, Refusal::Failed(Failure::BadName))
+    }
+
+    /// Whether the words were read, but are no combination that the tool knows.
+    pub fn is_bad_combination(&self) -> bool
+        ensures { result ≡ true → self.now ≡ Failed BadArguments }
+    {
+        matches!(self, Refusal::Failed(Failure::BadArguments))
+    }
 }
 
 impl From<clap::Error> for Refusal {
@@ -136,26 +152,19 @@ pub(crate) fn parted_at_equals(bytes: &[u8]) -> Option<(&[u8], &[u8])>
     }
 }
 
-/// Returns how long a tool stays, by whether the flag to wait was given.
-pub(crate) fn until(wait: bool) -> Until
-    ensures { result ≡ until_meant wait }
-{
-    if wait { Until::Ended } else { Until::Accepted }
-}
-
-/// Returns a deed for the user of this name and password.
+/// Returns a deed for the user of this name and password, and how long a tool stays, by whether the flag to wait was given.
 pub(crate) fn deed_by<'a>(
     user: &'a str,
     password: &'a str,
     deed: Deed<'a>,
-    until: Until,
+    wait: bool,
 ) -> Wanted<'a>
-    ensures { result ≡ Does user.entry.now password.entry.now deed.entry until }
+    ensures { result ≡ Does user.entry.now password.entry.now deed.entry (until_meant wait) }
 {
     Wanted::Does(
         Word::new(user.as_bytes()),
         Word::new(password.as_bytes()),
         deed,
-        until,
+        if wait { Until::Ended } else { Until::Accepted },
     )
 }

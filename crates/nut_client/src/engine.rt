@@ -85,7 +85,7 @@ fn put_failure<E: Output>(err: &mut E, failure: &Failure)
 }
 
 /// Writes to the error output why there is no output, or only a part of it. Returns the exit status.
-fn fail<E: Output>(failure: Failure, err: &mut E) -> u8
+pub(crate) fn fail<E: Output>(failure: Failure, err: &mut E) -> u8
     ensures { Reports failure result (written E.contents E.has_failed err.old err.new) }
 {
     put_failure(err, &failure);

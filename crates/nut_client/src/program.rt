@@ -1,15 +1,15 @@
 //! The tools as programs.
-use crate::destination::Destination;
+use crate::command_line::{Options, Refusal};
 use crate::dialing::dial_host;
-use crate::engine::{put_all, refuse_words, tell};
+use crate::engine::{fail, put_all, refuse_words, tell_refusal};
 use crate::failure::Failure;
 use crate::output::{Output, WriterOutput};
-use crate::password::{PasswordFault, take_password};
-use crate::tool::Tool;
+use crate::password::with_password;
+use crate::tool::{Tool, run_options};
 use nut_program::{TOOL_STACK, hold_closed_streams, low_stack};
 use std::alloc::AllocGlobal;
 use std::env::Env;
-use std::io::{Input, Print, Write};
+use std::io::{ErrorKind, Input, Print, Write};
 use std::net::Net;
 use std::process::ExitCode;
 use std::rt::Files;
@@ -55,105 +55,76 @@ where
     R: Clock + Env + Files + Input + Net + Print + AllocGlobal,
 {
     let _held = hold_closed_streams(rt, rt.alloc())?;
-    run_command_line(rt, tool, err)
-}
-
-/// Runs a tool with the words of the command line.
-fn run_command_line<R, E: Output>(rt: &R, tool: Tool, err: &mut E) -> io::Result<u8>
-where
-    R: Clock + Env + Input + Net + Print + AllocGlobal,
-{
-    let mut words = env::args(rt)?.collect(rt.alloc())?;
-    Ok(run_words(rt, tool, &mut words, err))
+    let words: Vec<String> = env::args(rt)?.collect(rt.alloc())?;
+    Ok(run_words(rt, tool, words.as_slice(), err))
 }
 
 /// Runs a tool with these words, the program's name first. Returns the exit status.
-fn run_words<R, E: Output>(rt: &R, tool: Tool, words: &mut Vec<String>, err: &mut E) -> u8
+fn run_words<R, E: Output>(rt: &R, tool: Tool, words: &[String], err: &mut E) -> u8
 where
     R: Clock + Input + Net + Print + AllocGlobal,
 {
-    match tool.target(rt.alloc(), words.as_slice()) {
-        Ok(Some(destination)) => ask_for_words(rt, tool, words, &destination, err),
-        Ok(None) => refuse_combination(rt, tool, words.as_slice(), err),
-        Err(_) => fail(rt, Failure::Memory, err),
+    match tool.read_options(rt.alloc(), words) {
+        Ok(options) => run_with_password(rt, tool, options, err),
+        Err(refusal) => refuse(rt, tool, words, refusal, err),
     }
 }
 
-/// Reads the password if the words ask for that, and runs a tool with them. Returns the exit status.
-fn ask_for_words<R, E: Output>(
-    rt: &R,
-    tool: Tool,
-    words: &mut Vec<String>,
-    destination: &Destination,
-    err: &mut E,
-) -> u8
+/// Reads the password if the options ask for that, and runs a tool with them. Returns the exit status.
+fn run_with_password<R, E: Output>(rt: &R, tool: Tool, options: Options<'_>, err: &mut E) -> u8
 where
     R: Clock + Input + Net + Print + AllocGlobal,
 {
-    match take_password(rt.alloc(), words, rt) {
-        Ok(()) => ask_destination(rt, tool, words.as_slice(), destination, err),
-        Err(PasswordFault::Memory) => fail(rt, Failure::Memory, err),
-        Err(PasswordFault::Missing) => {
+    let mut line = String::new(rt.alloc());
+    let Options { target, wanted } = options;
+    match with_password(wanted, rt, &mut line) {
+        Ok(wanted) => run_over_tcp(rt, tool, Options { target, wanted }, err),
+        Err(error) if error.kind() == ErrorKind::OutOfMemory => fail(Failure::Memory, err),
+        Err(_) => {
             put_line(tool, "no password on standard input", err);
             1
         }
     }
 }
 
-/// Connects to the server, and runs a tool with these words. Returns the exit status.
-fn ask_destination<R, E: Output>(
-    rt: &R,
-    tool: Tool,
-    words: &[String],
-    destination: &Destination,
-    err: &mut E,
-) -> u8
+/// Connects to the server, and runs a tool with these options. If no connection is made, a line of its own says why; it is
+/// dropped if memory for it cannot be allocated. Returns the exit status.
+fn run_over_tcp<R, E: Output>(rt: &R, tool: Tool, options: Options<'_>, err: &mut E) -> u8
 where
     R: Clock + Net + Print + AllocGlobal,
 {
-    let mut out = WriterOutput::new(io::writer(rt));
-    match dial_host(rt, &destination.host, destination.port) {
-        Ok(mut stream) => tool.run(rt, rt.alloc(), words, &mut stream, &mut out, err),
+    let (host, port) = (&options.target.host, options.target.port);
+    match dial_host(rt, host, port) {
+        Ok(mut stream) => {
+            let mut out = WriterOutput::new(io::writer(rt));
+            run_options(rt, rt.alloc(), options, &mut stream, &mut out, err)
+        }
         Err(error) => {
-            let status = tool.run_alone(rt.alloc(), words, &mut out, err);
-            tell_undialled(rt, tool, destination, &error, err);
+            let status = fail(Failure::NoConnection, err);
+            let name = tool.name();
+            let host = str::from_utf8(host.as_bytes()).unwrap_or("");
+            if let Ok(line) = format!(in rt.alloc(); "{name}: {host}:{}: {error}\n", port.number) {
+                put_all(err, line.as_bytes());
+            }
             status
         }
     }
 }
 
-/// Writes why no connection was made, on a line of its own. It is dropped if memory for it cannot be allocated.
-fn tell_undialled<R, E: Output>(
-    rt: &R,
-    tool: Tool,
-    destination: &Destination,
-    error: &io::Error,
-    err: &mut E,
-)
-where
-    R: AllocGlobal,
-{
-    let name = tool.name();
-    let host = str::from_utf8(destination.host.as_bytes()).unwrap_or("");
-    let port = destination.port.number;
-    if let Ok(line) = format!(in rt.alloc(); "{name}: {host}:{port}: {error}\n") {
-        put_all(err, line.as_bytes());
-    }
-}
-
-/// Writes why words that name no server can't be run, or the text that they ask for. If a name isn't valid, a second line
-/// says what it looks like. If they are no combination that the tool knows, its usage comes last, below what keeps them from
-/// being one, if that is known. Returns the exit status.
-fn refuse_combination<R, E: Output>(rt: &R, tool: Tool, words: &[String], err: &mut E) -> u8
+/// Writes why these words give no options, or the text that they ask for. If a name isn't valid, a second line says what it
+/// looks like. If the words are no combination that the tool knows, its usage comes last, below what keeps them from being
+/// one, if that is known. Returns the exit status.
+fn refuse<R, E: Output>(rt: &R, tool: Tool, words: &[String], refusal: Refusal, err: &mut E) -> u8
 where
     R: Print + AllocGlobal,
 {
+    let (is_bad_name, is_bad_combination) = (refusal.is_bad_name(), refusal.is_bad_combination());
     let mut out = WriterOutput::new(io::writer(rt));
-    let status = tool.run_alone(rt.alloc(), words, &mut out, err);
-    if tool.has_bad_name(rt.alloc(), words) {
+    let status = tell_refusal(rt.alloc(), tool.name(), refusal, &mut out, err);
+    if is_bad_name {
         put_line(tool, NAME_FORM, err);
     }
-    if tool.is_bad_combination(rt.alloc(), words) {
+    if is_bad_combination {
         if let Some(misfit) = tool.misfit(rt.alloc(), words) {
             put_line(tool, misfit, err);
         }
@@ -170,9 +141,4 @@ fn put_line<E: Output>(tool: Tool, text: &str, err: &mut E) {
     put_all(err, b": ");
     put_all(err, text.as_bytes());
     put_all(err, b"\n");
-}
-
-/// Writes why nothing was asked. Returns the exit status.
-fn fail<R: Print, E: Output>(rt: &R, failure: Failure, err: &mut E) -> u8 {
-    tell(Err(failure), &mut WriterOutput::new(io::writer(rt)), err)
 }

@@ -1,17 +1,18 @@
 //! The three tools: how their command lines are read, and how they run.
-ghost use Rattle.std.specs.Prelude.{◌≡◌, Err, IfOk, Ok, ⊤, map, option_map, true};
+ghost use Rattle.std.specs.Prelude.{◌≡◌, Err, IfOk, Ok, ⊤, map, option_map};
 ghost use Rattle.clap.specs.Words.{app_of, found_of, rows_of};
 ghost use Rattle.nut_client.specs.CommandLine.{command_of, dialed, line_of, target_of, wanted_of};
 ghost use Rattle.nut_client.specs.Output.{written};
-ghost use Rattle.nut_client.specs.inside.Reading.{IsRead};
+ghost use Rattle.nut_client.specs.inside.Reading.{IsRead, options_view};
 ghost use Rattle.nut_client.specs.Tool.{EndsOver, RunsAs};
-ghost use Rattle.nut_client.specs.declared.failure.Failure.TheVariants.{BadArguments, BadName, NoConnection};
+ghost use Rattle.nut_client.specs.declared.failure.Failure.TheVariants.{NoConnection};
 
 use crate::command_line::{Options, Refusal, options_of, parse, value};
 use crate::destination::Destination;
 use crate::engine::{ask_server, tell, tell_refusal};
 use crate::failure::Failure;
 use crate::output::Output;
+use crate::parameter::tool_command;
 use crate::stream::Stream;
 use crate::wanted::Wanted;
 use crate::{upsc, upscmd, upsrw};
@@ -56,9 +57,21 @@ impl Tool {
         ensures { IfOk result (λ c. app_of c ≡ command_of self) }
     {
         match self {
-            Tool::Upsc => upsc::command(alloc),
-            Tool::Upsrw => upsrw::command(alloc),
-            Tool::Upscmd => upscmd::command(alloc),
+            Tool::Upsc => tool_command(alloc, "upsc", upsc::ABOUT, upsc::USAGE, &upsc::PARAMETERS),
+            Tool::Upsrw => tool_command(
+                alloc,
+                "upsrw",
+                upsrw::ABOUT,
+                upsrw::USAGE,
+                &upsrw::PARAMETERS,
+            ),
+            Tool::Upscmd => tool_command(
+                alloc,
+                "upscmd",
+                upscmd::ABOUT,
+                upscmd::USAGE,
+                &upscmd::PARAMETERS,
+            ),
         }
     }
 
@@ -74,7 +87,7 @@ impl Tool {
     }
 
     /// Returns what the words of the command line ask for.
-    fn read_options<'a, W: AsStr>(
+    pub(crate) fn read_options<'a, W: AsStr>(
         self,
         alloc: Global,
         words: &'a [W],
@@ -85,35 +98,12 @@ impl Tool {
         options_of(self.wanted_in(&matches), value(&matches, "name"))
     }
 
-    /// Whether the words can be read, but the name of the UPS, its host or its port isn't valid. It isn't if memory cannot be
-    /// allocated.
-    pub(crate) fn has_bad_name<W: AsStr>(self, alloc: Global, words: &[W]) -> bool
-        ensures { result ≡ true → line_of self (map W.text words.now) ≡ Ok (Err BadName) }
-    {
-        match self.read_options(alloc, words) {
-            Ok(_options) => false,
-            Err(Refusal::Failed(failure)) => matches!(failure, Failure::BadName),
-            Err(Refusal::Usage(_error)) => false,
-        }
-    }
-
     /// Returns what keeps these words, which the tool can read, from being a combination that it knows, if that is known.
     pub(crate) fn misfit<W: AsStr>(self, alloc: Global, words: &[W]) -> Option<&'static str> {
         let matches = parse(self.command(alloc).ok()?, words).ok()?;
         match self {
             Tool::Upsc => upsc::misfit(&matches),
             Tool::Upsrw | Tool::Upscmd => None,
-        }
-    }
-
-    /// Whether the words can be read, but are no combination that the tool knows. It isn't if memory cannot be allocated.
-    pub(crate) fn is_bad_combination<W: AsStr>(self, alloc: Global, words: &[W]) -> bool
-        ensures { result ≡ true → line_of self (map W.text words.now) ≡ Ok (Err BadArguments) }
-    {
-        match self.read_options(alloc, words) {
-            Ok(_options) => false,
-            Err(Refusal::Failed(failure)) => matches!(failure, Failure::BadArguments),
-            Err(Refusal::Usage(_error)) => false,
         }
     }
 
@@ -148,11 +138,7 @@ impl Tool {
             result (written O.contents O.has_failed out.old out.new) (written E.contents E.has_failed err.old err.new) }
     {
         match self.read_options(alloc, words) {
-            Ok(Options { target, wanted }) => {
-                let ups = Word::new(target.ups.as_bytes());
-                let printed = ask_server(rt, alloc, ups, wanted, stream);
-                tell(printed, out, err)
-            }
+            Ok(options) => run_options(rt, alloc, options, stream, out, err),
             Err(refusal) => tell_refusal(alloc, self.name(), refusal, out, err),
         }
     }
@@ -173,4 +159,23 @@ impl Tool {
             Err(refusal) => tell_refusal(alloc, self.name(), refusal, out, err),
         }
     }
+}
+
+/// Runs a tool with the options of its command line over a connection. Returns the exit status.
+pub(crate) fn run_options<S: Stream, O: Output, E: Output>(
+    rt: &impl Clock,
+    alloc: Global,
+    options: Options<'_>,
+    stream: &mut S,
+    out: &mut O,
+    err: &mut E,
+) -> u8
+    ensures { RunsAs (Ok (Ok (options_view options.entry)))
+        (EndsOver S.remaining S.taken S.has_ended stream.old stream.new) (stream.new ≡ stream.old)
+        result (written O.contents O.has_failed out.old out.new) (written E.contents E.has_failed err.old err.new) }
+{
+    let Options { target, wanted } = options;
+    let ups = Word::new(target.ups.as_bytes());
+    let printed = ask_server(rt, alloc, ups, wanted, stream);
+    tell(printed, out, err)
 }

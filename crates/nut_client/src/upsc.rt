@@ -1,7 +1,7 @@
 //! `upsc`: the variables of a UPS, the UPSes of a server, the clients of a UPS.
 ghost use Rattle.std.specs.Prelude.{◌≡◌, IfOk, map, option_map};
-ghost use Rattle.clap.specs.Words.{app_of, found_of, rows_of};
-ghost use Rattle.nut_client.specs.CommandLine.{command_of, dialed, line_of, target_of, upsc_wanted, wanted_of};
+ghost use Rattle.clap.specs.Words.{found_of, rows_of};
+ghost use Rattle.nut_client.specs.CommandLine.{dialed, line_of, target_of, upsc_wanted, wanted_of};
 ghost use Rattle.nut_client.specs.Output.{written};
 ghost use Rattle.nut_client.specs.Tool.{EndsBy, IsUnused, RunsAs};
 ghost use Rattle.nut_client.specs.declared.tool.Tool.TheVariants.{Upsc};
@@ -9,11 +9,11 @@ ghost use Rattle.nut_client.specs.declared.tool.Tool.TheVariants.{Upsc};
 use crate::command_line::{is_given, value};
 use crate::destination::Destination;
 use crate::output::Output;
-use crate::parameter::{NAME, Parameter, tool_command};
+use crate::parameter::{NAME, Parameter};
 use crate::stream::Stream;
 use crate::tool::Tool;
 use crate::wanted::Wanted;
-use clap::{ArgMatches, Command};
+use clap::ArgMatches;
 use nut_proto::Word;
 use std::alloc::{AllocError, Global};
 use std::convert::AsStr;
@@ -100,12 +100,15 @@ pub(crate) fn misfit(matches: &ArgMatches<'_>) -> Option<&'static str> {
     None
 }
 
+/// What the tool does.
+pub(crate) const ABOUT: &str = "Shows the variables of a UPS, or the UPSes of a server";
+
 /// The command lines that the tool knows.
 pub(crate) const USAGE: &str =
     "upsc [-j] NAME [VAR]\n       upsc -l | -L [HOST[:PORT]]\n       upsc -c NAME";
 
 /// What the command line may hold.
-const PARAMETERS: [Parameter; 6] = [
+pub(crate) const PARAMETERS: [Parameter; 6] = [
     Parameter::Flag {
         id: "names",
         letter: 'l',
@@ -133,11 +136,3 @@ const PARAMETERS: [Parameter; 6] = [
         help: "The variable whose value is shown; without it all variables are",
     },
 ];
-
-/// Returns the command line that clap reads.
-pub(crate) fn command<'a>(alloc: Global) -> Result<Command<'a>, AllocError>
-    ensures { IfOk result (λ c. app_of c ≡ command_of Upsc) }
-{
-    let about = "Shows the variables of a UPS, or the UPSes of a server";
-    tool_command(alloc, "upsc", about, USAGE, &PARAMETERS)
-}

@@ -1,19 +1,19 @@
 //! `upscmd`: the commands of a UPS, and sending it one.
 ghost use Rattle.std.specs.Prelude.{◌≡◌, IfOk, map, option_map};
-ghost use Rattle.clap.specs.Words.{app_of, found_of, rows_of};
-ghost use Rattle.nut_client.specs.CommandLine.{command_of, dialed, line_of, target_of, upscmd_wanted, wanted_of};
+ghost use Rattle.clap.specs.Words.{found_of, rows_of};
+ghost use Rattle.nut_client.specs.CommandLine.{dialed, line_of, target_of, upscmd_wanted, wanted_of};
 ghost use Rattle.nut_client.specs.Output.{written};
 ghost use Rattle.nut_client.specs.Tool.{EndsBy, IsUnused, RunsAs};
 ghost use Rattle.nut_client.specs.declared.tool.Tool.TheVariants.{Upscmd};
 
-use crate::command_line::{deed_by, is_given, until, value};
+use crate::command_line::{deed_by, is_given, value};
 use crate::destination::Destination;
 use crate::output::Output;
-use crate::parameter::{NAME, PASSWORD, Parameter, USER, WAIT, tool_command};
+use crate::parameter::{NAME, PASSWORD, Parameter, USER, WAIT};
 use crate::stream::Stream;
 use crate::tool::Tool;
 use crate::wanted::{Deed, Wanted};
-use clap::{ArgMatches, Command};
+use clap::ArgMatches;
 use nut_proto::Word;
 use std::alloc::{AllocError, Global};
 use std::convert::AsStr;
@@ -83,18 +83,21 @@ fn wanted_by<'a>(
         (false, wait, Some(command), parameter, Some(user), Some(password)) => {
             let parameter = parameter.map(|text| Word::new(text.as_bytes()));
             let deed = Deed::Command(Word::new(command.as_bytes()), parameter);
-            Some(deed_by(user, password, deed, until(wait)))
+            Some(deed_by(user, password, deed, wait))
         }
         _ => None,
     }
 }
+
+/// What the tool does.
+pub(crate) const ABOUT: &str = "Lists the commands of a UPS, or has it do one";
 
 /// The command lines that the tool knows.
 pub(crate) const USAGE: &str =
     "upscmd -l NAME\n       upscmd [-w] -u USER -p PASS NAME CMD [PARAM]";
 
 /// What the command line may hold.
-const PARAMETERS: [Parameter; 7] = [
+pub(crate) const PARAMETERS: [Parameter; 7] = [
     Parameter::Flag {
         id: "list",
         letter: 'l',
@@ -115,11 +118,3 @@ const PARAMETERS: [Parameter; 7] = [
         help: "What the command is told, if it takes a parameter",
     },
 ];
-
-/// Returns the command line that clap reads.
-pub(crate) fn command<'a>(alloc: Global) -> Result<Command<'a>, AllocError>
-    ensures { IfOk result (λ c. app_of c ≡ command_of Upscmd) }
-{
-    let about = "Lists the commands of a UPS, or has it do one";
-    tool_command(alloc, "upscmd", about, USAGE, &PARAMETERS)
-}

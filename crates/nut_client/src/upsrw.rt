@@ -1,19 +1,19 @@
 //! `upsrw`: the writable variables of a UPS, and setting one.
 ghost use Rattle.std.specs.Prelude.{◌≡◌, IfOk, map, option_map};
-ghost use Rattle.clap.specs.Words.{app_of, found_of, rows_of};
-ghost use Rattle.nut_client.specs.CommandLine.{command_of, dialed, line_of, target_of, upsrw_wanted, wanted_of};
+ghost use Rattle.clap.specs.Words.{found_of, rows_of};
+ghost use Rattle.nut_client.specs.CommandLine.{dialed, line_of, target_of, upsrw_wanted, wanted_of};
 ghost use Rattle.nut_client.specs.Output.{written};
 ghost use Rattle.nut_client.specs.Tool.{EndsBy, IsUnused, RunsAs};
 ghost use Rattle.nut_client.specs.declared.tool.Tool.TheVariants.{Upsrw};
 
-use crate::command_line::{deed_by, is_given, parted_at_equals, until, value};
+use crate::command_line::{deed_by, is_given, parted_at_equals, value};
 use crate::destination::Destination;
 use crate::output::Output;
-use crate::parameter::{NAME, PASSWORD, Parameter, USER, WAIT, tool_command};
+use crate::parameter::{NAME, PASSWORD, Parameter, USER, WAIT};
 use crate::stream::Stream;
 use crate::tool::Tool;
 use crate::wanted::{Deed, Wanted};
-use clap::{ArgMatches, Command};
+use clap::ArgMatches;
 use nut_proto::Word;
 use std::alloc::{AllocError, Global};
 use std::convert::AsStr;
@@ -75,17 +75,20 @@ fn wanted_by<'a>(
         (Some(setting), wait, Some(user), Some(password)) => {
             let (variable, value) = parted_at_equals(setting.as_bytes())?;
             let deed = Deed::Set(Word::new(variable), Word::new(value));
-            Some(deed_by(user, password, deed, until(wait)))
+            Some(deed_by(user, password, deed, wait))
         }
         _ => None,
     }
 }
 
+/// What the tool does.
+pub(crate) const ABOUT: &str = "Shows the variables of a UPS that may be set, or sets one";
+
 /// The command lines that the tool knows.
 pub(crate) const USAGE: &str = "upsrw NAME\n       upsrw [-w] -s VAR=VALUE -u USER -p PASS NAME";
 
 /// What the command line may hold.
-const PARAMETERS: [Parameter; 5] = [
+pub(crate) const PARAMETERS: [Parameter; 5] = [
     Parameter::Valued {
         id: "setting",
         letter: 's',
@@ -97,11 +100,3 @@ const PARAMETERS: [Parameter; 5] = [
     PASSWORD,
     NAME,
 ];
-
-/// Returns the command line that clap reads.
-pub(crate) fn command<'a>(alloc: Global) -> Result<Command<'a>, AllocError>
-    ensures { IfOk result (λ c. app_of c ≡ command_of Upsrw) }
-{
-    let about = "Shows the variables of a UPS that may be set, or sets one";
-    tool_command(alloc, "upsrw", about, USAGE, &PARAMETERS)
-}
