@@ -16,7 +16,7 @@ mod machine;
 mod monitor;
 mod notifier;
 mod notify_command;
-mod nuts_option;
+mod nuts_options;
 mod obeying;
 mod orders;
 mod power_down_flag;

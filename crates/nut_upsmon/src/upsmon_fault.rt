@@ -1,10 +1,10 @@
 //! The faults that only upsmon has.
 
 use crate::halt::HaltFault;
-use crate::nuts_option::way_of;
+use crate::nuts_options::NUTS_OPTIONS;
 use nut_log::LogStream;
 use nut_poll::ErrorLines;
-use nut_program::{Failure, FileFault, OwnFault};
+use nut_program::{Failure, FileFault, OwnFault, way_of};
 use std::alloc::Global;
 use std::convert::AsStr;
 use std::fmt;
@@ -72,5 +72,5 @@ pub fn tell_failure<S: AsStr>(
     mut out: LogStream<Stdout>,
     told: &mut ErrorLines,
 ) -> u8 {
-    failure.tell_of_nuts(alloc, way_of(words), &mut out, told)
+    failure.tell_of_nuts(alloc, way_of(&NUTS_OPTIONS, words), &mut out, told)
 }

@@ -1,18 +1,9 @@
-//! What to do in place of the options of NUT's upsmon that this one doesn't have.
+//! The options of NUT's upsmon that this one doesn't have.
 
-use std::convert::AsStr;
-
-/// An option of NUT's upsmon.
-struct NutsOption {
-    flag: &'static str,
-    /// The word with it, or nothing if any word may be.
-    value: &'static str,
-    /// What to do in its place.
-    way: &'static str,
-}
+use nut_program::NutsOption;
 
 /// The first of these that a command line has is explained.
-const OPTIONS: [NutsOption; 10] = [
+pub const NUTS_OPTIONS: [NutsOption; 10] = [
     NutsOption {
         flag: "-c",
         value: "fsd",
@@ -64,28 +55,3 @@ const OPTIONS: [NutsOption; 10] = [
         way: "-u is not supported: the unit decides as which user upsmon runs",
     },
 ];
-
-impl NutsOption {
-    /// Whether this word gives the option, by the word after it, if there is one.
-    fn is_given(&self, word: &str, next: Option<&str>) -> bool {
-        match word.strip_prefix(self.flag) {
-            Some("") => self.value.is_empty() || next == Some(self.value),
-            Some(rest) => self.value.is_empty() || rest == self.value,
-            None => false,
-        }
-    }
-}
-
-/// Returns what to do in place of the first option of NUT's upsmon that these words of a command line have and that this
-/// upsmon doesn't have, if they have one.
-pub fn way_of<S: AsStr>(words: &[S]) -> Option<&'static str> {
-    for (i, word) in words.iter().enumerate() {
-        let next = words.get(i.saturating_add(1)).map(S::as_str);
-        for option in OPTIONS.iter() {
-            if option.is_given(word.as_str(), next) {
-                return Some(option.way);
-            }
-        }
-    }
-    None
-}
