@@ -18,7 +18,7 @@ mod notifier;
 mod notify_command;
 mod nuts_options;
 mod obeying;
-mod orders;
+mod order_sender;
 mod power_down_flag;
 mod process_state;
 mod reloader;

@@ -6,7 +6,7 @@ use crate::actor::{Actor, Starter, Told};
 use crate::beginning::Beginning;
 use crate::halt::{Halt, HaltFault, clear_left_flag};
 use crate::notifier::Notifier;
-use crate::orders::Orders;
+use crate::order_sender::OrderSender;
 use crate::power_down_flag::FlagFault;
 use crate::reloader::{Reload, Reloader};
 use crate::shutdown_report::tell_beginning;
@@ -37,7 +37,7 @@ pub struct Machine<'r, R: Files + Processes> {
     notifier: Notifier<'r, R>,
     halt: Halt<'r, 'r, R>,
     /// How another process is ordered to halt the machine, if this one isn't to.
-    orders: Option<Orders>,
+    orders: Option<OrderSender>,
     /// The halt of the configuration that was readied last, until it takes the place of the other.
     ready: Option<Halt<'r, 'r, R>>,
     reloader: &'r mut Reloader,
@@ -113,7 +113,7 @@ where
             err: LossyLines::new(rt, alloc, streams.err)?,
             notifier: Notifier::new(rt, alloc, streams.out, halter.is_some())?,
             halt: Halt::none(rt, alloc, heap),
-            orders: halter.map(Orders::new),
+            orders: halter.map(OrderSender::new),
             ready: None,
             reloader,
             is_ending: false,

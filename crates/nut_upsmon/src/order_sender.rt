@@ -18,7 +18,7 @@ const PAUSE: u64 = 1;
 
 /// Gives orders to another process, by a pipe.
 #[derive(Drop)]
-pub struct Orders {
+pub struct OrderSender {
     /// The number of that process.
     halter: u32,
     /// Whether an upsmon.conf is in force. The other process has read the first one by itself.
@@ -31,10 +31,10 @@ pub struct Orders {
     is_warned: bool,
 }
 
-impl Orders {
+impl OrderSender {
     /// Returns what gives orders to the process with this number.
-    pub fn new(halter: u32) -> Orders {
-        Orders {
+    pub fn new(halter: u32) -> OrderSender {
+        OrderSender {
             halter,
             is_begun: false,
             is_changed: false,
