@@ -64,6 +64,36 @@ impl fmt::Display for HaltFault {
     }
 }
 
+/// Why the halt of another configuration can't be prepared.
+#[derive(Drop)]
+pub enum UnreadyFault {
+    /// Memory could not be allocated.
+    Memory,
+    /// The shell that is to run its SHUTDOWNCMD cannot be started.
+    NotStarted(io::Error),
+}
+
+impl fmt::Display for UnreadyFault {
+    fn fmt<W: fmt::Write>(&self, f: &mut fmt::Formatter<W>) -> fmt::Result {
+        match self {
+            UnreadyFault::Memory => write!(f, "out of memory"),
+            UnreadyFault::NotStarted(error) => write!(f, "SHUTDOWNCMD cannot be started: {error}"),
+        }
+    }
+}
+
+impl From<AllocError> for UnreadyFault {
+    fn from(_: AllocError) -> Self {
+        UnreadyFault::Memory
+    }
+}
+
+impl From<io::Error> for UnreadyFault {
+    fn from(error: io::Error) -> Self {
+        UnreadyFault::NotStarted(error)
+    }
+}
+
 /// Reserves the memory that a [`Halt`] takes when it is made ready or carried out.
 ///
 /// # Errors
@@ -76,7 +106,6 @@ pub fn halt_heap(alloc: Global) -> Result<LocalHeap, AllocError> {
 /// The steps that halt the machine, prepared before they are needed: carrying them out allocates nothing. If
 /// SHUTDOWNCMD's shell has been ended meanwhile, starting another one takes the heap's memory, and some small blocks
 /// that the C library needs to start a process.
-#[derive(Drop)]
 pub struct Halt<'r, 'h, R: Processes> {
     rt: &'r R,
     alloc: Global,
@@ -85,6 +114,20 @@ pub struct Halt<'r, 'h, R: Processes> {
     command: Option<ShutdownCommand<'r, 'h, R>>,
     /// What was told last of the shell that waits, if that still holds.
     told: Option<ShellState>,
+}
+
+// A derived drop would be followed with those of its parts wherever a halt may be dropped.
+impl<'r, 'h, R: Processes> Drop for Halt<'r, 'h, R> {
+    fn drop(self) {
+        let Halt {
+            rt: _,
+            alloc: _,
+            heap: _,
+            flag: _flag,
+            command: _command,
+            told: _,
+        } = self;
+    }
 }
 
 impl<'r, 'h, R: Files + Processes + Clock> Halt<'r, 'h, R> {
@@ -106,13 +149,19 @@ impl<'r, 'h, R: Files + Processes + Clock> Halt<'r, 'h, R> {
     ///
     /// [`AllocError`] if memory cannot be allocated.
     pub fn with(&self, config: &MonConfig) -> Result<Halt<'r, 'h, R>, AllocError> {
-        let flag = PowerDownFlag::of(self.alloc, config)?;
+        let command = match &config.shutdown_cmd {
+            Some(command) => {
+                let text = text_of(command.as_bytes());
+                Some(ShutdownCommand::new(self.rt, self.heap, text)?)
+            }
+            None => None,
+        };
         Ok(Halt {
             rt: self.rt,
             alloc: self.alloc,
             heap: self.heap,
-            flag,
-            command: shutdown_command(self.rt, self.heap, config)?,
+            flag: PowerDownFlag::of(self.alloc, config)?,
+            command,
             told: None,
         })
     }
@@ -122,12 +171,20 @@ impl<'r, 'h, R: Files + Processes + Clock> Halt<'r, 'h, R> {
         Halt::none(self.rt, self.alloc, self.heap)
     }
 
-    /// Starts the shell that will run SHUTDOWNCMD. If it cannot be started, it is tried again at the halt.
+    /// Returns the steps that a changed upsmon.conf sets, as [`Halt::with`] does. The shell that will run its SHUTDOWNCMD is
+    /// started.
     ///
     /// # Errors
     ///
-    /// That of the system if it cannot be started.
-    pub fn start_shell(&mut self) -> io::Result<()> {
+    /// A lack of memory, or that of the system if the shell cannot be started.
+    pub fn changed(&self, config: &MonConfig) -> Result<Halt<'r, 'h, R>, UnreadyFault> {
+        let mut halt = self.with(config)?;
+        halt.start_shell()?;
+        Ok(halt)
+    }
+
+    /// Starts the shell that will run SHUTDOWNCMD. If it cannot be started, it is tried again at the halt.
+    fn start_shell(&mut self) -> io::Result<()> {
         match &mut self.command {
             Some(command) => command.start_shell(),
             None => Ok(()),
@@ -155,7 +212,10 @@ impl<'r, 'h, R: Files + Processes + Clock> Halt<'r, 'h, R> {
             ShellState::Stopped => {
                 if self.told != Some(ShellState::Stopped) {
                     self.told = Some(ShellState::Stopped);
-                    tell_stopped(err);
+                    let _ = writeln!(
+                        err.begin(Level::Warning),
+                        "SHUTDOWNCMD's shell is suspended; sending SIGCONT"
+                    );
                 }
                 command.wake();
             }
@@ -173,18 +233,9 @@ impl<'r, 'h, R: Files + Processes + Clock> Halt<'r, 'h, R> {
         shell
     }
 
-    /// Removes POWERDOWNFLAG if an earlier shutdown left it set: otherwise the scripts of the next ordinary shutdown
-    /// would have the UPS cut its power. That it was removed is written to `err`. Anything else of that name is
-    /// reported and left unchanged.
-    pub fn clear_flag(&self, err: &mut ErrorLines) {
-        if let Some(flag) = &self.flag {
-            clear(flag, self.rt, err);
-        }
-    }
-
     /// Writes the new file that is to become POWERDOWNFLAG, if this configuration, which the halt was made for, has a
     /// primary line. If that fails, it is tried again at the halt, and why it fails is written to `err`: there is time
-    /// to mend it. Nothing is done, or told, if the flag can't be set for what [`Halt::clear_flag`] has told.
+    /// to mend it. Nothing is done, or told, if the flag can't be set for what [`clear_left_flag`] has told.
     pub fn ready_flag(&self, config: &MonConfig, err: &mut ErrorLines) {
         if let Some(flag) = &self.flag
             && has_primary(config)
@@ -193,6 +244,18 @@ impl<'r, 'h, R: Files + Processes + Clock> Halt<'r, 'h, R> {
                 tell_failed("written", flag.path(), &error, err);
             }
         }
+    }
+
+    /// Writes the new file of this configuration as [`Halt::ready_flag`] does, which was changed since the former one. If it
+    /// names another flag, one that an earlier shutdown left there is removed before. Its new file is written anew in any case, so
+    /// that an operator sees whether what was told of it is mended.
+    pub fn ready_changed_flag(&self, former: &MonConfig, config: &MonConfig, err: &mut ErrorLines) {
+        if former.power_down_flag != config.power_down_flag
+            && let Some(flag) = &self.flag
+        {
+            clear(flag, self.rt, err);
+        }
+        self.ready_flag(config, err);
     }
 
     /// Sets POWERDOWNFLAG if there is one.
@@ -206,7 +269,8 @@ impl<'r, 'h, R: Files + Processes + Clock> Halt<'r, 'h, R> {
         };
         let set = flag.set(self.rt);
         if let Err(fault) = &set {
-            tell_unset(flag.path(), fault, err);
+            let path = flag.path();
+            let _ = writeln!(err.begin(Level::Warning), "POWERDOWNFLAG {path} {fault}");
         }
         set
     }
@@ -221,15 +285,22 @@ impl<'r, 'h, R: Files + Processes + Clock> Halt<'r, 'h, R> {
     ///
     /// The reason if SHUTDOWNCMD cannot be started or waited for, or ends with a status other than 0.
     pub fn run(&mut self, out: &mut OutputLines, err: &mut ErrorLines) -> Result<(), HaltFault> {
-        match &mut self.command {
-            Some(command) => run(self.rt, command, out, err),
-            None => Ok(()),
+        let Some(command) = &mut self.command else {
+            return Ok(());
+        };
+        start(self.rt, command, out, err)?;
+        if !keep_going(self.rt, command) {
+            let full = Full::of(out, err);
+            command.start_anew(full).map_err(HaltFault::NotStarted)?;
         }
+        judge(command.wait(), err)
     }
 }
 
-/// Removes the POWERDOWNFLAG of a configuration as [`Halt::clear_flag`] does, before there is a halt: if upsmon can't
-/// begin to watch, a flag that was left is gone all the same.
+/// Removes the POWERDOWNFLAG of a configuration if an earlier shutdown left it set: otherwise the scripts of the next ordinary
+/// shutdown would have the UPS cut its power. That it was removed is written to `err`. Anything else of that name is reported
+/// and left unchanged. This comes before there is a halt: if upsmon can't begin to watch, a flag that was left is gone all the
+/// same.
 ///
 /// # Errors
 ///
@@ -258,17 +329,12 @@ pub fn check_flag(
     config: &MonConfig,
     err: &mut ErrorLines,
 ) -> Result<(), AllocError> {
-    if let Some(flag) = PowerDownFlag::of(alloc, config)? {
-        check(&flag, files, has_primary(config), err);
-    }
-    Ok(())
-}
-
-/// Reports what keeps a flag from being removed at a start, or, if it is to be set, from being written.
-fn check(flag: &PowerDownFlag, files: &impl Files, is_to_set: bool, err: &mut ErrorLines) {
+    let Some(flag) = PowerDownFlag::of(alloc, config)? else {
+        return Ok(());
+    };
     match flag.state(files) {
         Ok(FlagState::Foreign) => tell_found(flag.path(), FlagState::Foreign, err),
-        Ok(FlagState::Absent | FlagState::Empty) if is_to_set => {
+        Ok(FlagState::Absent | FlagState::Empty) if has_primary(config) => {
             if let Err(error) = flag.try_ready(files) {
                 tell_failed("written", flag.path(), &error, err);
             }
@@ -276,6 +342,7 @@ fn check(flag: &PowerDownFlag, files: &impl Files, is_to_set: bool, err: &mut Er
         Ok(FlagState::Absent | FlagState::Empty | FlagState::Set) => {}
         Err(error) => tell_failed("removed", flag.path(), &error, err),
     }
+    Ok(())
 }
 
 /// Removes a flag if it is set, and reports what was found in its place.
@@ -310,26 +377,6 @@ fn tell_failed(what: &str, path: &str, error: &io::Error, err: &mut ErrorLines) 
     );
 }
 
-/// Reports why POWERDOWNFLAG isn't set.
-fn tell_unset(path: &str, fault: &FlagFault, err: &mut ErrorLines) {
-    let _ = writeln!(err.begin(Level::Warning), "POWERDOWNFLAG {path} {fault}");
-}
-
-/// Returns SHUTDOWNCMD if upsmon.conf sets it.
-fn shutdown_command<'r, 'h, R: Processes>(
-    processes: &'r R,
-    heap: &'h LocalHeap,
-    config: &MonConfig,
-) -> Result<Option<ShutdownCommand<'r, 'h, R>>, AllocError> {
-    match &config.shutdown_cmd {
-        Some(command) => {
-            let text = text_of(command.as_bytes());
-            Ok(Some(ShutdownCommand::new(processes, heap, text)?))
-        }
-        None => Ok(None),
-    }
-}
-
 /// Starts a shell in the place of one that was ended. What came of it is told, unless it is as before.
 fn replace_shell<R: Processes>(
     command: &mut ShutdownCommand<'_, '_, R>,
@@ -337,7 +384,12 @@ fn replace_shell<R: Processes>(
     err: &mut ErrorLines,
 ) {
     match command.start_shell() {
-        Ok(()) => tell_replaced(err),
+        Ok(()) => {
+            let _ = writeln!(
+                err.begin(Level::Warning),
+                "SHUTDOWNCMD's shell was missing (killed or not started); replaced"
+            );
+        }
         Err(error) => {
             if *told != Some(ShellState::Gone) {
                 *told = Some(ShellState::Gone);
@@ -353,37 +405,6 @@ fn tell_not_ready(error: &io::Error, err: &mut ErrorLines) {
         err.begin(Level::Warning),
         "cannot start SHUTDOWNCMD's shell yet: {error}"
     );
-}
-
-/// Reports that the shell for SHUTDOWNCMD is stopped.
-fn tell_stopped(err: &mut ErrorLines) {
-    let _ = writeln!(
-        err.begin(Level::Warning),
-        "SHUTDOWNCMD's shell is suspended; sending SIGCONT"
-    );
-}
-
-/// Reports that another shell waits to run SHUTDOWNCMD.
-fn tell_replaced(err: &mut ErrorLines) {
-    let _ = writeln!(
-        err.begin(Level::Warning),
-        "SHUTDOWNCMD's shell was missing (killed or not started); replaced"
-    );
-}
-
-/// Runs a command and waits for its end.
-fn run<R: Files + Processes + Clock>(
-    rt: &R,
-    command: &mut ShutdownCommand<'_, '_, R>,
-    out: &mut OutputLines,
-    err: &mut ErrorLines,
-) -> Result<(), HaltFault> {
-    start(rt, command, out, err)?;
-    if !keep_going(rt, command) {
-        let full = Full::of(out, err);
-        command.start_anew(full).map_err(HaltFault::NotStarted)?;
-    }
-    judge(command.wait(), err)
 }
 
 /// Watches a command for some seconds, unless it ends before, and continues it if a signal has stopped it. Returns false
@@ -436,7 +457,10 @@ fn start<R: Processes>(
             Err(error) => {
                 if told != Some(error.kind()) {
                     told = Some(error.kind());
-                    tell_failed_start(&error, err);
+                    let _ = writeln!(
+                        err.begin(Level::Warning),
+                        "SHUTDOWNCMD cannot be started yet: {error}; it is tried for {TRIES} seconds"
+                    );
                 }
             }
         }
@@ -444,11 +468,4 @@ fn start<R: Processes>(
     }
     let full = Full::of(out, err);
     command.start(full).map_err(HaltFault::NotStarted)
-}
-
-fn tell_failed_start(error: &io::Error, err: &mut ErrorLines) {
-    let _ = writeln!(
-        err.begin(Level::Warning),
-        "SHUTDOWNCMD cannot be started yet: {error}; it is tried for {TRIES} seconds"
-    );
 }

@@ -4,11 +4,11 @@ ghost use Rattle.std.specs.Prelude.{None};
 
 use crate::actor::{Actor, Starter, Told};
 use crate::beginning::Beginning;
-use crate::halt::{Halt, HaltFault, clear_left_flag};
+use crate::halt::{Halt, HaltFault, UnreadyFault, clear_left_flag};
 use crate::notifier::Notifier;
 use crate::order_sender::OrderSender;
 use crate::power_down_flag::FlagFault;
-use crate::reloader::{Reload, Reloader};
+use crate::reloader::Reloader;
 use crate::shutdown_report::tell_beginning;
 use crate::starting::tell_start;
 use linked_list_allocator::LocalHeap;
@@ -22,7 +22,7 @@ use std::net::Net;
 use std::process::Processes;
 use std::rt::Files;
 use std::time::Clock;
-use std::{fmt, io, mem};
+use std::{io, mem};
 
 /// The actor of upsmon: it reports notices and what a shutdown is for, keeps the halt of its machine prepared, and takes up a
 /// changed upsmon.conf.
@@ -60,67 +60,6 @@ pub struct MachineStarter<'r, R> {
     pub halter: Option<u32>,
 }
 
-/// Why a configuration isn't taken up.
-#[derive(Drop)]
-enum ReloadFault {
-    /// Memory could not be allocated.
-    Memory,
-    /// The shell that is to run its SHUTDOWNCMD cannot be started.
-    NotStarted(io::Error),
-}
-
-impl fmt::Display for ReloadFault {
-    fn fmt<W: fmt::Write>(&self, f: &mut fmt::Formatter<W>) -> fmt::Result {
-        match self {
-            ReloadFault::Memory => write!(f, "out of memory"),
-            ReloadFault::NotStarted(error) => write!(f, "SHUTDOWNCMD cannot be started: {error}"),
-        }
-    }
-}
-
-impl From<AllocError> for ReloadFault {
-    fn from(_: AllocError) -> Self {
-        ReloadFault::Memory
-    }
-}
-
-impl From<io::Error> for ReloadFault {
-    fn from(error: io::Error) -> Self {
-        ReloadFault::NotStarted(error)
-    }
-}
-
-impl<'r, R> Machine<'r, R>
-where
-    R: Files + Net + Processes + Clock,
-{
-    /// Returns what writes to these streams and takes the memory of its halts from `heap`. Nothing is told or started yet.
-    ///
-    /// # Errors
-    ///
-    /// If memory or descriptors aren't available.
-    fn new(
-        rt: &'r R,
-        alloc: Global,
-        heap: &'r LocalHeap,
-        reloader: &'r mut Reloader,
-        streams: Streams,
-        halter: Option<u32>,
-    ) -> io::Result<Machine<'r, R>> {
-        Ok(Machine {
-            held: hold_closed_streams(rt, alloc)?,
-            rt,
-            err: LossyLines::new(rt, alloc, streams.err)?,
-            notifier: Notifier::new(rt, alloc, streams.out, halter.is_some())?,
-            halt: Halt::none(rt, alloc, heap),
-            orders: halter.map(OrderSender::new),
-            ready: None,
-            reloader,
-            is_ending: false,
-        })
-    }
-}
-
 impl<'r, R> Starter for MachineStarter<'r, R>
 where
     R: Files + Net + Processes + Clock,
@@ -145,10 +84,20 @@ where
             streams,
             halter,
         } = self;
-        match heap {
-            Some(heap) => Machine::new(rt, alloc, heap, reloader, streams, halter),
-            None => Err(io::Error::from(ErrorKind::OutOfMemory)),
-        }
+        let Some(heap) = heap else {
+            return Err(io::Error::from(ErrorKind::OutOfMemory));
+        };
+        Ok(Machine {
+            held: hold_closed_streams(rt, alloc)?,
+            rt,
+            err: LossyLines::new(rt, alloc, streams.err)?,
+            notifier: Notifier::new(rt, alloc, streams.out, halter.is_some())?,
+            halt: Halt::none(rt, alloc, heap),
+            orders: halter.map(OrderSender::new),
+            ready: None,
+            reloader,
+            is_ending: false,
+        })
     }
 }
 
@@ -156,48 +105,24 @@ impl<'r, R> Machine<'r, R>
 where
     R: Files + Processes + Clock,
 {
-    /// Makes ready to take up a configuration in place of an earlier one. Returns what its watch begins with. If that
-    /// fails, everything continues as before, and the reason is reported.
-    fn take_up(&mut self, former: &MonConfig, reload: Reload) -> Option<Beginning> {
-        match self.ready_next(former, reload.config()) {
-            Ok(()) => Some(self.reloader.report(reload, &mut self.err)),
-            Err(fault) => {
-                tell_not_reloaded(&fault, None, &mut self.err);
-                None
+    /// Readies the halt of another configuration, and gives notices by that configuration from now on. A halt that fails to
+    /// get ready is given up.
+    fn ready_next(&mut self, former: &MonConfig, config: &MonConfig) -> Result<(), UnreadyFault> {
+        let halt = match &self.orders {
+            Some(_) => self.halt.without_steps(),
+            None => self.halt.changed(config)?,
+        };
+        match self.notifier.restart(config) {
+            Ok(()) => {
+                halt.ready_changed_flag(former, config, &mut self.err);
+                drop(self.ready.replace(halt));
+                Ok(())
+            }
+            Err(AllocError) => {
+                self.notifier.adopt(halt.give_up());
+                Err(UnreadyFault::Memory)
             }
         }
-    }
-
-    /// Readies the halt of another configuration. A halt that fails to get ready is given up.
-    fn ready_next(&mut self, former: &MonConfig, config: &MonConfig) -> Result<(), ReloadFault> {
-        let mut halt = self.halt_of(config)?;
-        let started = self.start_halt(&mut halt, former, config);
-        match &started {
-            Ok(()) => drop(self.ready.replace(halt)),
-            Err(_) => self.notifier.adopt(halt.give_up()),
-        }
-        started
-    }
-
-    /// Returns the steps of this configuration's halt: none if another process halts the machine.
-    fn halt_of(&self, config: &MonConfig) -> Result<Halt<'r, 'r, R>, AllocError> {
-        match &self.orders {
-            Some(_) => Ok(self.halt.without_steps()),
-            None => self.halt.with(config),
-        }
-    }
-
-    /// Starts the shell of another configuration's halt, and gives notices by that configuration from now on.
-    fn start_halt(
-        &mut self,
-        halt: &mut Halt<'r, 'r, R>,
-        former: &MonConfig,
-        config: &MonConfig,
-    ) -> Result<(), ReloadFault> {
-        halt.start_shell()?;
-        self.notifier.restart(config)?;
-        ready_flag(halt, former, config, &mut self.err);
-        Ok(())
     }
 
     /// Reports once that a shutdown has begun, and for which UPSes.
@@ -219,7 +144,10 @@ where
     /// shell that can't be started is told.
     fn ready(&mut self, config: &MonConfig) -> Result<(), AllocError> {
         self.notifier.restart(config)?;
-        let mut halt = self.halt_of(config)?;
+        let mut halt = match &self.orders {
+            Some(_) => self.halt.without_steps(),
+            None => self.halt.with(config)?,
+        };
         halt.ready_flag(config, &mut self.err);
         halt.begin(&mut self.err);
         tell_start(config, self.reloader.is_quiet(), &mut self.err);
@@ -250,9 +178,13 @@ where
         if let Some(orders) = &mut self.orders {
             orders.second(self.rt, self.notifier.out(), &mut self.err);
         }
-        match self.reloader.second(self.rt, monitor, &mut self.err) {
-            Some(reload) => self.take_up(monitor.config(), reload),
-            None => None,
+        let reload = self.reloader.second(self.rt, monitor, &mut self.err)?;
+        match self.ready_next(monitor.config(), reload.config()) {
+            Ok(()) => Some(self.reloader.report(reload, &mut self.err)),
+            Err(fault) => {
+                tell_not_reloaded(&fault, None, &mut self.err);
+                None
+            }
         }
     }
 
@@ -279,22 +211,4 @@ where
             None => self.halt.run(self.notifier.out(), &mut self.err),
         }
     }
-}
-
-/// Makes the next POWERDOWNFLAG ready for the halt of another configuration. If it names another flag, one that an earlier
-/// shutdown left there is removed. Its new file is written anew in any case, so that an operator sees whether what was
-/// told of it is mended.
-fn ready_flag<R>(
-    halt: &Halt<'_, '_, R>,
-    former: &MonConfig,
-    config: &MonConfig,
-    err: &mut ErrorLines,
-)
-where
-    R: Files + Processes + Clock,
-{
-    if former.power_down_flag != config.power_down_flag {
-        halt.clear_flag(err);
-    }
-    halt.ready_flag(config, err);
 }

@@ -2,7 +2,7 @@
 
 ghost use Rattle.std.specs.Prelude.{None};
 
-use crate::halt::{Halt, HaltFault, clear_left_flag, halt_heap};
+use crate::halt::{Halt, HaltFault, UnreadyFault, clear_left_flag, halt_heap};
 use crate::upsmon_fault::UpsmonFault;
 use arrayvec::ArrayVec;
 use linked_list_allocator::LocalHeap;
@@ -11,7 +11,7 @@ use nut_halter::{Halter, Order, Orders, obey};
 use nut_log::{Level, Lines};
 use nut_poll::{ErrorLines, LossyLines, OutputLines};
 use nut_program::{Failure, FileFault, Streams, read_conf};
-use std::alloc::{AllocError, Global};
+use std::alloc::Global;
 use std::io::{ErrorKind, Read, Write};
 use std::net::Net;
 use std::process::Processes;
@@ -129,7 +129,10 @@ impl<'r, R: Files + Processes + Clock> Halter for HaltedMachine<'r, R> {
         let taken = self.try_take_up();
         self.is_late = taken.is_err();
         if let Err(fault) = taken {
-            warn_late(&fault, &mut self.err);
+            let _ = writeln!(
+                self.err.begin(Level::Warning),
+                "the halt is still that of the earlier upsmon.conf; the changed one is tried each second: {fault}"
+            );
         }
     }
 
@@ -147,20 +150,19 @@ impl<'r, R: Files + Processes + Clock> HaltedMachine<'r, R> {
     /// changed.
     fn try_take_up(&mut self) -> Result<(), LateFault> {
         let changed: MonConfig = read_conf(self.rt, self.alloc, self.folder)?;
-        let mut next = self.halt.with(&changed)?;
-        next.start_shell()?;
-        if self.config.power_down_flag != changed.power_down_flag {
-            next.clear_flag(&mut self.err);
-        }
-        next.ready_flag(&changed, &mut self.err);
-        let former = mem::replace(&mut self.halt, next);
-        if let Some(mut shell) = former.give_up() {
-            // it waits, or was stopped: it has run nothing
-            let _ = shell.kill();
-            let _ = shell.wait();
-        }
+        let next = self.halt.changed(&changed)?;
+        next.ready_changed_flag(&self.config, &changed, &mut self.err);
         drop(mem::replace(&mut self.config, changed));
+        end_waiting(mem::replace(&mut self.halt, next));
         Ok(())
+    }
+}
+
+/// Gives a halt up, and ends its shell, which has run nothing: it waits, or was stopped.
+fn end_waiting<R: Files + Processes + Clock>(halt: Halt<'_, '_, R>) {
+    if let Some(mut shell) = halt.give_up() {
+        let _ = shell.kill();
+        let _ = shell.wait();
     }
 }
 
@@ -168,16 +170,14 @@ impl<'r, R: Files + Processes + Clock> HaltedMachine<'r, R> {
 #[derive(Drop)]
 enum LateFault {
     File(FileFault<'static>),
-    Memory,
-    NotStarted(io::Error),
+    Unready(UnreadyFault),
 }
 
 impl fmt::Display for LateFault {
     fn fmt<W: fmt::Write>(&self, f: &mut fmt::Formatter<W>) -> fmt::Result {
         match self {
             LateFault::File(fault) => write!(f, "{fault}"),
-            LateFault::Memory => write!(f, "out of memory"),
-            LateFault::NotStarted(error) => write!(f, "SHUTDOWNCMD cannot be started: {error}"),
+            LateFault::Unready(fault) => write!(f, "{fault}"),
         }
     }
 }
@@ -188,24 +188,10 @@ impl From<FileFault<'static>> for LateFault {
     }
 }
 
-impl From<AllocError> for LateFault {
-    fn from(_: AllocError) -> Self {
-        LateFault::Memory
+impl From<UnreadyFault> for LateFault {
+    fn from(fault: UnreadyFault) -> Self {
+        LateFault::Unready(fault)
     }
-}
-
-impl From<io::Error> for LateFault {
-    fn from(error: io::Error) -> Self {
-        LateFault::NotStarted(error)
-    }
-}
-
-/// Warns that the halt is still that of an earlier upsmon.conf, and why.
-fn warn_late(fault: &LateFault, err: &mut ErrorLines) {
-    let _ = writeln!(
-        err.begin(Level::Warning),
-        "the halt is still that of the earlier upsmon.conf; the changed one is tried each second: {fault}"
-    );
 }
 
 /// Reads the next order. Other lines are passed over. Returns none at the end of the input.

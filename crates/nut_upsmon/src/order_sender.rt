@@ -78,22 +78,18 @@ impl OrderSender {
     ) -> Result<(), HaltFault> {
         for _ in 0..TRIES {
             if self.gives_change(out) {
-                give(self.to_halt(), out);
+                let order = if self.is_flagged {
+                    Order::HaltFlagged
+                } else {
+                    Order::Halt
+                };
+                give(order, out);
                 return Ok(());
             }
             self.warn_unheard(err);
             thread::sleep(clock, Duration::from_secs(PAUSE));
         }
         Err(HaltFault::NotOrdered(self.halter))
-    }
-
-    /// Returns the order to halt.
-    fn to_halt(&self) -> Order {
-        if self.is_flagged {
-            Order::HaltFlagged
-        } else {
-            Order::Halt
-        }
     }
 
     /// Gives the order of a changed upsmon.conf, if that is still to be done. Returns whether the pipe has room for the next

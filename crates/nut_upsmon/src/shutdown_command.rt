@@ -71,7 +71,6 @@ pub enum ShellState {
 
 /// SHUTDOWNCMD, run by a shell that was started before. So the machine can be halted even if no process can be started
 /// any more, for example for lack of memory.
-#[derive(Drop)]
 pub struct ShutdownCommand<'r, 'h, R: Processes> {
     processes: &'r R,
     heap: &'h LocalHeap,
@@ -80,6 +79,19 @@ pub struct ShutdownCommand<'r, 'h, R: Processes> {
     shell: Option<Child<R::Started>>,
     /// The shell that was last started to continue that one. It ends by itself.
     waker: Option<Child<R::Started>>,
+}
+
+// A derived drop would be followed with those of its parts wherever a command may be dropped.
+impl<'r, 'h, R: Processes> Drop for ShutdownCommand<'r, 'h, R> {
+    fn drop(self) {
+        let ShutdownCommand {
+            processes: _,
+            heap: _,
+            command: _command,
+            shell: _shell,
+            waker: _waker,
+        } = self;
+    }
 }
 
 impl<'r, 'h, R: Processes> ShutdownCommand<'r, 'h, R> {
@@ -93,10 +105,12 @@ impl<'r, 'h, R: Processes> ShutdownCommand<'r, 'h, R> {
         heap: &'h LocalHeap,
         text: &str,
     ) -> Result<ShutdownCommand<'r, 'h, R>, AllocError> {
+        let mut command = shell_command(heap, SCRIPT, text)?;
+        command.stdin(Stdio::piped());
         Ok(ShutdownCommand {
             processes,
             heap,
-            command: waiting_shell(heap, text)?,
+            command,
             shell: None,
             waker: None,
         })
@@ -147,7 +161,9 @@ impl<'r, 'h, R: Processes> ShutdownCommand<'r, 'h, R> {
     /// Gives the command up. Returns the shell that waits, if there is one: it ends and runs nothing, since its input
     /// ends.
     pub fn give_up(&mut self) -> Option<Child<R::Started>> {
-        self.shell.take().map(end_input)
+        let mut shell = self.shell.take()?;
+        shell.stdin = None;
+        Some(shell)
     }
 
     /// Makes the waiting shell run the command, whose output to a full stream is let go. Starts another shell for it if
@@ -166,19 +182,14 @@ impl<'r, 'h, R: Processes> ShutdownCommand<'r, 'h, R> {
 
     /// Makes the waiting shell run the command. If it was ended meanwhile, there is none any more.
     fn start_waiting(&mut self, full: Full) -> io::Result<()> {
-        let started = self.release_shell(full);
+        let started = match &mut self.shell {
+            Some(shell) => release(&mut shell.stdin, full.line()),
+            None => Err(no_shell()),
+        };
         if started.is_err() {
             self.shell = None;
         }
         started
-    }
-
-    /// Writes the line that the shell waits for.
-    fn release_shell(&mut self, full: Full) -> io::Result<()> {
-        match &mut self.shell {
-            Some(shell) => release(&mut shell.stdin, full.line()),
-            None => Err(no_shell()),
-        }
     }
 
     /// Ends the shell that runs the command, and has another one run it.
@@ -231,22 +242,6 @@ fn start_waker<R: Processes>(
 
 fn no_shell() -> io::Error {
     io::Error::from(ErrorKind::NotFound)
-}
-
-/// Makes the command of a shell that waits on a pipe to run this text.
-fn waiting_shell<'h>(
-    heap: &'h LocalHeap,
-    text: &str,
-) -> Result<Command<&'h LocalHeap>, AllocError> {
-    let mut shell = shell_command(heap, SCRIPT, text)?;
-    shell.stdin(Stdio::piped());
-    Ok(shell)
-}
-
-/// Ends the input of a shell.
-fn end_input<P: OpenProcess>(mut shell: Child<P>) -> Child<P> {
-    shell.stdin = None;
-    shell
 }
 
 /// Writes the line that a shell waits for.
