@@ -1,7 +1,8 @@
 //! Prints a monitor's notices, and runs NOTIFYCMD with them.
 
 use crate::low_runtime::LowRuntimes;
-use crate::notify_command::{Call, NotifyCommand, script_in};
+use crate::notify_command::{Call, script_in, start};
+use crate::process_state::is_running;
 use crate::shutdown_report::tell_left;
 use nut_conf::{MESSAGE_MAX, MonConfig, TARGET_MAX};
 use nut_log::{Level, Lines, LogStream};
@@ -16,23 +17,30 @@ use std::process::{Child, Processes};
 /// The greatest length of a text in bytes: that of a message, with a target in the place of its `%s`.
 const TEXT_MAX: usize = MESSAGE_MAX + TARGET_MAX - 2;
 
+/// The largest number of commands that run at a time.
+const RUNNING_MAX: usize = 64;
+
 /// Prints notices, and runs NOTIFYCMD with them.
 ///
 /// A run of the command that can't be started is let go, which is reported, as is a UPS that says LB later than this machine
 /// needs to stop.
 #[derive(Drop)]
 pub struct Notifier<'a, R: Processes> {
+    processes: &'a R,
     alloc: Global,
     out: OutputLines,
     text: Vec<u8>,
-    command: NotifyCommand<'a, R>,
+    /// The script that runs NOTIFYCMD, if that is set.
+    script: Option<String>,
+    /// The processes that may not have ended: runs of the command, and others that are waited for with them.
+    running: Vec<Child<R::Started>>,
     runtimes: LowRuntimes<'a, R>,
     /// Whether notices go to standard error, since standard output is for orders.
     is_aside: bool,
 }
 
 impl<'a, R: Processes> Notifier<'a, R> {
-    /// Makes a notifier that prints on `out`, and runs no command yet. It allocates room for the longest text.
+    /// Makes a notifier that prints on `out`, and runs no command yet. It allocates room for the longest text and for the runs.
     ///
     /// # Errors
     ///
@@ -47,10 +55,12 @@ impl<'a, R: Processes> Notifier<'a, R> {
         R: Net,
     {
         Ok(Notifier {
+            processes: rt,
             alloc,
             out: LossyLines::new(rt, alloc, out)?,
             text: Vec::with_capacity(alloc, TEXT_MAX)?,
-            command: NotifyCommand::new(rt, alloc)?,
+            script: None,
+            running: Vec::with_capacity(alloc, RUNNING_MAX)?,
             runtimes: LowRuntimes::watched(rt, alloc),
             is_aside,
         })
@@ -64,14 +74,14 @@ impl<'a, R: Processes> Notifier<'a, R> {
     pub fn restart(&mut self, config: &MonConfig) -> Result<(), AllocError> {
         let script = script_in(self.alloc, config, self.is_aside)?;
         self.runtimes.restart(config)?;
-        self.command.set_script(script);
+        self.script = script;
         Ok(())
     }
 
     /// Takes a process that ends by itself, if there is one, and waits for its end as for that of a run of the command.
     pub fn adopt(&mut self, child: Option<Child<R::Started>>) {
         if let Some(child) = child {
-            self.command.adopt(child);
+            let _ = self.running.push(child);
         }
     }
 
@@ -90,16 +100,35 @@ impl<'a, R: Processes> Notifier<'a, R> {
         }
     }
 
-    /// Runs NOTIFYCMD with a notice. A run that can't be started is reported on `err`.
+    /// Runs NOTIFYCMD with a notice, if it is set, and doesn't wait for it. A run that can't be started is reported on `err`, and
+    /// so is one that is skipped since as many run as may.
     pub fn call(&mut self, monitor: &Monitor, notice: Notice, err: &mut ErrorLines) {
         self.put_text(monitor, notice);
-        let called = self.command.call(Call {
+        let Some(script) = &self.script else {
+            return;
+        };
+        if self.running.len() >= RUNNING_MAX {
+            let _ = writeln!(
+                err.begin(Level::Warning),
+                "NOTIFYCMD skipped: {RUNNING_MAX} still running"
+            );
+            return;
+        }
+        let call = Call {
             kind: notice.kind.word(),
             ups: ups_of(monitor.config(), notice),
             text: &self.text,
-        });
-        if let Err(fault) = called {
-            let _ = writeln!(err.begin(Level::Warning), "NOTIFYCMD {fault}");
+        };
+        match start(self.processes, self.alloc, script.as_str(), call) {
+            Ok(child) => {
+                let _ = self.running.push(child);
+            }
+            Err(error) => {
+                let _ = writeln!(
+                    err.begin(Level::Warning),
+                    "NOTIFYCMD cannot be started: {error}"
+                );
+            }
         }
     }
 
@@ -118,7 +147,7 @@ impl<'a, R: Processes> Notifier<'a, R> {
 
     /// Forgets the processes that have ended, and continues asking the UPSes. A UPS that says LB too late is reported on `err`.
     pub fn second(&mut self, err: &mut ErrorLines) {
-        self.command.reap();
+        self.running.retain_mut(is_running);
         let _ = self.runtimes.step(err);
     }
 }
