@@ -111,7 +111,8 @@ impl Reloader {
     }
 
     /// Reads upsmon.conf if that was asked for and it is upsmon's turn. Returns the configuration to continue with, if
-    /// there is one now. Why there is none though it was asked for is written to `err`.
+    /// there is one now. Why there is none though it was asked for is written to `err`. A shutdown that has begun refuses one
+    /// that waits, too.
     pub fn second(
         &mut self,
         files: &impl Files,
@@ -120,7 +121,12 @@ impl Reloader {
     ) -> Option<Reload> {
         let is_asked = self.is_asked(files, err);
         if monitor.phase() != Phase::Watching {
-            self.refuse(is_asked, err);
+            if self.waiting.take().is_some() || is_asked {
+                let _ = writeln!(
+                    err.begin(Level::Error),
+                    "not reloaded: a shutdown has begun"
+                );
+            }
             return None;
         }
         if is_asked {
@@ -148,16 +154,6 @@ impl Reloader {
                     .tell(ReloadReport::Stuck(self.file.path(), error));
                 true
             }
-        }
-    }
-
-    /// Refuses the reload that was asked for or that waits, since a shutdown has begun.
-    fn refuse(&mut self, is_asked: bool, err: &mut ErrorLines) {
-        if self.waiting.take().is_some() || is_asked {
-            let _ = writeln!(
-                err.begin(Level::Error),
-                "not reloaded: a shutdown has begun"
-            );
         }
     }
 
@@ -196,21 +192,19 @@ impl Reloader {
 
     /// Returns the configuration that waits, unless it has to continue waiting, which is reported once.
     fn take_waiting(&mut self, monitor: &Monitor, err: &mut ErrorLines) -> Option<Reload> {
-        match first_obstacle(monitor, self.waiting.as_ref()?.config()) {
-            Some(obstacle) => {
-                self.tell_wait_once(obstacle, err);
-                None
-            }
-            None => self.waiting.take(),
-        }
-    }
-
-    /// Reports that the configuration waits for a UPS, if that wasn't told before.
-    fn tell_wait_once(&mut self, obstacle: Obstacle<'_>, err: &mut ErrorLines) {
+        let Some(Obstacle { line, why }) = first_obstacle(monitor, self.waiting.as_ref()?.config())
+        else {
+            return self.waiting.take();
+        };
         if !self.is_wait_told {
             self.is_wait_told = true;
-            tell_wait(obstacle, err);
+            let name = text_of(&line.written);
+            let _ = writeln!(
+                err.begin(Level::Notice),
+                "not reloaded yet: UPS {name} {why}"
+            );
         }
+        None
     }
 }
 
@@ -219,16 +213,6 @@ impl Reloader {
 struct Obstacle<'a> {
     line: &'a Monitored,
     why: &'static str,
-}
-
-/// Writes that a reload waits for a UPS.
-fn tell_wait(obstacle: Obstacle<'_>, err: &mut ErrorLines) {
-    let name = text_of(&obstacle.line.written);
-    let why = obstacle.why;
-    let _ = writeln!(
-        err.begin(Level::Notice),
-        "not reloaded yet: UPS {name} {why}"
-    );
 }
 
 /// Returns the first UPS that holds up a reload to this configuration, of those that it continues watching.
