@@ -1,5 +1,5 @@
 -- Rows that end in a text that is kept with their variable.
-use Rattle.std.proofs.Common.{◌≡◌, ℕ, false, List, [], ◌∷◌, ◌++◌, Option, Some, codes, flat_map, map, refl, sym, ap, ◌∙◌, append_assoc}
+use Rattle.std.proofs.Common.{◌≡◌, ℕ, Bool, true, false, List, [], ◌∷◌, ◌++◌, Option, Some, codes, flat_map, map, refl, sym, ap, ◌∙◌, append_assoc}
 use Rattle.std.specs.Prelude.{◌&&◌}
 use Rattle.std.specs.Str.{bytes_eq}
 use Rattle.std.proofs.lemmas.List.{append-nil}
@@ -13,10 +13,10 @@ use Rattle.nut_proto.specs.declared.request.ListQuery.TheVariants as queries
 use Rattle.nut_proto.specs.Lines.{line}
 use Rattle.nut_proto.specs.Replies.{reply_line}
 use Rattle.nut_proto.specs.Requests.{begin_line, end_line}
-use Rattle.nut_server_spec.specs.Answer.{Line, Listing, described, on_variable, require, rw_row, shown, text_of, var_row}
+use Rattle.nut_server_spec.specs.Answer.{Line, Listing, described, on_variable, require, shown, text_of, var_row}
 use Rattle.nut_server_spec.specs.Configuration.{Ups}
 use Rattle.nut_server_spec.specs.Device.{Device}
-use Rattle.nut_server.specs.inside.Rows.{row_front}
+use Rattle.nut_server.specs.inside.Rows.{row_front, row_word, value_row, variable_row}
 
 in_two : (ups name value : List ℕ) → (ups ++ 32 ∷ (name ++ 32 ∷ (value ++ []))) ++ 10 ∷ [] ≡ (ups ++ 32 ∷ []) ++ (name ++ 32 ∷ (value ++ 10 ∷ []))
 in_two ups name value =
@@ -35,6 +35,10 @@ var_text ups name value = ap (λ bytes. codes "VAR" ++ 32 ∷ bytes) (in_two (wo
 rw_text : (ups name value : List ℕ) → reply_line (replies.Rw ups name value) ≡ row_front (codes "RW") ups ++ row_end name value
 unfolding reply_line line
 rw_text ups name value = ap (λ bytes. codes "RW" ++ 32 ∷ bytes) (in_two (word_text ups) (word_text name) (quoted value))
+
+row_text : (is_rw : Bool) (ups name value : List ℕ) → reply_line (value_row is_rw ups name value) ≡ row_front (row_word is_rw) ups ++ row_end name value
+row_text true = rw_text
+row_text false = var_text
 
 -- The answer to GET UPSDESC in its parts.
 pub described_text : (ups text before one two three : List ℕ) → one ≡ before ++ row_front (codes "UPSDESC") ups → two ≡ one ++ quoted text → three ≡ two ++ 10 ∷ []
@@ -55,15 +59,10 @@ described_told ups ups_found found before one two three is first second third =
 as_it_is : (d : Device) (v : Entry) → false ≡ (d.forced && bytes_eq v.name (codes "ups.status")) → shown d v ≡ v.value
 as_it_is d v plain = rw (sym plain) refl
 
-pub var_kept : (ups : List ℕ) (d : Device) (v : Entry) (front end before after : List ℕ) → false ≡ (d.forced && bytes_eq v.name (codes "ups.status"))
-    → front ≡ row_front (codes "VAR") ups → end ≡ row_end v.name v.value → after ≡ before ++ (front ++ end) → after ≡ before ++ reply_line (var_row ups d v)
-var_kept ups d v front end before after plain begins ends is =
-    rw (is, begins, ends) (ap (λ row. before ++ row) (sym (ap (λ value. reply_line (replies.Var ups v.name value)) (as_it_is d v plain) ∙ var_text ups v.name v.value)))
-
-pub rw_kept : (ups : List ℕ) (d : Device) (v : Entry) (front end before after : List ℕ) → false ≡ (d.forced && bytes_eq v.name (codes "ups.status"))
-    → front ≡ row_front (codes "RW") ups → end ≡ row_end v.name v.value → after ≡ before ++ (front ++ end) → after ≡ before ++ reply_line (rw_row ups d v)
-rw_kept ups d v front end before after plain begins ends is =
-    rw (is, begins, ends) (ap (λ row. before ++ row) (sym (ap (λ value. reply_line (replies.Rw ups v.name value)) (as_it_is d v plain) ∙ rw_text ups v.name v.value)))
+pub variable_kept : (is_rw : Bool) (ups : List ℕ) (d : Device) (v : Entry) (front end before after : List ℕ) → false ≡ (d.forced && bytes_eq v.name (codes "ups.status"))
+    → front ≡ row_front (row_word is_rw) ups → end ≡ row_end v.name v.value → after ≡ before ++ (front ++ end) → after ≡ before ++ reply_line (variable_row is_rw ups d v)
+variable_kept is_rw ups d v front end before after plain begins ends is =
+    rw (is, begins, ends) (ap (λ row. before ++ row) (sym (ap (λ value. reply_line (value_row is_rw ups v.name value)) (as_it_is d v plain) ∙ row_text is_rw ups v.name v.value)))
 
 -- The answer to GET VAR, if the row is kept.
 pub kept_told : (ups name : List ℕ) (d : Device) (v : Entry) (end : List ℕ) → variable d.table name ≡ Some v → false ≡ (d.forced && bytes_eq v.name (codes "ups.status"))

@@ -35,7 +35,7 @@ pub enum Answer<'a> {
     /// The line of GET VAR: the name of the UPS, the UPS and the variable.
     Value(&'a [u8], &'a Device, &'a Variable),
     /// A list: its query, and its rows.
-    Listing(ListQuery<'a>, Rows<'a>),
+    Listing(&'a ListQuery<'a>, Rows<'a>),
 }
 
 impl Answer<'_> {

@@ -83,7 +83,7 @@ fn put_value(
         Err(refusal) => return put_refusal(out, refusal),
     };
     match variable_of(device, name) {
-        Ok(variable) => put_variable(out, &front_of(b"VAR", ups), ups, device, variable),
+        Ok(variable) => put_variable(out, false, &front_of(b"VAR", ups), ups, device, variable),
         Err(refusal) => put_refusal(out, refusal),
     }
 }

@@ -4,9 +4,9 @@ ghost use Rattle.std.specs.Prelude.{◌≡◌, ◌≤◌, ◌&&◌, ◌++◌, If
 ghost use Rattle.std.specs.Str.{bytes_eq};
 ghost use Rattle.nut_proto.specs.declared.reply.Reply.TheVariants as replies;
 ghost use Rattle.nut_proto.specs.Replies.{reply_line};
-ghost use Rattle.nut_server_spec.specs.Answer.{rw_row, text_of, var_row};
+ghost use Rattle.nut_server_spec.specs.Answer.{text_of, var_row};
 ghost use Rattle.nut_server.specs.inside.Answers.{given, rows_of};
-ghost use Rattle.nut_server.specs.inside.Rows.{writable_text, client_text, row_front};
+ghost use Rattle.nut_server.specs.inside.Rows.{client_text, row_front, row_word, value_row, variable_row, writable_text};
 
 use crate::answer::{Answer, Rows};
 use crate::config::{Config, Ups};
@@ -17,7 +17,7 @@ use crate::limits::FORCED_VALUE_MAX;
 use crate::row::{Front, front_of, put_row};
 use arrayvec::ArrayVec;
 use nut_proto::{Reply, Word};
-use nut_state::{Name, Range, Text, Variable};
+use nut_state::Variable;
 use nut_words::VALUE_MAX;
 use std::alloc::AllocError;
 
@@ -47,73 +47,65 @@ fn forced(value: &[u8]) -> ArrayVec<u8, FORCED_VALUE_MAX>
     shown
 }
 
-fn put_var(out: &mut Vec<u8>, ups: &[u8], name: &[u8], value: &[u8]) -> Result<(), AllocError>
-    ensures { OnOk result (out.new.items ≡ out.old.items ++ reply_line (replies.Var ups.now name.now value.now)) }
+/// Appends the row of a variable with this value, in LIST RW or in LIST VAR.
+fn put_value(
+    out: &mut Vec<u8>,
+    is_rw: bool,
+    ups: &[u8],
+    name: &[u8],
+    value: &[u8],
+) -> Result<(), AllocError>
+    ensures { OnOk result (out.new.items ≡ out.old.items ++ reply_line (value_row is_rw ups.now name.now value.now)) }
 {
-    let row = Reply::Var {
-        ups: Word::new(ups),
-        variable: Word::new(name),
-        value: Word::new(value),
-    };
-    row.put(out)
+    let (ups, variable, value) = (Word::new(ups), Word::new(name), Word::new(value));
+    if is_rw {
+        Reply::Rw {
+            ups,
+            variable,
+            value,
+        }
+        .put(out)
+    } else {
+        Reply::Var {
+            ups,
+            variable,
+            value,
+        }
+        .put(out)
+    }
 }
 
-fn put_rw(out: &mut Vec<u8>, ups: &[u8], name: &[u8], value: &[u8]) -> Result<(), AllocError>
-    ensures { OnOk result (out.new.items ≡ out.old.items ++ reply_line (replies.Rw ups.now name.now value.now)) }
-{
-    let row = Reply::Rw {
-        ups: Word::new(ups),
-        variable: Word::new(name),
-        value: Word::new(value),
-    };
-    row.put(out)
-}
-
-/// Appends the row of a variable in LIST VAR, with the value that clients see, by encoding it. It stands apart, so that no row
-/// that is kept pays for its values.
+/// Appends the row of a variable in LIST RW or in LIST VAR, with the value that clients see, by encoding it. It stands apart, so
+/// that no row that is kept pays for its values.
 #[inline(never)]
 fn encode_variable(
     out: &mut Vec<u8>,
+    is_rw: bool,
     ups: &[u8],
     device: &Device,
     variable: &Variable,
 ) -> Result<(), AllocError>
-    ensures { OnOk result (out.new.items ≡ out.old.items ++ reply_line (var_row ups.now device.now.device variable.now)) }
+    ensures { OnOk result (out.new.items ≡ out.old.items ++ reply_line (variable_row is_rw ups.now device.now.device variable.now)) }
 {
     if shows_forced(device, variable) {
         let shown = forced(variable.value());
-        return put_var(out, ups, variable.name(), shown.as_slice());
+        return put_value(out, is_rw, ups, variable.name(), shown.as_slice());
     }
-    put_var(out, ups, variable.name(), variable.value())
+    put_value(out, is_rw, ups, variable.name(), variable.value())
 }
 
-/// Appends the row of a variable in LIST RW, with the value that clients see, by encoding it.
-fn encode_writable(
-    out: &mut Vec<u8>,
-    ups: &[u8],
-    device: &Device,
-    variable: &Variable,
-) -> Result<(), AllocError>
-    ensures { OnOk result (out.new.items ≡ out.old.items ++ reply_line (rw_row ups.now device.now.device variable.now)) }
-{
-    if shows_forced(device, variable) {
-        let shown = forced(variable.value());
-        return put_rw(out, ups, variable.name(), shown.as_slice());
-    }
-    put_rw(out, ups, variable.name(), variable.value())
-}
-
-/// Appends the row of a variable in LIST VAR, with the value that clients see. It begins with `front`, and is encoded if the
-/// front or the end of the row isn't kept, or if another value is shown.
+/// Appends the row of a variable in LIST RW or in LIST VAR, with the value that clients see. It begins with `front`, and is
+/// encoded if the front or the end of the row isn't kept, or if another value is shown.
 pub fn put_variable(
     out: &mut Vec<u8>,
+    is_rw: bool,
     front: &Front,
     ups: &[u8],
     device: &Device,
     variable: &Variable,
 ) -> Result<(), AllocError>
-    requires { IfSome front.now (λ front. front.items ≡ row_front (codes "VAR") ups.now) }
-    ensures { OnOk result (out.new.items ≡ out.old.items ++ reply_line (var_row ups.now device.now.device variable.now)) }
+    requires { IfSome front.now (λ front. front.items ≡ row_front (row_word is_rw) ups.now) }
+    ensures { OnOk result (out.new.items ≡ out.old.items ++ reply_line (variable_row is_rw ups.now device.now.device variable.now)) }
 {
     if let Some(front) = front
         && let Some(end) = variable.row_end()
@@ -121,27 +113,7 @@ pub fn put_variable(
     {
         return put_row(out, front.as_slice(), end);
     }
-    encode_variable(out, ups, device, variable)
-}
-
-/// Appends the row of a variable in LIST RW, as [`put_variable`] does that in LIST VAR.
-fn put_writable(
-    out: &mut Vec<u8>,
-    front: &Front,
-    ups: &[u8],
-    device: &Device,
-    variable: &Variable,
-) -> Result<(), AllocError>
-    requires { IfSome front.now (λ front. front.items ≡ row_front (codes "RW") ups.now) }
-    ensures { OnOk result (out.new.items ≡ out.old.items ++ reply_line (rw_row ups.now device.now.device variable.now)) }
-{
-    if let Some(front) = front
-        && let Some(end) = variable.row_end()
-        && !shows_forced(device, variable)
-    {
-        return put_row(out, front.as_slice(), end);
-    }
-    encode_writable(out, ups, device, variable)
+    encode_variable(out, is_rw, ups, device, variable)
 }
 
 fn put_ups(out: &mut Vec<u8>, ups: &Ups<'_>) -> Result<(), AllocError>
@@ -150,39 +122,6 @@ fn put_ups(out: &mut Vec<u8>, ups: &Ups<'_>) -> Result<(), AllocError>
     let row = Reply::Ups {
         ups: Word::new(ups.name),
         description: Word::new(ups.description),
-    };
-    row.put(out)
-}
-
-fn put_command(out: &mut Vec<u8>, ups: &[u8], command: &Name) -> Result<(), AllocError>
-    ensures { OnOk result (out.new.items ≡ out.old.items ++ reply_line (replies.Cmd ups.now command.now)) }
-{
-    let row = Reply::Cmd {
-        ups: Word::new(ups),
-        command: Word::new(command.as_bytes()),
-    };
-    row.put(out)
-}
-
-fn put_enum(out: &mut Vec<u8>, ups: &[u8], name: &[u8], value: &Text) -> Result<(), AllocError>
-    ensures { OnOk result (out.new.items ≡ out.old.items ++ reply_line (replies.Enum ups.now name.now value.now)) }
-{
-    let row = Reply::Enum {
-        ups: Word::new(ups),
-        variable: Word::new(name),
-        value: Word::new(value.as_bytes()),
-    };
-    row.put(out)
-}
-
-fn put_range(out: &mut Vec<u8>, ups: &[u8], name: &[u8], range: Range) -> Result<(), AllocError>
-    ensures { OnOk result (out.new.items ≡ out.old.items ++ reply_line (replies.Range ups.now name.now range.minimum range.maximum)) }
-{
-    let row = Reply::Range {
-        ups: Word::new(ups),
-        variable: Word::new(name),
-        min: range.minimum,
-        max: range.maximum,
     };
     row.put(out)
 }
@@ -217,7 +156,7 @@ pub fn put_variables(out: &mut Vec<u8>, ups: &[u8], device: &Device) -> Result<(
 {
     let front = front_of(b"VAR", ups);
     for variable in device.table().variables() {
-        put_variable(out, &front, ups, device, variable)?;
+        put_variable(out, false, &front, ups, device, variable)?;
     }
     Ok(())
 }
@@ -229,7 +168,7 @@ fn put_writables(out: &mut Vec<u8>, ups: &[u8], device: &Device) -> Result<(), A
     let front = front_of(b"RW", ups);
     for variable in device.table().variables() {
         if variable.flags().writable {
-            put_writable(out, &front, ups, device, variable)?;
+            put_variable(out, true, &front, ups, device, variable)?;
         }
     }
     Ok(())
@@ -240,7 +179,11 @@ fn put_commands(out: &mut Vec<u8>, ups: &[u8], device: &Device) -> Result<(), Al
     ensures { OnOk result (out.new.items ≡ out.old.items ++ flat_map (λ k. reply_line (replies.Cmd ups.now k)) device.now.device.table.commands) }
 {
     for command in device.table().commands() {
-        put_command(out, ups, command)?;
+        Reply::Cmd {
+            ups: Word::new(ups),
+            command: Word::new(command.as_bytes()),
+        }
+        .put(out)?;
     }
     Ok(())
 }
@@ -255,7 +198,12 @@ fn put_enums(
     ensures { OnOk result (out.new.items ≡ out.old.items ++ flat_map (λ x. reply_line (replies.Enum ups.now name.now x)) variable.now.enums) }
 {
     for value in variable.enums() {
-        put_enum(out, ups, name, value)?;
+        Reply::Enum {
+            ups: Word::new(ups),
+            variable: Word::new(name),
+            value: Word::new(value.as_bytes()),
+        }
+        .put(out)?;
     }
     Ok(())
 }
@@ -270,7 +218,13 @@ fn put_ranges(
     ensures { OnOk result (out.new.items ≡ out.old.items ++ flat_map (λ r. reply_line (replies.Range ups.now name.now r.minimum r.maximum)) variable.now.ranges) }
 {
     for range in variable.ranges() {
-        put_range(out, ups, name, *range)?;
+        Reply::Range {
+            ups: Word::new(ups),
+            variable: Word::new(name),
+            min: range.minimum,
+            max: range.maximum,
+        }
+        .put(out)?;
     }
     Ok(())
 }
@@ -317,7 +271,7 @@ pub fn put_answer(out: &mut Vec<u8>, answer: &Answer<'_>) -> Result<(), AllocErr
         Answer::Silence => Ok(()),
         Answer::Line(reply) => reply.put(out),
         Answer::Value(ups, device, variable) => {
-            put_variable(out, &front_of(b"VAR", ups), ups, device, variable)
+            put_variable(out, false, &front_of(b"VAR", ups), ups, device, variable)
         }
         Answer::Listing(query, rows) => {
             query.put_begin(out)?;

@@ -30,7 +30,7 @@ abbrev pub given : Answer → A.Answer
 given answer.Silence = A.Silence
 given (answer.Line reply) = A.Line reply
 given (answer.Value ups device variable) = A.Line (A.var_row ups.now device.now.device variable.now)
-given (answer.Listing query rows) = A.Listing query (rows_of rows)
+given (answer.Listing query rows) = A.Listing query.now (rows_of rows)
 
 -- the answer that a result represents, or its refusal
 abbrev pub outcome : Result Answer Refusal → A.Answer

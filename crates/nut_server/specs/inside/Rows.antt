@@ -1,14 +1,29 @@
 -- For private functions, nothing here has to be believed: what the rows of LIST VAR and LIST RW begin with, and the texts
 -- of the rows of LIST RW and LIST CLIENT, which leave out some of what they walk over.
-use Rattle.std.specs.Prelude.{ℕ, List, [], ◌∷◌, ◌++◌, if◌then◌else◌}
+use Rattle.std.specs.Prelude.{ℕ, Bool, true, false, List, [], ◌∷◌, ◌++◌, codes, if◌then◌else◌}
 use Rattle.nut_words.specs.Bytes.{blank}
 use Rattle.nut_words.specs.Quoting.{word_text}
 use Rattle.nut_state.specs.Table.{Entry}
+use Rattle.nut_proto.specs.declared.reply.Reply.{Reply}
 use Rattle.nut_proto.specs.declared.reply.Reply.TheVariants as replies
 use Rattle.nut_proto.specs.Replies.{reply_line}
-use Rattle.nut_server_spec.specs.Answer.{is_logged_in, rw_row}
+use Rattle.nut_server_spec.specs.Answer.{is_logged_in, rw_row, shown}
 use Rattle.nut_server_spec.specs.Content.{Session}
 use Rattle.nut_server_spec.specs.Device.{Device}
+
+-- what a row of a variable begins with, in LIST RW or in LIST VAR
+abbrev pub row_word : (is_rw : Bool) → List ℕ
+row_word true = codes "RW"
+row_word false = codes "VAR"
+
+-- the row of a variable with this value, in LIST RW or in LIST VAR
+abbrev pub value_row : (is_rw : Bool) (ups name value : List ℕ) → Reply
+value_row true ups name value = replies.Rw ups name value
+value_row false ups name value = replies.Var ups name value
+
+-- the row of a variable of this UPS, in LIST RW or in LIST VAR
+abbrev pub variable_row : (is_rw : Bool) → List ℕ → Device → Entry → Reply
+variable_row is_rw ups d v = value_row is_rw ups v.name (shown d v)
 
 -- the row of a variable in LIST RW, or nothing if clients may not set it
 abbrev pub writable_text : List ℕ → Device → Entry → List ℕ
