@@ -88,8 +88,8 @@ LIMITS = {
         ("that isn't reached within {} seconds or refuses the login", "nut_monitor_sockets/visits PATIENCE"),
         ("or doesn't answer, within {} seconds", "nut_monitor_sockets/visits PATIENCE"),
         ("a server that doesn't answer within {} seconds.", "nut_monitor_sockets/limits ANSWER_ON_BATTERY"),
-        ("doesn't wait for it; at most {} run at a time", "nut_upsmon/notify_command RUNNING_MAX"),
-        ("NOTIFYCMD skipped: {} still running", "nut_upsmon/notify_command RUNNING_MAX"),
+        ("doesn't wait for it; at most {} run at a time", "nut_upsmon/notifier RUNNING_MAX"),
+        ("NOTIFYCMD skipped: {} still running", "nut_upsmon/notifier RUNNING_MAX"),
     ),
     "upsmon.conf.5": (
         ("There are at most {} of these lines", "nut_conf/limits MONITORS_MAX"),
