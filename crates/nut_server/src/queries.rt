@@ -187,6 +187,15 @@ pub fn answer_question<'a>(
         Request::NetVer => Ok(Answer::Line(Reply::NetworkVersion)),
         Request::Help => Ok(Answer::Line(Reply::Commands)),
         Request::StartTls => Err(Refusal::FeatureNotConfigured),
-        _ => unreachable!(),
+        Request::GetTracking
+        | Request::SetVar { .. }
+        | Request::SetTracking { .. }
+        | Request::InstCmd { .. }
+        | Request::Username { .. }
+        | Request::Password { .. }
+        | Request::Login { .. }
+        | Request::Primary { .. }
+        | Request::Fsd { .. }
+        | Request::Logout => unreachable!(),
     }
 }
