@@ -4,7 +4,7 @@ use crate::driver_socket::listen_at;
 use crate::dummy_driver::DummyDriver;
 use crate::listen_fault::ListenFault;
 use crate::nuts_options::NUTS_OPTIONS;
-use clap::{Arg, ArgMatches, Command};
+use clap::{Arg, Command};
 use mio::net::UnixListener;
 use nut_dummy::{Dummy, Script, ScriptFault, ScriptFaultKind, ScriptKind};
 use nut_log::Lines;
@@ -94,6 +94,7 @@ pub fn run_dummy_ups<S: AsStr, O: Write, E: Lines>(
     }
 }
 
+/// Plays the script that these words name to servers that connect at a socket.
 fn run<'a, S: AsStr, E: Lines>(
     rt: &(impl Wait + Files<File = File> + Net + Clock),
     alloc: Global,
@@ -101,30 +102,8 @@ fn run<'a, S: AsStr, E: Lines>(
     err: &mut E,
 ) -> Result<(), Failure<DummyUpsFault<'a>>> {
     let matches = command(alloc)?.try_get_matches_from(words)?;
-    run_matches(rt, alloc, &matches, err)
-}
-
-/// Does what a command line asks for that clap has accepted.
-fn run_matches<'a, E: Lines>(
-    rt: &(impl Wait + Files<File = File> + Net + Clock),
-    alloc: Global,
-    matches: &ArgMatches<'a>,
-    err: &mut E,
-) -> Result<(), Failure<DummyUpsFault<'a>>> {
-    let file = matches.get_str("file").unwrap_or("");
     let socket = matches.get_str("socket").unwrap_or("");
-    tell_file(rt, alloc, file, socket, err)
-}
-
-/// Plays the script of a file to servers that connect at a socket.
-fn tell_file<'a, E: Lines>(
-    rt: &(impl Wait + Files<File = File> + Net + Clock),
-    alloc: Global,
-    file: &'a str,
-    socket: &'a str,
-    err: &mut E,
-) -> Result<(), Failure<DummyUpsFault<'a>>> {
-    let script = read_script(rt, alloc, file)?;
+    let script = read_script(rt, alloc, matches.get_str("file").unwrap_or(""))?;
     match Dummy::new(alloc, script, 0) {
         Ok(dummy) => tell_at(rt, alloc, dummy, socket, err),
         Err(_) => Err(Failure::Memory),
@@ -193,13 +172,17 @@ fn turn_for_ever<E: Lines>(
     unreachable!()
 }
 
-/// Reads the script of a file.
+/// Reads the script of a file, whose kind the end of its name says.
 fn read_script<'a>(
     files: &impl Files,
     alloc: Global,
     file: &'a str,
 ) -> Result<Script, Failure<DummyUpsFault<'a>>> {
-    let Some(kind) = kind_of(file) else {
+    let kind = if file.ends_with(".dev") {
+        ScriptKind::Dev
+    } else if file.ends_with(".seq") {
+        ScriptKind::Seq
+    } else {
         return Err(Failure::Own(DummyUpsFault::UnknownKind(file)));
     };
     let bytes = contents(files, alloc, file)?;
@@ -224,17 +207,6 @@ fn contents<'a>(
             let remark = remark_on_unread(alloc, file, &error);
             Err(Failure::Own(DummyUpsFault::CannotRead(file, remark)))
         }
-    }
-}
-
-/// Returns the kind of a script, by the end of its name.
-fn kind_of(file: &str) -> Option<ScriptKind> {
-    if file.ends_with(".dev") {
-        Some(ScriptKind::Dev)
-    } else if file.ends_with(".seq") {
-        Some(ScriptKind::Seq)
-    } else {
-        None
     }
 }
 

@@ -87,7 +87,13 @@ impl DummyDriver {
         };
         if let Err(end) = converse(link, &mut self.dummy, &mut self.tasks) {
             self.link = None;
-            tell_end(end, err);
+            if end == LinkEnd::OutOfMemory {
+                // what can't be written is dropped
+                let _ = writeln!(
+                    err.begin(Level::Warning),
+                    "connection of the server closed: out of memory"
+                );
+            }
             self.let_in();
         }
         Ok(())
@@ -135,16 +141,6 @@ impl DummyDriver {
         }
         self.link = Some(Link::local(stream));
         self.dummy.linked();
-    }
-}
-
-/// Writes why a link ended, if the driver itself closed it. What can't be written is dropped.
-fn tell_end<E: Lines>(end: LinkEnd, err: &mut E) {
-    if end == LinkEnd::OutOfMemory {
-        let _ = writeln!(
-            err.begin(Level::Warning),
-            "connection of the server closed: out of memory"
-        );
     }
 }
 
@@ -203,20 +199,11 @@ fn hear<S: Read + Write>(
     match heard {
         Heard::Nothing => Ok(()),
         Heard::End => Err(LinkEnd::Lost),
-        Heard::All | Heard::Part => give(piece.as_slice(), dummy),
-    }
-}
-
-/// Gives the dummy driver a piece that its server sent.
-///
-/// # Errors
-///
-/// Why the link has ended.
-fn give(piece: &[u8], dummy: &mut Dummy) -> Result<(), LinkEnd> {
-    match dummy.server_bytes(piece) {
-        Ok(()) => Ok(()),
-        Err(DummyFault::Memory(_)) => Err(LinkEnd::OutOfMemory),
-        Err(_) => Err(LinkEnd::Lost),
+        Heard::All | Heard::Part => match dummy.server_bytes(piece.as_slice()) {
+            Ok(()) => Ok(()),
+            Err(DummyFault::Memory(_)) => Err(LinkEnd::OutOfMemory),
+            Err(_) => Err(LinkEnd::Lost),
+        },
     }
 }
 
