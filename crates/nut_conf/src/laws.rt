@@ -36,9 +36,10 @@ pub fn names_are_distinct()
     ensures users { (file : List ℕ) (lines : List Words) → read_file users_fault file ≡ Ok lines → HasDistinctNames (sections lines) }
 {}
 
-/// States a law and does nothing when called: in a file that reads, each directive is set at most as often as it may be.
-/// It has at most as many endpoints, `instcmds` of a user, targets and descriptions as `limits` says. Each target stands
-/// once, each type of notice has at most one text and one line of flags, and each name one description.
+/// States a law and does nothing when called: in a file that reads without a fault, each directive is set at most as
+/// often as it may be. The file has at most as many endpoints, `instcmds` of a user, targets and descriptions as `limits`
+/// says. Each target stands once, each type of notice has at most one text and one line of flags, and each name one
+/// description.
 pub fn rules_are_kept()
     ensures ups { (file : List ℕ) (lines : List Words) → read_file ups_fault file ≡ Ok lines
         → (d : UpsDirective) → EachKeepsRule (ups_row d).directive (sections lines) }

@@ -170,7 +170,7 @@ pub fn waiting_is_left()
     ensures { WaitingIsLeft }
 {}
 
-/// States a law and does nothing when called: `linked_is_made` and `waiting_is_left` for every number, also for one
+/// States a law and does nothing when called: `linked_is_made` and `waiting_is_left` hold for every number, also for one
 /// that no MONITOR line has, after every history of accepted events.
 pub fn links_are_told()
     ensures { LinksAreTold }

@@ -3,7 +3,7 @@
 ghost use Rattle.nut_poll.specs.Turns.{EachHasItsTurn, LooksGoOn, NobodyIsPassedOver, OthersComeOnce};
 
 /// States laws and does nothing when called: none of the sources that wait in a queue is passed over. Between two looks
-/// at one, each other that waited was looked at, and one waits for each other at most once.
+/// at a source, each other source that waited was looked at, and a source waits for each other at most once.
 pub fn nobody_is_passed_over()
     ensures goes_on { LooksGoOn }
     ensures between { NobodyIsPassedOver }

@@ -19,7 +19,7 @@ pub fn read_requests_are_readable()
     ensures { ReadRequestsAreReadable }
 {}
 
-/// States a law and does nothing when called: how long a row of LIST VAR and its whole answer can be.
+/// States a law and does nothing when called: a row of LIST VAR, and its whole answer, have at most a stated length.
 pub fn replies_are_bounded()
     ensures rows { RowsAreBounded }
     ensures lists { ListsAreBounded }

@@ -135,8 +135,8 @@ pub fn sent_is_front_of_due()
     ensures { SentIsFrontOfDue }
 {}
 
-/// States a law and does nothing when called: a driver was sent what it accepted. Since it was connected that
-/// is, piece by piece, the bytes that it accepted of those that waited for it.
+/// States a law and does nothing when called. What a driver was sent since it was connected is what it accepted, piece by
+/// piece, of the bytes that waited for it.
 pub fn driver_sent_is_received()
     ensures { DriverSentIsReceived }
 {}
@@ -245,8 +245,8 @@ pub fn numbers_are_distinct()
     ensures { NumbersAreDistinct }
 {}
 
-/// States a law and does nothing when called: what a reload leaves of a UPS and of the connections that are logged in to
-/// it. Suppose that the names of each configuration's UPSes are distinct.
+/// States a law and does nothing when called. It says what a reload leaves of a UPS and of the connections that are
+/// logged in to it, if the UPSes of each configuration have different names.
 pub fn upses_stay()
     ensures { UpsesStay }
 {}
