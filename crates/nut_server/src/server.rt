@@ -194,7 +194,10 @@ impl Parts {
         ensures answered { Answers self.old (event_of arrival.entry) result }
         ensures content { self.new ≡ content_after result self.old (event_of arrival.entry) }
     {
-        self.deed = None;
+        // to write nothing over nothing would take more instructions than the test
+        if self.deed.is_some() {
+            self.deed = None;
+        }
         match arrival {
             Arrival::Moment(t) => {
                 self.moment(t);
