@@ -498,7 +498,8 @@ class Refusals:
                 self.forget()
         self.tools = [toolchain().rtlib.sum_of(it) for it in (*TOOL, toolchain().rtlib.RATTLE)]
         # the edits' files before any is read, what decides about the crates, and where each edit is kept
-        self.files, self.sums, self.names, self.known = {it: files_of_edits(it) for it in crates}, {}, {}, {}
+        self.files = {it: files_of_edits(it) for it in crates} if self.kept else {}
+        self.sums, self.names, self.known = {}, {}, {}
 
     def forget(self):
         """Removes what no run asked for in a long time, and what is too many."""
@@ -516,8 +517,10 @@ class Refusals:
 
     def look(self, crate, edits):
         """Returns the results of those of a crate's edits that are known. The libraries below are built."""
-        self.sums[crate] = self.sum_of(crate) if self.kept else None
-        for edit in edits if self.kept else ():
+        if not self.kept:
+            return {}
+        self.sums[crate] = self.sum_of(crate)
+        for edit in edits:
             # edits of definitions that name goals share rounds, so the others may be why it was refused
             beside = [read_bytes(it.path) for it in edits if edit.goal and it.goal]
             self.names[edit] = self.kept.of_edit(edit.path, (self.sums[crate][0], beside))
@@ -530,7 +533,9 @@ class Refusals:
 
     def keep(self, crate, said):
         """Keeps the edits of a crate that were just refused, unless a file that decides about them was touched meanwhile."""
-        now = self.kept and (self.kept.is_untouched(crate), files_of_edits(crate), self.sum_of(crate))
+        if not self.kept:
+            return
+        now = self.kept.is_untouched(crate), files_of_edits(crate), self.sum_of(crate)
         for edit in said if now == (True, self.files[crate], self.sums[crate]) else ():
             if said[edit][0]:
                 self.kept.keep_tried(self.names[edit], toolchain().REFUSED, said[edit][1])
