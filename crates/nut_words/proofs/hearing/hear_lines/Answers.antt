@@ -1,5 +1,4 @@
 use Rattle.std.proofs.Common.{◌≡◌, ◌+◌, ◌≤◌, ◌++◌, ℕ, List, [], ◌∷◌, length, take, drop, sym, ap, subst, ◌∙◌, arith, length-append}
-use Rattle.std.proofs.lemmas.Grind.{common_steps}
 use Rattle.std.proofs.lemmas.List.{take_rest, drop-drop, length-drop}
 use Rattle.nut_words.specs.Cutter.{handed_out, line_of}
 use Rattle.nut_words.specs.Hearing.{heard_all}
@@ -114,9 +113,3 @@ returns-clause-count g c =
     let h = c.loop-left.invariant.heard in
     let whole = taken_whole h.0 c.args.piece.now c.loop-left.left.now h.2 (sym c.is_empty.ensures ∙ c.loop-left-test.false) in
     h.3 ∙ ap (λ x. length (lines_after c.args.cutter.now x)) whole
-
-pub loop-left-smaller : goal.loop-left-smaller
-loop-left-smaller g c = grind (arith, common_steps)
-
-pub returns-clause-heard : goal.returns-clause-heard
-returns-clause-heard g c = grind (arith, common_steps)
