@@ -1,16 +1,15 @@
 -- Laws of answers, of links and what waits on them, and of the shutdown.
-use Rattle.std.proofs.Common.{◌≡◌, ℕ, Bool, true, false, ◌&&◌, inl, inr, List, [], ◌∷◌, ◌++◌, length, drop, take, refl, sym, ◌∙◌, ap, subst, arith, Option, Some, None, is_some, is_none, if◌then◌else◌}
+use Rattle.std.proofs.Common.{◌≡◌, ℕ, Bool, List, [], ◌∷◌, length, drop, refl, ◌∙◌, ap, arith, Option, Some, None, if◌then◌else◌}
 use Rattle.std.specs.Prelude.{Ok, Err}
 use Rattle.std.proofs.lemmas.List.{take-append-drop}
 use Rattle.std.proofs.Math.ListN.{drop_of_length-le}
 use Rattle.nut_words.specs.Lines.{rest}
-use Rattle.nut_link.specs.Link.{LinkValue}
 use Rattle.nut_monitor_spec.specs.declared.MonitorFault.TheVariants.{Memory}
 use Rattle.nut_monitor_spec.specs.Configuration.{Configuration, line_in}
 use Rattle.nut_monitor_spec.specs.Event.{Event, LinkBytes, OutOfMemory}
-use Rattle.nut_monitor_spec.specs.Trace.{Asked, Entry, earliest, clock, moment_of, linked, input, taken, queries, answers, number, outstanding, due, waits, trace, is_short, is_over_at, entry_of}
-use Rattle.nut_monitor_spec.specs.Content.{Content, stage_in, watch, content}
-use Rattle.nut_monitor_spec.specs.Acceptance.{Accepts, Tells, answer_on, is_linked, waiting_on, waits_on}
+use Rattle.nut_monitor_spec.specs.Trace.{Asked, Entry, earliest, moment_of, linked, input, taken, outstanding, due, waits, trace}
+use Rattle.nut_monitor_spec.specs.Content.{Content, stage_in, watch}
+use Rattle.nut_monitor_spec.specs.Acceptance.{Accepts, Tells, answer_on, waiting_on, waits_on}
 use Rattle.nut_monitor_spec.specs.machine.Machine.{advance}
 use Rattle.nut_monitor_spec.specs.Outcome.{IsRefusal, after}
 use Rattle.nut_monitor_spec.specs.machine.MachineOutcome.{AnswersKeepContent, content_after}
@@ -22,9 +21,7 @@ use Rattle.nut_monitor_spec.proofs.Kept.{all-hold, keeps-content}
 -- ---- answers
 
 one-more : (configuration : Configuration) (events : List Event) (s : Content) (event : Event) → Tells configuration events s → Accepts s event → Tells configuration (event ∷ events) (advance s event)
-one-more configuration events s event told accepted =
-    let accepted' : Accepts (content configuration events) event = subst (λ x. Accepts x event) told.1 accepted in
-    ((told.0, accepted'), ap (λ x. advance x event) told.1 ∙ sym (keeps-content configuration events event (told.0, accepted')))
+one-more configuration events s event told accepted = grind (arith, keeps-content)
 
 lacking : (configuration : Configuration) (events : List Event) (s : Content) (event : Event) (link : Option ℕ) (k : ℕ) → Tells configuration events s →
     IsRefusal s event (Memory link k) → Tells configuration (after {U = Unit {0}} (Err (Memory link k)) event events) (content_after {U = Unit {0}} (Err (Memory link k)) s event)
@@ -39,14 +36,8 @@ answers-keep configuration events s event (Err _) told is = told
 
 -- ---- links
 
-there-if : (b : Bool) (v : LinkValue) → is_some (if b then Some v else None) ≡ b
-there-if true v = refl
-there-if false v = refl
-
 pub linked-made : LinkedIsMade
-linked-made configuration events i less =
-    let past = trace configuration events in
-    ap is_linked (get_at i (watch configuration past) configuration.lines less) ∙ there-if (linked i past) _
+linked-made configuration events i less = grind (arith, get_at)
 
 pub answers-told : AnswersAreTold
 answers-told configuration events i less = ap answer_on (get_at i (watch configuration (trace configuration events)) configuration.lines less)
@@ -65,16 +56,7 @@ module _ (configuration : Configuration) (past : List Entry) (i : ℕ) where
   }) else None)
 
   waits-if : (b : Bool) → linked i past ≡ b → (IsTidy configuration i past) → waiting_by b (outstanding i past) ≡ (if b then drop (taken i past) (due configuration i past) else [])
-  waits-if false is tidy = refl
-  waits-if true is tidy =
-      let whole : waits configuration i past ≡ drop (taken i past) (due configuration i past) = ap (λ b. if b then drop (taken i past) (due configuration i past) else []) is in
-      elim (tidy is) [
-        | inl idle ↦
-            ap (waiting_by true) (number-none (length (answers i past)) (queries i past) (omega (arith, idle.answered)))
-            ∙ sym (nothing-left (due configuration i past) (taken i past) idle.taken)
-        | inr asked ↦
-            ap (waiting_by true) (ap (number (length (answers i past))) asked.queries ∙ number-head (length (answers i past)) asked.asked asked.older asked.answered) ∙ whole
-      ]
+  waits-if b is tidy = grind (arith, number-none, nothing-left, number-head)
 
 pub waiting-left : WaitingIsLeft
 waiting-left configuration events i accepted less =
@@ -83,20 +65,12 @@ waiting-left configuration events i accepted less =
     ∙ waits-if configuration past i (linked i past) refl ((all-hold configuration events accepted).tidy i)
 
 pub sent-and-waiting : SentAndWaitingIsDue
-sent-and-waiting configuration events i there =
-    let past = trace configuration events in
-    let bytes = due configuration i past in
-    ap (λ b. take (taken i past) bytes ++ (if b then drop (taken i past) bytes else [])) there ∙ take-append-drop (taken i past) bytes
+sent-and-waiting configuration events i there = grind (arith, take-append-drop)
 
 -- ---- the shutdown
 
 stays : (test : List Entry → Bool) (past : List Entry) (entry : Entry) (m : ℕ) → moment_of (earliest test past) ≡ Some m → moment_of (earliest test (entry ∷ past)) ≡ Some m
-stays test past entry m is =
-    earliest-moment test past entry
-    ∙ ap (λ o. if is_none o && test (entry ∷ past) then Some (clock (entry ∷ past)) else o) is
+stays test past entry m is = grind (arith, earliest-moment)
 
 pub shutdown-stays : ShutdownStays
-shutdown-stays = record {
-  begun = λ configuration events event m is. stays (is_short configuration) (trace configuration events) (entry_of configuration (trace configuration events) event) m is;
-  ended = λ configuration events event m is. stays (is_over_at configuration) (trace configuration events) (entry_of configuration (trace configuration events) event) m is;
-}
+shutdown-stays = grind (arith, stays)

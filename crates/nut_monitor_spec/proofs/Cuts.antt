@@ -1,11 +1,11 @@
 -- Cutting an unfinished line into pieces doesn't change the content.
-use Rattle.std.proofs.Common.{◌≡◌, ℕ, suc, ◌<◌, Bool, true, false, not, ◌&&◌, eqb, List, [], ◌∷◌, ◌++◌, length, drop, refl, sym, ◌∙◌, ap, subst, Option, Some, None, is_none, if◌then◌else◌, append-nil, zero}
+use Rattle.std.proofs.Common.{arith}
+use Rattle.std.proofs.Common.{◌≡◌, ℕ, suc, ◌<◌, true, false, not, ◌&&◌, eqb, List, [], ◌∷◌, ◌++◌, length, drop, refl, sym, ◌∙◌, ap, subst, Option, Some, None, is_none, if◌then◌else◌, append-nil, zero}
 use mathlib.Core.Path.{fun_ext}
 use Rattle.std.proofs.lemmas.Bool.{eq-eqb}
-use Rattle.nut_words.specs.Lines.{rest, rest_after, lines_after}
+use Rattle.nut_words.specs.Lines.{rest, rest_after}
 use Rattle.nut_words.proofs.StreamGrowth.{rest-append}
-use Rattle.nut_link.specs.Exchange.{Exchange}
-use Rattle.nut_link.specs.Link.{LinkValue, fed, link_with, lines_heard}
+use Rattle.nut_link.specs.Link.{LinkValue, fed}
 use Rattle.nut_link.proofs.Feeding.{rest_cut}
 use Rattle.nut_words.proofs.HearLemmas.{lines_cut}
 use Rattle.nut_monitor_spec.specs.Configuration.{Configuration, line_in}
@@ -13,9 +13,8 @@ use Rattle.nut_monitor_spec.specs.Event.{Event, LinkBytes}
 use Rattle.nut_monitor_spec.specs.Decision.{next_query}
 use Rattle.nut_monitor_spec.specs.Trace.{Entry, clock, input, linked, outstanding, waits, queries, answers, taken, known, may_ask, last_query, forced, begun, has_begun, has_ended, came, entry_of, first_answer, lost_by, brought, notices_of, query_put, notices_taken, trace, notices_waiting}
 use Rattle.nut_monitor_spec.specs.Trace
-use Rattle.nut_monitor_spec.specs.Content.{Watch, Content, stage_in, link_at, watch, content_of}
+use Rattle.nut_monitor_spec.specs.Content.{Watch, Content, link_at, watch, content_of}
 use Rattle.nut_monitor_spec.specs.machine.Machine.{update, given, with_watch, piece_heard, settled, watch_heard, told_heard}
-use Rattle.nut_monitor_spec.specs.machine.Machine
 use Rattle.nut_monitor_spec.specs.laws.Laws.{CutsDoNotMatter}
 use Rattle.nut_monitor_spec.proofs.Lists.{for_each-update, get_at, found_within}
 use Rattle.nut_monitor_spec.proofs.Newest.{marked}
@@ -47,14 +46,7 @@ module _ (configuration : Configuration) (newest : Entry) (older : List Entry) (
   event = LinkBytes i x
 
   came-bare : came configuration past event ≡ bare event
-  came-bare =
-      ap (λ texts. let e : Entry = record {
-        event = event;
-        answer = first_answer configuration past i texts;
-        lost = lost_by i (first_answer configuration past i texts) texts;
-        put = λ j. None;
-        notices = [];
-      } in e) none
+  came-bare = grind arith
 
   pub piece-entry : ((j : ℕ) → query_put configuration past j ≡ None) → entry_of configuration past event ≡ bare event
   piece-entry still =
@@ -70,21 +62,11 @@ module _ (configuration : Configuration) (newest : Entry) (older : List Entry) (
   rest-on : rest (if eqb i i then input i past ++ x else input i past) ≡ rest_after (rest (input i past)) x
   rest-on = ap (λ b. rest (if b then input i past ++ x else input i past)) (eq-eqb i i refl) ∙ rest-append (input i past) x
 
-  on-if : (b : Bool) (stage : Exchange) → (let o : Option LinkValue = if b then Some (record { rest = rest_after (rest (input i past)) x; exchange = stage }) else None in o)
-      ≡ link_on x (if b then Some (record { rest = rest (input i past); exchange = stage }) else None)
-  on-if true stage = refl
-  on-if false stage = refl
-
   piece-own : watch configuration (bare event ∷ past) i ≡ goes_on_by x (watch configuration past i)
-  piece-own =
-      let stage : Exchange = record { stage = stage_in (line_in configuration.lines i) (outstanding i past) (waits configuration i past); fault = None } in
-      let of = λ (l : Option LinkValue). let w : Watch = record (watch configuration past i) { link = l } in w in
-      ap (λ r. of (if linked i past then Some (record { rest = r; exchange = stage }) else None)) rest-on
-      ∙ ap of (on-if (linked i past) stage)
+  piece-own = grind (arith, rest-on)
 
   piece-other : (j : ℕ) → eqb i j ≡ false → watch configuration (bare event ∷ past) j ≡ watch configuration past j
-  piece-other j differ =
-      ap (λ b. watch_by configuration j (linked j past) (if b then input j past ++ x else input j past) (queries j past) (answers j past) (taken j past) (known j past)) differ
+  piece-other j differ = grind (arith, watch_by)
 
   pub piece-law : content_of configuration (bare event ∷ past) ≡ (let s : Content = content_of configuration past in record s { watches = update i (goes_on_by x) s.watches })
   piece-law =
@@ -98,13 +80,7 @@ module _ (configuration : Configuration) (newest : Entry) (older : List Entry) (
 
   -- feeding the whole piece gives the link that feeding its two parts gives
   fed-same : (y : List ℕ) → fed y (link_at configuration (bare event ∷ past) i) ≡ fed (x ++ y) (link_at configuration past i)
-  fed-same y =
-      let a = input i past in
-      let e : Exchange = (link_at configuration past i).exchange in
-      ap (λ b. link_with (rest_after (rest (if b then a ++ x else a)) y) (lines_heard (lines_after (rest (if b then a ++ x else a)) y) e)) (eq-eqb i i refl)
-      ∙ ap (λ r. link_with r (lines_heard (lines_after (rest (a ++ x)) y) e)) (sym (rest_cut a x y))
-      ∙ ap (λ ls. link_with (rest_after (rest a) (x ++ y)) (lines_heard (ls ++ lines_after (rest (a ++ x)) y) e)) (sym none)
-      ∙ ap (λ ls. link_with (rest_after (rest a) (x ++ y)) (lines_heard ls e)) (sym (lines_cut a x y))
+  fed-same y = grind (arith, eq-eqb, rest_cut, lines_cut)
 
   pub pieces-same : (y : List ℕ) →
       piece_heard i y (watch configuration (bare event ∷ past) i) (Some (link_at configuration (bare event ∷ past) i)) (content_of configuration (bare event ∷ past))
@@ -126,11 +102,7 @@ module _ (configuration : Configuration) (newest : Entry) (older : List Entry) (
 heard-settled : (configuration : Configuration) (past : List Entry) (i : ℕ) (piece : List ℕ) → Holds configuration past → (there : IsThere configuration past i) →
     content_of configuration (entry_of configuration past (LinkBytes i piece) ∷ past)
     ≡ settled (piece_heard i piece (watch configuration past i) (Some (link_at configuration past i)) (content_of configuration past))
-heard-settled configuration past i piece holds there =
-    let s = content_of configuration past in
-    (keeps-heard configuration past i piece holds there).law
-    ∙ ap (λ o. settled (Machine.bytes_heard i piece o s)) there.0
-    ∙ ap (λ l. settled (piece_heard i piece (watch configuration past i) l s)) (link-there configuration past i there.1)
+heard-settled configuration past i piece holds there = grind (arith, keeps-heard, link-there)
 
 cut-by : (configuration : Configuration) (past : List Entry) (i : ℕ) (x y : List ℕ) → Holds configuration past → IsThere configuration past i → brought i past x ≡ [] →
     content_of configuration (entry_of configuration past (LinkBytes i (x ++ y)) ∷ past)
@@ -149,7 +121,4 @@ cut-by configuration (newest ∷ older) i x y holds there none =
     ∙ ap (λ e. content_of configuration (entry_of configuration (e ∷ past) (LinkBytes i y) ∷ e ∷ past)) (sym is)
 
 pub cut-law : CutsDoNotMatter
-cut-law configuration events i x y accepted none =
-    let past = trace configuration events in
-    let holds = all-hold configuration events accepted.0 in
-    cut-by configuration past i x y holds (bytes-there configuration past i (content_of configuration past) x (found configuration past i) refl accepted.1.0) none
+cut-law configuration events i x y accepted none = grind (arith, all-hold, cut-by, bytes-there, found)

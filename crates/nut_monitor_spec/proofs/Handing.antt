@@ -1,10 +1,10 @@
 -- The notices that were handed out, and those that wait.
-use Rattle.std.proofs.Common.{◌≡◌, ℕ, ◌+◌, ◌≤◌, List, [], ◌∷◌, ◌++◌, length, take, drop, refl, sym, ◌∙◌, ap, ap₂, arith, length-drop, append_assoc, drop-drop, take-append-drop}
+use Rattle.std.proofs.Common.{◌≡◌, ℕ, ◌+◌, ◌≤◌, List, [], ◌∷◌, ◌++◌, length, take, drop, refl, ◌∙◌, ap, ap₂, arith, length-drop, append_assoc, drop-drop, take-append-drop}
 use Rattle.std.proofs.lemmas.Bool.{ltb-true}
 use Rattle.std.proofs.lemmas.List.{drop-append-le}
 use Rattle.nut_monitor_spec.specs.declared.Notice.{Notice}
 use Rattle.nut_monitor_spec.specs.Configuration.{Configuration}
-use Rattle.nut_monitor_spec.specs.Event.{Event, NoticeTaken}
+use Rattle.nut_monitor_spec.specs.Event.{Event}
 use Rattle.nut_monitor_spec.specs.Trace.{Entry, trace, entry_of, notices, notices_taken, notices_waiting, taken_notice}
 use Rattle.nut_monitor_spec.specs.Acceptance.{IsAccepted}
 use Rattle.nut_monitor_spec.specs.Handing.{handed_by, notices_handed}
@@ -24,32 +24,25 @@ HandsOut configuration events event m =
     × (m ≤ length (notices_waiting past))
 
 hands_out : (configuration : Configuration) (events : List Event) (event : Event) → IsAccepted configuration (event ∷ events) → (m : ℕ) × HandsOut configuration events event m
-hands_out configuration events NoticeTaken accepted =
-    let past = trace configuration events in
-    (1, (refl, refl, omega (arith, ltb-true 0 (length (notices_waiting past)) accepted.1.1)))
-hands_out configuration events _ accepted = (0, (refl, omega arith, omega arith))
+hands_out configuration events event accepted = grind (arith, ltb-true)
 
 -- what was handed out and what waits are still all notices, after m more were handed out and others were added
 whole_with : (m : ℕ) (handed waiting more all : List Notice) → handed ++ waiting ≡ all → (handed ++ take m waiting) ++ (drop m waiting ++ more) ≡ all ++ more
 whole_with m handed waiting more all is =
-    append_assoc handed (take m waiting) (drop m waiting ++ more)
-    ∙ ap (λ x. handed ++ x) (sym (append_assoc (take m waiting) (drop m waiting) more) ∙ ap (λ x. x ++ more) (take-append-drop m waiting))
-    ∙ sym (append_assoc handed waiting more)
-    ∙ ap (λ x. x ++ more) is
+    rw (
+      append_assoc handed (take m waiting) (drop m waiting ++ more),
+      ← append_assoc (take m waiting) (drop m waiting) more,
+      take-append-drop m waiting,
+      ← append_assoc handed waiting more,
+      is,
+    )
 
 -- what waits after an event that hands out the first m notices
 pub waits_behind : (configuration : Configuration) (events : List Event) (event : Event) (m : ℕ) → IsAccepted configuration events
     → taken_notice event (notices_taken (trace configuration events)) ≡ notices_taken (trace configuration events) + m → m ≤ length (notices_waiting (trace configuration events))
     → notices_waiting (trace configuration (event ∷ events))
     ≡ drop m (notices_waiting (trace configuration events)) ++ (entry_of configuration (trace configuration events) event).notices
-waits_behind configuration events event m accepted some waits =
-    let past = trace configuration events in
-    let taken = notices_taken past in
-    let more = (entry_of configuration past event).notices in
-    let fits : taken + m ≤ length (notices past) = omega (arith, waits, (all-hold configuration events accepted).waiting, length-drop taken (notices past)) in
-    ap (λ n. drop n (notices past ++ more)) (ap (λ e. taken_notice e taken) (event_is configuration past event) ∙ some)
-    ∙ drop-append-le (taken + m) (notices past) more fits
-    ∙ ap (λ x. x ++ more) (sym (drop-drop m taken (notices past)))
+waits_behind configuration events event m accepted some waits = grind (arith, all-hold, length-drop, event_is, drop-append-le, drop-drop)
 
 pub notices-in-order : NoticesComeInOrder
 notices-in-order configuration [] accepted = refl
@@ -60,7 +53,7 @@ notices-in-order configuration (event ∷ events) accepted =
     let some = hands_out configuration events event accepted in
     let m = some.0 in
     let out = some.1 in
-    ap₂ (λ x y. (notices_handed past ++ x) ++ y)
-    (ap (λ e. handed_by e waiting) (event_is configuration past event) ∙ out.0)
-    (waits_behind configuration events event m accepted.0 out.1 out.2)
-    ∙ whole_with m (notices_handed past) waiting more (notices past) (notices-in-order configuration events accepted.0)
+    rw (
+      ap₂ (λ x y. (notices_handed past ++ x) ++ y) (ap (λ e. handed_by e waiting) (event_is configuration past event) ∙ out.0) (waits_behind configuration events event m accepted.0 out.1 out.2),
+      whole_with m (notices_handed past) waiting more (notices past) (notices-in-order configuration events accepted.0),
+    )

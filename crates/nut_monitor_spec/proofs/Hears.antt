@@ -1,4 +1,5 @@
 -- What the lines of a piece lead to: the link has the answer and the failure that the definitions give.
+use Rattle.std.proofs.Common.{arith}
 use Rattle.std.proofs.Common.{◌≡◌, ℕ, Bool, true, false, ◌⊎◌, inl, inr, List, [], ◌∷◌, length, refl, sym, ◌∙◌, ap, subst, Option, Some, None, is_some, if◌then◌else◌}
 use Rattle.std.specs.Prelude.{Result, Ok, Err, ◌==◌}
 use Rattle.std.specs.Option.{option_map}
@@ -26,8 +27,7 @@ use Rattle.nut_monitor_spec.specs.Content.{stage_in}
 
 tests-whole : (b : Bool) (outcome : Outcome) (fault : LinkFault) (rows : List (List (List ℕ))) →
     (let r : Result Progress LinkFault = if b then Ok (Complete outcome) else Err fault in r) ≡ Ok (Listing rows) → ⊥
-tests-whole true outcome fault rows is = cc
-tests-whole false outcome fault rows is = cc
+tests-whole b outcome fault rows is = grind arith
 
 is-whole : (line : Line) (ask : Ask) (said : Said) (rows : List (List (List ℕ))) → progress (expected (request line ask)) None said ≡ Ok (Listing rows) → ⊥
 is-whole line Username (answers.Ok words) rows is = cc
@@ -69,12 +69,10 @@ by-reading false line ask waits (Ok said) = inl (refl, OutOfOrder, refl)
 by-reading false line ask waits (Err fault) = inl (refl, BadLine, refl)
 
 on_read-is : (query : Query) (read : Result Said AnswerFault) → on_read (stages.Asked query) read ≡ read_by (length query.waits == 0) query read
-on_read-is query (Ok said) = refl
-on_read-is query (Err fault) = refl
+on_read-is query read = grind arith
 
 none-either : (all : Bool) → (let o : Option Outcome = if all then None else None in o) ≡ None
-none-either true = refl
-none-either false = refl
+none-either all = grind arith
 
 by-line : (line : Line) (ask : Ask) (waits : List ℕ) (text : LineText) →
     Agrees (on_line (stages.Asked (pending line ask waits)) text) (if length waits == 0 then said_in (request line ask) text else None)
@@ -116,8 +114,7 @@ stays-stopped (text ∷ texts) stage fault = stays-stopped texts stage fault
 -- the first line at which the exchange fails ends it
 fails-at : (text : LineText) (texts : List LineText) (stage : Stage) (fault : LinkFault) → on_line stage text ≡ Err fault →
     lines_heard (text ∷ texts) (going stage) ≡ stopped (left_of stage) fault
-fails-at text texts stage fault is =
-    ap (λ r. lines_heard texts (moved (going stage) r)) is ∙ stays-stopped texts (left_of stage) fault
+fails-at text texts stage fault is = grind (arith, stays-stopped)
 
 -- the answer to the first line
 abbrev pub first_by : Line → ℕ → Option Asked → List ℕ → List LineText → Option Answer
@@ -131,20 +128,12 @@ pub record Comes (line : Line) (i : ℕ) (asked : Option Asked) (waits : List �
   pub goes : is_some after.fault ≡ false → taken_out after ≡ going (stage_in line (if is_some (first_by line i asked waits texts) then None else asked) waits)
 
 comes-idle : (line : Line) (i : ℕ) (asked : Option Asked) (waits : List ℕ) → Comes line i asked waits [] (going (stage_in line asked waits))
-comes-idle line i None waits = record { outcome = refl; fault = refl; goes = λ is. refl }
-comes-idle line i (Some asked) waits = record { outcome = refl; fault = refl; goes = λ is. refl }
+comes-idle line i asked waits = grind arith
 
 none-first : (line : Line) (i : ℕ) (asked : Option Asked) (waits : List ℕ) (text : LineText) (texts : List LineText) (fault : LinkFault) →
     answer_to line i asked (length waits == 0) text ≡ None → on_line (stage_in line asked waits) text ≡ Err fault → left_of (stage_in line asked waits) ≡ stages.Idle →
     Comes line i asked waits (text ∷ texts) (lines_heard (text ∷ texts) (going (stage_in line asked waits)))
-none-first line i asked waits text texts fault none is left =
-    let stage = stage_in line asked waits in
-    let e : lines_heard (text ∷ texts) (going stage) ≡ stopped stages.Idle fault = fails-at text texts stage fault is ∙ ap (λ s. stopped s fault) left in
-    record {
-      outcome = ap outcome_of e ∙ sym (ap (option_map (λ a. a.outcome)) none);
-      fault = ap (λ x. is_some x.fault) e ∙ sym (ap (λ a. is_some (lost_by i a (text ∷ texts))) none);
-      goes = λ going'. let no' : true ≡ false = sym (ap (λ x. is_some x.fault) e) ∙ going' in cc;
-    }
+none-first line i asked waits text texts fault none is left = grind (arith, fails-at)
 
 comes-answered : (line : Line) (i : ℕ) (asked : Asked) (waits : List ℕ) (text : LineText) (texts : List LineText) (outcome : Outcome) →
     (if length waits == 0 then said_in (request line asked.query) text else None) ≡ Some outcome →

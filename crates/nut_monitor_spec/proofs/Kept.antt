@@ -1,21 +1,18 @@
 -- The machine keeps the content of every history of accepted events.
-use Rattle.std.proofs.Common.{◌≡◌, ℕ, suc, ◌≤◌, Bool, true, false, inl, inr, eqb, List, [], ◌∷◌, length, refl, sym, ◌∙◌, ap, subst, arith, Option, Some, None, is_some, if◌then◌else◌, length-append}
+use Rattle.std.proofs.Common.{◌≡◌, ℕ, ◌≤◌, Bool, true, false, eqb, List, [], ◌∷◌, length, refl, sym, ◌∙◌, ap, subst, arith, Option, Some, None, is_some, if◌then◌else◌, length-append}
 use Rattle.std.specs.Prelude.{nat_lt}
 use Rattle.std.proofs.lemmas.Bool.{cases_Bool, eqb-true, leb-true}
 use Rattle.std.proofs.lemmas.Bool.Decides.{leb_tells}
-use Rattle.nut_words.specs.Lines.{rest}
 use Rattle.nut_link.specs.Link.{LinkValue}
-use Rattle.nut_monitor_spec.specs.declared.MonitorFault.{MonitorFault}
-use Rattle.nut_monitor_spec.specs.declared.MonitorFault.TheVariants.{TooMuchTaken, WrongLinkState}
-use Rattle.nut_monitor_spec.specs.Configuration.{Configuration, line_in}
+use Rattle.nut_monitor_spec.specs.Configuration.{Configuration}
 use Rattle.nut_monitor_spec.specs.Event.{Event, Moment, Linked, LinkBytes, LinkLost, LinkTook, OutOfMemory, NoticeTaken}
-use Rattle.nut_monitor_spec.specs.Trace.{Asked, Entry, input, outstanding, linked, waits, trace, entry_of, came, query_put, notices, notices_taken, notices_waiting, notices_of, taken_notice}
-use Rattle.nut_monitor_spec.specs.Content.{Watch, Content, stage_in, watch, link_at, content_of}
-use Rattle.nut_monitor_spec.specs.Acceptance.{IsAccepted, Accepts, bytes_refusal, lost_refusal, took_refusal, watch_at, waits_on}
+use Rattle.nut_monitor_spec.specs.Trace.{Entry, linked, waits, trace, entry_of, came, query_put, notices, notices_taken, notices_waiting, notices_of, taken_notice}
+use Rattle.nut_monitor_spec.specs.Content.{Watch, Content, watch, link_at, content_of}
+use Rattle.nut_monitor_spec.specs.Acceptance.{IsAccepted, Accepts, bytes_refusal, lost_refusal, took_refusal, watch_at}
 use Rattle.nut_monitor_spec.specs.machine.Machine.{KeepsContent, advance, settled, piece_heard, piece_out, bytes_heard, memory_out, link_lost}
 use Rattle.nut_monitor_spec.proofs.Lists.{found_at}
 use Rattle.nut_monitor_spec.proofs.Settled.{IsTidy, told_entry, entry_is, unsettled, settled-law}
-use Rattle.nut_monitor_spec.proofs.Links.{made-law, made-apart, lost-law, lost-apart, heard-law, heard-apart, out-law, out-apart}
+use Rattle.nut_monitor_spec.proofs.Links.{made-law, made-apart, lost-law, lost-apart, heard-law, piece-apart, out-law, out-apart}
 use Rattle.nut_monitor_spec.proofs.Moments.{moment-law}
 use Rattle.nut_monitor_spec.proofs.Tidy.{tidy-same, tidy-apart, tidy-made, tidy-lost, tidy-heard, tidy-settled, still-settled}
 use Rattle.nut_monitor_spec.proofs.Quiet.{notice-law, notice-still, notice-tidy, notice-waiting, took-law, took-still, took-tidy, took-waiting}
@@ -31,21 +28,12 @@ holds-first configuration = record { tidy = λ i there. cc; still = λ i. refl; 
 
 -- ---- what an accepted event tells
 
-if-linked : (b : Bool) (fault other : MonitorFault) (more : Bool) → (if b then (if more then Some other else None) else Some fault) ≡ None → (b ≡ true) × (more ≡ false)
-if-linked true fault other false is = (refl, refl)
-if-linked _ fault other _ is = cc
-
-if-there : (b : Bool) (fault : MonitorFault) (more : Option MonitorFault) → (if b then more else Some fault) ≡ None → b ≡ true
-if-there true fault more is = refl
-if-there false fault more is = cc
-
 module _ (configuration : Configuration) (past : List Entry) (i : ℕ) where
   abbrev pub found : Option Watch
   found = watch_at i (content_of configuration past).watches
 
   link-is : (b : Bool) → linked i past ≡ b → is_some (let o : Option LinkValue = if b then Some (link_at configuration past i) else None in o) ≡ true → linked i past ≡ true
-  link-is true is some = is
-  link-is false is some = cc
+  link-is b is some = grind arith
 
   there-by : (w : Watch) → found ≡ Some w → is_some w.link ≡ true → linked i past ≡ true
   there-by w is some = link-is (linked i past) refl (ap (λ x. let y : Watch = x in is_some y.link) (sym (found_at i (watch configuration past) configuration.lines w is)) ∙ some)
@@ -58,35 +46,16 @@ module _ (configuration : Configuration) (past : List Entry) (i : ℕ) where
   is-there w is some = (is ∙ ap (λ x. Some x) (found_at i (watch configuration past) configuration.lines w is), there-by w is some)
 
   lost-there : (o : Option Watch) → found ≡ o → lost_refusal o ≡ None → IsThere
-  lost-there None is accepted = cc
-  lost-there (Some w) is accepted = is-there w is (if-there (is_some w.link) WrongLinkState None accepted)
+  lost-there o is accepted = grind (arith, is-there)
 
   pub bytes-there : (s : Content) (piece : List ℕ) (o : Option Watch) → found ≡ o → bytes_refusal s piece o ≡ None → IsThere
-  bytes-there s piece None is accepted = cc
-  bytes-there s piece (Some w) is accepted = is-there w is (if-there (is_some w.link) WrongLinkState _ accepted)
+  bytes-there s piece o is accepted = grind (arith, is-there)
 
   at-most : (m n : ℕ) → nat_lt m n ≡ false → n ≤ m
-  at-most m n is = elim (leb_tells (suc m) n) [
-    | inl more ↦ let e : true ≡ false = sym more.0 ∙ is in cc
-    | inr less ↦ omega (arith, less.1)
-  ]
-
-  waits-few : (b : Bool) (asked : Option Asked) →
-      length (waits_on (if b then Some (record {
-        rest = rest (input i past);
-        exchange = record { stage = stage_in (line_in configuration.lines i) asked (waits configuration i past); fault = None };
-      }) else None)) ≤ length (waits configuration i past)
-  waits-few true None = omega arith
-  waits-few _ _ = omega arith
+  at-most m n is = grind (arith, leb_tells)
 
   took-within : (n : ℕ) (o : Option Watch) → found ≡ o → took_refusal n o ≡ None → linked i past ≡ true → n ≤ length (waits configuration i past)
-  took-within n None is accepted there = cc
-  took-within n (Some w) is accepted there =
-      let parts = if-linked (is_some w.link) WrongLinkState TooMuchTaken (nat_lt (length (waits_on w.link)) n) accepted in
-      let same : w ≡ watch configuration past i = found_at i (watch configuration past) configuration.lines w is in
-      let less : n ≤ length (waits_on w.link) = at-most (length (waits_on w.link)) n parts.1 in
-      let less' : n ≤ length (waits_on (watch configuration past i).link) = subst (λ x. let y : Watch = x in n ≤ length (waits_on y.link)) same less in
-      omega (arith, less', waits-few (linked i past) (outstanding i past))
+  took-within n o is accepted there = grind (arith, found_at, at-most)
 
 -- ---- one event
 
@@ -113,11 +82,7 @@ keeps-settled configuration past event none holds tidy law = record {
 -- if link i is tidy, and every other link is, then all are
 either-link : (configuration : Configuration) (i : ℕ) (past : List Entry) → IsTidy configuration i past → ((j : ℕ) → eqb i j ≡ false → IsTidy configuration j past) →
     (j : ℕ) → IsTidy configuration j past
-either-link configuration i past own other j =
-    elim (cases_Bool (eqb i j)) [
-      | inl is ↦ subst (λ k. IsTidy configuration k past) (eqb-true i j is) own
-      | inr differ ↦ other j differ
-    ]
+either-link configuration i past own other j = grind (arith, cases_Bool, IsTidy, eqb-true)
 
 keeps-moment : (configuration : Configuration) (past : List Entry) (t : ℕ) → Holds configuration past → Keeps configuration past (Moment t)
 keeps-moment configuration past t holds =
@@ -150,7 +115,7 @@ keeps-heard configuration past i piece holds there =
     let tidy = holds.tidy i there.1 in
     keeps-settled configuration past (LinkBytes i piece) refl holds
     (either-link configuration i (told_entry configuration past (LinkBytes i piece) ∷ past) (tidy-heard configuration past i piece there.1 tidy)
-    (λ j differ. tidy-apart configuration i j (told_entry configuration past (LinkBytes i piece)) past (heard-apart configuration past i piece there.1 tidy j differ) (holds.tidy j)))
+    (λ j differ. tidy-apart configuration i j (told_entry configuration past (LinkBytes i piece)) past (piece-apart configuration past i piece there.1 tidy j differ) (holds.tidy j)))
     (ap settled (heard-law configuration past i piece there.1 tidy
     ∙ ap (λ l. piece_heard i piece w l s) (sym (link-there configuration past i there.1))
     ∙ ap (λ o. bytes_heard i piece o s) (sym there.0)))
@@ -192,8 +157,7 @@ keeps-notice configuration (newest ∷ older) holds some = record {
 }
 
 pub took-there : (configuration : Configuration) (past : List Entry) (i n : ℕ) (o : Option Watch) → found configuration past i ≡ o → took_refusal n o ≡ None → IsThere configuration past i
-took-there configuration past i n None is accepted = cc
-took-there configuration past i n (Some w) is accepted = is-there configuration past i w is (if-there (is_some w.link) WrongLinkState _ accepted)
+took-there configuration past i n o is accepted = grind (arith, is-there)
 
 keeps : (configuration : Configuration) (past : List Entry) (event : Event) → Holds configuration past → Accepts (content_of configuration past) event → Keeps configuration past event
 keeps configuration past (Moment t) holds accepted = keeps-moment configuration past t holds

@@ -1,5 +1,5 @@
 -- Lists with an element for each MONITOR line, and pasts: what they are after one more element.
-use Rattle.std.proofs.Common.{◌≡◌, ℕ, zero, suc, ◌+◌, ◌<◌, ◌≤◌, Bool, true, false, not, ◌&&◌, ◌||◌, eqb, List, [], ◌∷◌, length, refl, sym, ◌∙◌, ap, arith, Some, None, is_none, if◌then◌else◌}
+use Rattle.std.proofs.Common.{◌≡◌, ℕ, zero, suc, ◌+◌, ◌<◌, ◌≤◌, Bool, true, false, not, ◌&&◌, ◌||◌, eqb, List, [], ◌∷◌, length, refl, ap, arith, Some, None, is_none, if◌then◌else◌}
 use Rattle.std.specs.Prelude.{slice_get}
 use Rattle.std.proofs.lemmas.Bool.{ne_eqb, eq-eqb, eqb-false}
 use Rattle.nut_monitor_spec.specs.declared.Phase.{Phase}
@@ -73,8 +73,7 @@ begins_now test past entry = is_none (moment_of (earliest test past)) && test (e
 moment-or_else : (front past : List Entry) (entry : Entry) (b : Bool) →
     moment_of (or_else front (if b then entry ∷ past else []))
     ≡ (if is_none (moment_of front) && b then Some (clock (entry ∷ past)) else moment_of front)
-moment-or_else [] past entry true = refl
-moment-or_else _ past entry _ = refl
+moment-or_else front past entry b = grind arith
 
 pub earliest-moment : (test : List Entry → Bool) (past : List Entry) (entry : Entry) →
     moment_of (earliest test (entry ∷ past))
@@ -83,16 +82,11 @@ earliest-moment test past entry = moment-or_else (earliest test past) past entry
 
 pub moment-same : (test : List Entry → Bool) (past : List Entry) (x y : Entry) → test (x ∷ past) ≡ test (y ∷ past) → clock (x ∷ past) ≡ clock (y ∷ past) →
     moment_of (earliest test (x ∷ past)) ≡ moment_of (earliest test (y ∷ past))
-moment-same test past x y same time =
-    earliest-moment test past x
-    ∙ ap (λ b. if is_none (moment_of (earliest test past)) && b then Some (clock (x ∷ past)) else moment_of (earliest test past)) same
-    ∙ ap (λ c. if begins_now test past y then Some c else moment_of (earliest test past)) time
-    ∙ sym (earliest-moment test past y)
+moment-same test past x y same time = grind (arith, earliest-moment)
 
 any-or_else : (front past : List Entry) (entry : Entry) (b : Bool) →
     (is_any (or_else front (if b then entry ∷ past else [])) && not (is_any front)) ≡ (is_none (moment_of front) && b)
-any-or_else [] past entry true = refl
-any-or_else _ past entry _ = refl
+any-or_else front past entry b = grind arith
 
 pub earliest-any : (test : List Entry → Bool) (past : List Entry) (entry : Entry) →
     (is_any (earliest test (entry ∷ past)) && not (is_any (earliest test past))) ≡ begins_now test past entry
@@ -100,9 +94,7 @@ earliest-any test past entry = any-or_else (earliest test past) past entry (test
 
 -- if nothing has begun, the newest past doesn't pass the test
 or_else-none : (front past : List Entry) (entry : Entry) (b : Bool) → or_else front (if b then entry ∷ past else []) ≡ [] → b ≡ false
-or_else-none front past entry false none = refl
-or_else-none [] past entry true none = cc
-or_else-none (x ∷ front) past entry true none = cc
+or_else-none front past entry b none = grind arith
 
 pub earliest-none : (test : List Entry → Bool) (past : List Entry) (entry : Entry) → earliest test (entry ∷ past) ≡ [] → test (entry ∷ past) ≡ false
 earliest-none test past entry none = or_else-none (earliest test past) past entry (test (entry ∷ past)) none

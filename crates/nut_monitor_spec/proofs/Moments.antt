@@ -13,7 +13,7 @@ use Rattle.nut_monitor_spec.specs.Content.{Watch, Content, watch, for_each_line,
 use Rattle.nut_monitor_spec.specs.machine.Machine.{is_silent, silent, all_silent, silences_told, silences_heard, clock_set}
 use Rattle.nut_monitor_spec.proofs.Lists.{for_each-same}
 use Rattle.nut_monitor_spec.proofs.Newest.{told-step}
-use Rattle.nut_monitor_spec.proofs.Answered.{when-none, event-any, false-either, or-false, skip-first, skip-last}
+use Rattle.nut_monitor_spec.proofs.Answered.{when-none, event-any, false-either, skip-first, skip-last}
 use Rattle.nut_monitor_spec.proofs.Settled.{told_entry, unsettled}
 
 -- ---- the notices of a moment
@@ -31,38 +31,41 @@ module _ (configuration : Configuration) (past : List Entry) (time : ℕ) where
   none-below : (j i : ℕ) (lines : List Line) → j < i → list_any (is_silence j) (silences configuration past time i lines) ≡ false
   none-below j i [] less = refl
   none-below j i (line ∷ lines) less =
-      skip-first (is_silence j) (when (is_told i) (told kinds.Nocomm i)) (silences configuration past time (suc i) lines)
-      (when-none (is_silence j) (is_told i) (told kinds.Nocomm i) (ne_eqb i j (λ e. omega (arith, e, less))))
-      ∙ none-below j (suc i) lines (omega (arith, less))
+      rw (
+        skip-first (is_silence j) (when (is_told i) (told kinds.Nocomm i)) (silences configuration past time (suc i) lines) (when-none (is_silence j) (is_told i) (told kinds.Nocomm i) (ne_eqb i j (λ e. omega (arith, e, less)))),
+        none-below j (suc i) lines (omega (arith, less)),
+      )
 
   any-when : (test : Notice → Bool) (b : Bool) (notice : Notice) → test notice ≡ true → list_any test (when b notice) ≡ b
-  any-when test true notice is = or-false (test notice) ∙ is
-  any-when test false notice is = refl
+  any-when test b notice is = grind arith
 
   some-at : (k i : ℕ) (lines : List Line) → k < length lines → list_any (is_silence (i + k)) (silences configuration past time i lines) ≡ is_told (i + k)
   some-at k i [] less = absurd (omega (arith, less))
   some-at zero i (line ∷ lines) less =
       let e : i ≡ i + 0 = omega arith in
-      ap (λ j. list_any (is_silence j) (silences configuration past time i (line ∷ lines))) (sym e)
-      ∙ skip-last (is_silence i) (when (is_told i) (told kinds.Nocomm i)) (silences configuration past time (suc i) lines) (none-below i (suc i) lines (omega arith))
-      ∙ any-when (is_silence i) (is_told i) (told kinds.Nocomm i) (eq-eqb i i refl)
-      ∙ ap is_told e
+      rw (
+        ← e,
+        skip-last (is_silence i) (when (is_told i) (told kinds.Nocomm i)) (silences configuration past time (suc i) lines) (none-below i (suc i) lines (omega arith)),
+        any-when (is_silence i) (is_told i) (told kinds.Nocomm i) (eq-eqb i i refl),
+      )
   some-at (suc k) i (line ∷ lines) less =
       let e : i + suc k ≡ suc i + k = omega arith in
-      skip-first (is_silence (i + suc k)) (when (is_told i) (told kinds.Nocomm i)) (silences configuration past time (suc i) lines)
-      (when-none (is_silence (i + suc k)) (is_told i) (told kinds.Nocomm i) (ne_eqb i (i + suc k) (λ is. omega (arith, is))))
-      ∙ ap (λ j. list_any (is_silence j) (silences configuration past time (suc i) lines)) e
-      ∙ some-at k (suc i) lines (omega (arith, less))
-      ∙ ap is_told (sym e)
+      rw (
+        skip-first (is_silence (i + suc k)) (when (is_told i) (told kinds.Nocomm i)) (silences configuration past time (suc i) lines) (when-none (is_silence (i + suc k)) (is_told i) (told kinds.Nocomm i) (ne_eqb i (i + suc k) (λ is. omega (arith, is)))),
+        e,
+        some-at k (suc i) lines (omega (arith, less)),
+      )
 
   told-law : (i : ℕ) (lines : List Line) (f : ℕ → Watch) → ((k : ℕ) → is_silent configuration time (f k) ≡ is_told (i + k)) →
       silences_told configuration time i (for_each_line f lines) ≡ silences configuration past time i lines
   told-law i [] f same = refl
   told-law i (line ∷ lines) f same =
       let e : i + 0 ≡ i = omega arith in
-      ap (λ b. when b (told kinds.Nocomm i) ++ silences_told configuration time (suc i) (for_each_line (λ k. f (suc k)) lines)) (same 0 ∙ ap is_told e)
-      ∙ ap (λ ns. when (is_told i) (told kinds.Nocomm i) ++ ns)
-      (told-law (suc i) lines (λ k. f (suc k)) (λ k. let e' : i + suc k ≡ suc i + k = omega arith in same (suc k) ∙ ap is_told e'))
+      rw (
+        same 0,
+        e,
+        told-law (suc i) lines (λ k. f (suc k)) (λ k. let e' : i + suc k ≡ suc i + k = omega arith in same (suc k) ∙ ap is_told e'),
+      )
 
 silent-law : (configuration : Configuration) (time : ℕ) (lines : List Line) (f : ℕ → Watch) →
     all_silent configuration time (for_each_line f lines) ≡ for_each_line (λ i. silent configuration time (f i)) lines
@@ -97,14 +100,15 @@ module _ (configuration : Configuration) (past : List Entry) (t : ℕ) where
   moment-own i less =
       let k : Known = known i (entry ∷ past) in
       let of = λ (known : Known). let w : Watch = record (watch configuration past i) { known = known } in w in
-      ap (λ m. of (record k { replace_told = m }))
-      (told-step (is_replace i) entry past
-      ∙ ap (λ b. if b then Some time else told_at (is_replace i) past)
-      (moment-any (is_replace i) refl ∙ ap (λ b. if has_begun configuration past then false else b) (no-replace configuration past time i 0 configuration.lines) ∙ false-either (has_begun configuration past)))
-      ∙ ap (λ m. of (record (known i past) { silence_told = m }))
-      (told-step (is_silence i) entry past
-      ∙ ap (λ b. if b then Some time else told_at (is_silence i) past)
-      (moment-any (is_silence i) refl ∙ ap (λ b. if has_begun configuration past then false else b) (some-told i less)))
+      rw (
+        told-step (is_replace i) entry past,
+        moment-any (is_replace i) refl,
+        no-replace configuration past time i 0 configuration.lines,
+        false-either (has_begun configuration past),
+        told-step (is_silence i) entry past,
+        moment-any (is_silence i) refl,
+        some-told i less,
+      )
     where
       some-told : (i : ℕ) → i < length configuration.lines → list_any (is_silence i) all ≡ is_told configuration past time i
       some-told i less =
@@ -119,12 +123,7 @@ module _ (configuration : Configuration) (past : List Entry) (t : ℕ) where
   }
 
   silent-is : (i : ℕ) → told_then false i ≡ silent configuration time (watch configuration past i)
-  silent-is i = by (is_told configuration past time i)
-    where
-      by : (b : Bool) → (let w : Watch = record (watch configuration past i) { known = record (known i past) { silence_told = if b then Some time else told_at (is_silence i) past } } in w)
-          ≡ (if b then record (watch configuration past i) { known = record (known i past) { silence_told = Some time } } else watch configuration past i)
-      by true = refl
-      by false = refl
+  silent-is i = grind arith
 
   abbrev machine_content : List Entry → Content
   machine_content front =
@@ -140,16 +139,17 @@ module _ (configuration : Configuration) (past : List Entry) (t : ℕ) where
   by-front [] =
       let u = unsettled configuration past (Moment t) in
       let e : (i : ℕ) → 0 + i ≡ i = λ i. omega arith in
-      ap (λ ns. let s : Content = record u { notices = notices_waiting past ++ ns; watches = for_each_line (told_then false) configuration.lines } in s)
-      (sym (told-law configuration past time 0 configuration.lines (watch configuration past) (λ k. ap (is_told configuration past time) (sym (e k)))))
-      ∙ ap (λ ws. let s : Content = record u { notices = notices_waiting past ++ silences_told configuration time 0 (for_each_line (watch configuration past) configuration.lines); watches = ws } in s)
-      (for_each-same (λ i. silent configuration time (watch configuration past i)) (told_then false) configuration.lines (λ i less. silent-is i)
-      ∙ sym (silent-law configuration time configuration.lines (watch configuration past)))
+      rw (
+        ← told-law configuration past time 0 configuration.lines (watch configuration past) (λ k. ap (is_told configuration past time) (sym (e k))),
+        for_each-same (λ i. silent configuration time (watch configuration past i)) (told_then false) configuration.lines (λ i less. silent-is i),
+        ← silent-law configuration time configuration.lines (watch configuration past),
+      )
   by-front (x ∷ front) =
       ap (λ ns. let s : Content = record (unsettled configuration past (Moment t)) { notices = ns; watches = for_each_line (told_then true) configuration.lines } in s) (append-nil (notices_waiting past))
 
   pub moment-law : unsettled configuration past (Moment t) ≡ silences_heard (clock_set t (content_of configuration past))
   moment-law =
-      ap (λ ws. let s : Content = record (unsettled configuration past (Moment t)) { watches = ws } in s)
-      (for_each-same (told_then (has_begun configuration past)) (watch configuration (entry ∷ past)) configuration.lines moment-own)
-      ∙ by-front (begun configuration past)
+      rw (
+        for_each-same (told_then (has_begun configuration past)) (watch configuration (entry ∷ past)) configuration.lines moment-own,
+        by-front (begun configuration past),
+      )

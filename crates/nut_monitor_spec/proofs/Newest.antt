@@ -1,21 +1,18 @@
 -- What is known after one more event, and that queries put and notices given at an event don't change it.
-use Rattle.std.proofs.Common.{◌≡◌, ℕ, Bool, true, false, not, ◌&&◌, List, ◌∷◌, refl, sym, ◌∙◌, ap, Option, Some, is_some, if◌then◌else◌}
-use Rattle.std.specs.Prelude.{nat_lt}
+use Rattle.std.proofs.Common.{arith}
+use Rattle.std.proofs.Common.{◌≡◌, ℕ, Bool, true, ◌&&◌, List, ◌∷◌, sym, ◌∙◌, ap, Option, Some, is_some, if◌then◌else◌}
 use Rattle.std.specs.List.{list_any}
-use Rattle.std.specs.Option.{option_map}
 use mathlib.Core.Path.{fun_ext}
-use Rattle.nut_monitor_spec.specs.declared.Known.{Known}
 use Rattle.nut_monitor_spec.specs.declared.Notice.{Notice}
 use Rattle.nut_monitor_spec.specs.declared.Query.{Query}
-use Rattle.nut_monitor_spec.specs.Configuration.{Configuration, line_in}
-use Rattle.nut_monitor_spec.specs.Query.{is_forced, logins_in, flags_of}
-use Rattle.nut_monitor_spec.specs.Decision.{is_critical, power_where, each_primary, is_alone}
-use Rattle.nut_monitor_spec.specs.Trace.{Entry, latest, is_any, clock, moment_of, gives, gives_status, at_status, at_calm, are_calm, status_of_answer, newest_answer, status, polled, calm, told_at, forced, logins, logins_of_answer, critical, is_short, alone, known, is_replace, is_silence}
+use Rattle.nut_monitor_spec.specs.Configuration.{Configuration}
+use Rattle.nut_monitor_spec.specs.Query.{is_forced, logins_in}
+use Rattle.nut_monitor_spec.specs.Decision.{each_primary, is_alone}
+use Rattle.nut_monitor_spec.specs.Trace.{Entry, latest, is_any, clock, moment_of, gives, gives_status, at_status, at_calm, are_calm, status_of_answer, newest_answer, status, polled, calm, told_at, forced, logins, logins_of_answer, critical, is_short, alone, known}
 
 -- a function of a conditional is the conditional of the function
 pub if-ap : {A B : Type 0} (f : A → B) (b : Bool) (x y : A) → f (if b then x else y) ≡ (if b then f x else f y)
-if-ap f true x y = refl
-if-ap f false x y = refl
+if-ap f b x y = grind arith
 
 module _ (i : ℕ) (entry : Entry) (past : List Entry) where
   pub status-step : status i (entry ∷ past) ≡ (if gives_status i entry.answer then status_of_answer entry.answer else status i past)
@@ -37,8 +34,7 @@ module _ (i : ℕ) (entry : Entry) (past : List Entry) where
   gives_logins = gives (λ query outcome. is_some (logins_in query outcome)) i entry.answer
 
   pub logins-step : logins i (entry ∷ past) ≡ (if gives_logins then logins_of_answer entry.answer else logins i past)
-  logins-step = if-ap (λ p. logins_of_answer (newest_answer p)) gives_logins (entry ∷ past)
-      (latest (λ e before. gives (λ query outcome. is_some (logins_in query outcome)) i e.answer) past)
+  logins-step = grind arith
 
 pub told-step : (test : Notice → Bool) (entry : Entry) (past : List Entry) →
     told_at test (entry ∷ past) ≡ (if list_any test entry.notices then Some (clock (entry ∷ past)) else told_at test past)
@@ -66,38 +62,19 @@ module _ (entry : Entry) (put : ℕ → Option Query) (notices : List Notice) (p
 
   pub critical-same : (configuration : Configuration) (i : ℕ) →
       critical configuration i (marked entry put notices ∷ past) ≡ critical configuration i (entry ∷ past)
-  critical-same configuration i =
-      let line = line_in configuration.lines i in
-      let time = clock (entry ∷ past) in
-      let x = marked entry put notices in
-      ap (λ m. is_critical configuration line time m (polled i (x ∷ past)) (option_map flags_of (status i (x ∷ past)))) (calm-same i)
-      ∙ ap (λ m. is_critical configuration line time (calm i (entry ∷ past)) m (option_map flags_of (status i (x ∷ past)))) (polled-same i)
-      ∙ ap (λ m. is_critical configuration line time (calm i (entry ∷ past)) (polled i (entry ∷ past)) (option_map flags_of m)) (status-same i)
+  critical-same configuration i = grind (arith, calm-same, polled-same, status-same)
 
   pub short-same : (configuration : Configuration) → is_short configuration (marked entry put notices ∷ past) ≡ is_short configuration (entry ∷ past)
-  short-same configuration =
-      ap (λ test. nat_lt (power_where (λ i. not (test i)) configuration.lines) configuration.min_supplies) (fun_ext (critical-same configuration))
+  short-same configuration = grind (arith, critical-same)
 
   pub alone-same : (configuration : Configuration) → alone configuration (marked entry put notices ∷ past) ≡ alone configuration (entry ∷ past)
   alone-same configuration = ap (λ test. each_primary (λ i. is_alone (test i)) configuration.lines) (fun_ext logins-same)
 
 pub told-same : (entry : Entry) (put other : ℕ → Option Query) (notices : List Notice) (past : List Entry) (test : Notice → Bool) →
     told_at test (marked entry put notices ∷ past) ≡ told_at test (marked entry other notices ∷ past)
-told-same entry put other notices past test =
-    told-step test (marked entry put notices) past ∙ sym (told-step test (marked entry other notices) past)
+told-same entry put other notices past test = grind (arith, told-step)
 
 -- the queries that are put don't change what is known
 pub known-same : (entry : Entry) (put other : ℕ → Option Query) (notices : List Notice) (past : List Entry) (i : ℕ) →
     known i (marked entry put notices ∷ past) ≡ known i (marked entry other notices ∷ past)
-known-same entry put other notices past i =
-    let x = marked entry put notices in
-    let y = marked entry other notices in
-    let k : Known = known i (x ∷ past) in
-    let l : Known = known i (y ∷ past) in
-    ap (λ m. record k { flags = option_map flags_of m }) (sym (status-same x other notices past i))
-    ∙ ap (λ m. record k { flags = l.flags; polled = m }) (sym (polled-same x other notices past i))
-    ∙ ap (λ m. record k { flags = l.flags; polled = l.polled; calm = m }) (sym (calm-same x other notices past i))
-    ∙ ap (λ m. record k { flags = l.flags; polled = l.polled; calm = l.calm; replace_told = m }) (told-same entry put other notices past (is_replace i))
-    ∙ ap (λ m. record k { flags = l.flags; polled = l.polled; calm = l.calm; replace_told = l.replace_told; silence_told = m }) (told-same entry put other notices past (is_silence i))
-    ∙ ap (λ m. record k { flags = l.flags; polled = l.polled; calm = l.calm; replace_told = l.replace_told; silence_told = l.silence_told; forced = m }) (sym (forced-same x other notices past i))
-    ∙ ap (λ m. record l { logins = m }) (sym (logins-same x other notices past i))
+known-same entry put other notices past i = grind (arith, status-same, polled-same, calm-same, told-same, forced-same, logins-same)

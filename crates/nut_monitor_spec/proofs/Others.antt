@@ -1,25 +1,22 @@
 -- An event of a link changes nothing that is known of another line's UPS.
-use Rattle.std.proofs.Common.{◌≡◌, ℕ, true, false, eqb, List, [], ◌∷◌, refl, ◌∙◌, ap, Some, None}
+use Rattle.std.proofs.Common.{arith}
+use Rattle.std.proofs.Common.{◌≡◌, ℕ, true, false, eqb, List, [], ◌∷◌, refl, ◌∙◌, ap, Some}
 use Rattle.nut_monitor_spec.specs.Configuration.{Configuration}
 use Rattle.nut_monitor_spec.specs.Event.{Event, Linked, LinkBytes, LinkLost, LinkTook, OutOfMemory}
-use Rattle.nut_monitor_spec.specs.Trace.{Entry, came, entry_of, known, query_put, notices_of, trace}
+use Rattle.nut_monitor_spec.specs.Trace.{Entry, entry_of, known, trace}
 use Rattle.nut_monitor_spec.specs.Content.{content_of}
 use Rattle.nut_monitor_spec.specs.laws.Laws.{OthersStay}
 use Rattle.nut_monitor_spec.proofs.Newest.{known-same}
 use Rattle.nut_monitor_spec.proofs.Apart.{IsApart, other-known}
 use Rattle.nut_monitor_spec.proofs.Settled.{told_entry, entry_is}
-use Rattle.nut_monitor_spec.proofs.Links.{made-apart, lost-apart, heard-apart, out-apart}
+use Rattle.nut_monitor_spec.proofs.Links.{made-apart, lost-apart, piece-apart, out-apart}
 use Rattle.nut_monitor_spec.proofs.Quiet.{took-entry}
 use Rattle.nut_monitor_spec.proofs.Kept.{Holds, IsThere, found, all-hold, bytes-there, took-there}
 
 -- if the event leaves line j apart, nothing changes in what is known of it
 by-apart : (configuration : Configuration) (past : List Entry) (event : Event) (i j : ℕ) → IsApart i j (told_entry configuration past event) past →
     known j (entry_of configuration past event ∷ past) ≡ known j past
-by-apart configuration past event i j apart =
-    let entry = came configuration past event in
-    ap (λ e. known j (e ∷ past)) (entry_is configuration past event)
-    ∙ known-same entry (query_put configuration (entry ∷ past)) (λ k. None) (notices_of configuration past entry) past j
-    ∙ other-known i j (told_entry configuration past event) past apart
+by-apart configuration past event i j apart = grind (arith, entry_is, known-same, other-known, told_entry)
 
 took-stay : (configuration : Configuration) (past : List Entry) (i n j : ℕ) → Holds configuration past → IsThere configuration past i →
     known j (entry_of configuration past (LinkTook i n) ∷ past) ≡ known j past
@@ -39,7 +36,7 @@ others-stay configuration events (LinkBytes k piece) i j accepted of differ =
     let past = trace configuration events in
     let there = bytes-there configuration past k (content_of configuration past) piece (found configuration past k) refl accepted.1.0 in
     by-apart configuration past (LinkBytes k piece) k j
-    (heard-apart configuration past k piece there.1 ((all-hold configuration events accepted.0).tidy k there.1) j (same-link k i j of differ))
+    (piece-apart configuration past k piece there.1 ((all-hold configuration events accepted.0).tidy k there.1) j (same-link k i j of differ))
 others-stay configuration events (OutOfMemory k piece n) i j accepted of differ =
     let past = trace configuration events in
     let there = bytes-there configuration past k (content_of configuration past) piece (found configuration past k) refl accepted.1.0 in

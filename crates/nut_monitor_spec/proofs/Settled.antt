@@ -1,21 +1,19 @@
 -- The end of an event: what it leaves is what the machine's end of an event makes of the content before it.
-use Rattle.std.proofs.Common.{◌≡◌, ℕ, ◌≤◌, Bool, true, false, ◌&&◌, ◌⊎◌, List, [], ◌∷◌, ◌++◌, length, map, drop, refl, sym, ◌∙◌, ap, Option, Some, None, is_some, is_none, if◌then◌else◌, inl, inr, append-nil, append_assoc}
-use Rattle.std.specs.Prelude.{nat_lt}
+use Rattle.std.proofs.Common.{arith}
+use Rattle.std.proofs.Common.{◌≡◌, ℕ, ◌≤◌, Bool, true, ◌&&◌, ◌⊎◌, List, [], ◌∷◌, ◌++◌, length, map, drop, refl, sym, ◌∙◌, ap, Option, Some, None, is_some, is_none, if◌then◌else◌, append-nil, append_assoc}
 use Rattle.std.proofs.Math.Seq.{drop-append_seam}
 use Rattle.std.proofs.lemmas.Bool.{and_parts}
 use Rattle.std.proofs.lemmas.List.{drop-append-le}
 use Rattle.nut_words.specs.Lines.{rest}
-use Rattle.nut_proto.specs.Requests.{request_line}
 use Rattle.nut_monitor_spec.specs.declared.Notice.{Notice}
 use Rattle.nut_monitor_spec.specs.declared.Query.{Query}
 use Rattle.nut_monitor_spec.specs.Configuration.{Line, Configuration, line_in}
 use Rattle.nut_monitor_spec.specs.Event.{Event}
-use Rattle.nut_monitor_spec.specs.Query.{request}
-use Rattle.nut_monitor_spec.specs.Decision.{shutdown_told, when, phase_at, next_query, is_over_by}
+use Rattle.nut_monitor_spec.specs.Decision.{shutdown_told, when, next_query, is_over_by}
 use Rattle.nut_monitor_spec.specs.Trace
 use Rattle.nut_monitor_spec.specs.Trace.{joined_queries, alone, Asked, Answer, Entry, clock, moment_of, linked, queries, answers, outstanding, due, waits, taken, input, known, begun, has_begun, ended, is_short, is_over_at, phase, may_ask, last_query, last_answer, last_in, forced, came, notices_of, notices_of_answer, notices_of_loss, notices_of_moment, query_put, entry_of, notices, notices_taken, notices_waiting, taken_notice, number, asked_in, has_ended, is_any, since_linked}
-use Rattle.nut_monitor_spec.specs.Content.{Watch, Content, stage_in, link_at, watch, for_each_line, content_of}
-use Rattle.nut_monitor_spec.specs.machine.Machine.{shutdown_judged, phase_moved, queries_put, settled, begins, ends, asked_next, put, may_put}
+use Rattle.nut_monitor_spec.specs.Content.{Watch, Content, stage_in, watch, for_each_line, content_of}
+use Rattle.nut_monitor_spec.specs.machine.Machine.{shutdown_judged, phase_moved, queries_put, settled, ends, asked_next, put, may_put}
 use Rattle.nut_monitor_spec.proofs.Newest.{marked, short-same, alone-same, forced-same, known-same}
 use Rattle.nut_monitor_spec.proofs.Lists.{for_each-same, supply-law, alone-law, asked-law, begins_now, earliest-moment, earliest-any, moment-same, number-head}
 
@@ -77,22 +75,10 @@ unsettled configuration past event = record {
 
 -- ---- the shutdown is judged
 
-begun-if : (b : Bool) (s : Content) (m : Option ℕ) → (if b then record s { begun = m } else s) ≡ record s { begun = if b then m else s.begun }
-begun-if true s m = refl
-begun-if false s m = refl
-
 judged-law : (configuration : Configuration) (past : List Entry) (event : Event) →
     shutdown_judged (unsettled configuration past event)
     ≡ record (unsettled configuration past event) { begun = moment_of (begun configuration (told_entry configuration past event ∷ past)) }
-judged-law configuration past event =
-    let s = unsettled configuration past event in
-    let entry = told_entry configuration past event in
-    let test : begins s ≡ begins_now (is_short configuration) past entry =
-    ap (λ n. is_none (moment_of (begun configuration past)) && nat_lt n configuration.min_supplies)
-    (supply-law configuration (clock (entry ∷ past)) configuration.lines (watch configuration (entry ∷ past))) in
-    begun-if (begins s) s (Some s.clock)
-    ∙ ap (λ b. record s { begun = if b then Some s.clock else s.begun }) test
-    ∙ ap (λ m. record s { begun = m }) (sym (earliest-moment (is_short configuration) past entry))
+judged-law configuration past event = grind (arith, begins_now, supply-law, earliest-moment)
 
 -- ---- the phase moves
 
@@ -102,9 +88,7 @@ module _ (configuration : Configuration) (past : List Entry) (entry : Entry) (qu
   begun-same = moment-same (is_short configuration) past (marked entry queries told) entry (short-same entry queries told past configuration) refl
 
   pub over-same : is_over_at configuration (marked entry queries told ∷ past) ≡ is_over_at configuration (entry ∷ past)
-  over-same =
-      ap (λ is. is_over_by configuration (clock (entry ∷ past)) is (moment_of (begun configuration (marked entry queries told ∷ past)))) (alone-same entry queries told past configuration)
-      ∙ ap (λ m. is_over_by configuration (clock (entry ∷ past)) (alone configuration (entry ∷ past)) m) begun-same
+  over-same = grind (arith, alone-same, begun-same)
 
   pub ended-same : moment_of (ended configuration (marked entry queries told ∷ past)) ≡ moment_of (ended configuration (entry ∷ past))
   ended-same = moment-same (is_over_at configuration) past (marked entry queries told) entry over-same refl
@@ -112,8 +96,7 @@ module _ (configuration : Configuration) (past : List Entry) (entry : Entry) (qu
 ended-if : (b : Bool) (s : Content) (m : Option ℕ) (notice : Notice) →
     (if b then record s { ended = m; notices = s.notices ++ notice ∷ [] } else s)
     ≡ record s { ended = if b then m else s.ended; notices = s.notices ++ when b notice }
-ended-if true s m notice = refl
-ended-if false s m notice = ap (λ ns. record s { notices = ns }) (sym (append-nil s.notices))
+ended-if b s m notice = grind (arith, append-nil)
 
 abbrev judged : Configuration → List Entry → Event → Content
 judged configuration past event =
@@ -137,24 +120,20 @@ moved-law configuration past event =
     let told = line_notices configuration past (came configuration past event) in
     let now : b ≡ begins_now (is_over_at configuration) past (came configuration past event) =
     ap (λ c. is_none (moment_of (ended configuration past)) && c) (over-same configuration past (came configuration past event) (λ i. None) (notices_of configuration past (came configuration past event))) in
-    ended-if (ends s) s (Some s.clock) shutdown_told
-    ∙ ap (λ b. record s { ended = if b then Some s.clock else s.ended; notices = s.notices ++ when b shutdown_told }) test
-    ∙ ap (λ m. record s { ended = m; notices = s.notices ++ when b shutdown_told }) (sym (earliest-moment (is_over_at configuration) past entry))
-    ∙ ap (λ ns. record s { ended = moment_of (ended configuration (entry ∷ past)); notices = ns })
-    (append_assoc (notices_waiting past) told (when b shutdown_told)
-    ∙ ap (λ c. notices_waiting past ++ (told ++ when c shutdown_told)) (now ∙ sym (earliest-any (is_over_at configuration) past (came configuration past event))))
+    rw (
+      ended-if (ends s) s (Some s.clock) shutdown_told,
+      test,
+      ← earliest-moment (is_over_at configuration) past entry,
+      append_assoc (notices_waiting past) told (when b shutdown_told),
+      now,
+      ← earliest-any (is_over_at configuration) past (came configuration past event),
+    )
 
 -- ---- the queries are put
 
 -- whether a query may be put, read from the link of the watch
 may-law : (configuration : Configuration) (past : List Entry) (i : ℕ) → may_put (watch configuration past i).link ≡ may_ask i past
-may-law configuration past i = may-cases (linked i past) (outstanding i past)
-  where
-    may-cases : (b : Bool) (o : Option Asked) →
-        may_put (if b then Some (record (link_at configuration past i) { exchange = record { stage = stage_in (line_in configuration.lines i) o (waits configuration i past); fault = None } }) else None)
-        ≡ (b && is_none o)
-    may-cases true None = refl
-    may-cases _ _ = refl
+may-law configuration past i = grind arith
 
 -- a watch whose link has these queries
 abbrev watch_with : Configuration → List Entry → ℕ → List Asked → Watch
@@ -181,33 +160,14 @@ pub put-law : (configuration : Configuration) (past : List Entry) (i moment even
     IsTidy configuration i past → (is_some query ≡ true → may_ask i past ≡ true) →
     watch_with configuration past i (asked_in moment event query (queries i past))
     ≡ put (line_in configuration.lines i) moment query (watch configuration past i)
-put-law configuration past i moment event None tidy may = refl
-put-law configuration past i moment event (Some query) tidy may =
-    let line = line_in configuration.lines i in
-    let there : linked i past ≡ true = (and_parts (linked i past) (is_none (outstanding i past)) (may refl)).0 in
-    let free : is_none (outstanding i past) ≡ true = (and_parts (linked i past) (is_none (outstanding i past)) (may refl)).1 in
-    elim (tidy there) [
-      | inl idle ↦
-          let alone : number (length (answers i past)) (record { query = query; moment = moment; event = event } ∷ queries i past) ≡ Some (record { query = query; moment = moment; event = event }) =
-          number-head (length (answers i past)) _ (queries i past) idle.answered in
-          let bytes : drop (taken i past) (due configuration i past ++ request_line (request line query)) ≡ request_line (request line query) =
-          rw idle.taken (drop-append_seam (due configuration i past) (request_line (request line query))) in
-          rw (there, alone, bytes) refl
-      | inr asked ↦
-          let some : outstanding i past ≡ Some asked.asked =
-          ap (number (length (answers i past))) asked.queries ∙ number-head (length (answers i past)) asked.asked asked.older asked.answered in
-          let e : is_none (Some asked.asked) ≡ true = sym (ap is_none some) ∙ free in cc
-    ]
+put-law configuration past i moment event query tidy may = grind (arith, and_parts, number-head, drop-append_seam)
 
 pub may-of_some : (may : Bool) (query : Option Query) → is_some (if may then query else None) ≡ true → may ≡ true
-may-of_some true query is = refl
-may-of_some false query is = cc
+may-of_some may query is = grind arith
 
 pub phase-same : (configuration : Configuration) (past : List Entry) (entry : Entry) (queries : ℕ → Option Query) (told : List Notice) →
     phase configuration (marked entry queries told ∷ past) ≡ phase configuration (entry ∷ past)
-phase-same configuration past entry queries told =
-    ap (λ m. phase_at configuration (clock (entry ∷ past)) m (moment_of (ended configuration (marked entry queries told ∷ past)))) (begun-same configuration past entry queries told)
-    ∙ ap (λ m. phase_at configuration (clock (entry ∷ past)) (moment_of (begun configuration (entry ∷ past))) m) (ended-same configuration past entry queries told)
+phase-same configuration past entry queries told = grind (arith, marked, begun-same, ended-same)
 
 -- the entry of an event is what `came` gives, with queries put and notices given
 pub entry_is : (configuration : Configuration) (past : List Entry) (event : Event) →
@@ -231,12 +191,16 @@ watch-law configuration past event i tidy =
     let query = query_put configuration (entry ∷ past) i in
     let full = marked entry (query_put configuration (entry ∷ past)) notices in
     let same : query ≡ next_query configuration line time (phase configuration (told ∷ past)) (may_put w.link) w.last w.known.forced =
-    ap (λ p. next_query configuration line time p (may_ask i (entry ∷ past)) (last_query i (entry ∷ past)) (forced i (entry ∷ past))) (sym (phase-same configuration past entry (λ j. None) notices))
-    ∙ ap (λ may. next_query configuration line time (phase configuration (told ∷ past)) may (last_query i (entry ∷ past)) (forced i (entry ∷ past))) (sym (may-law configuration (told ∷ past) i))
-    ∙ ap (λ f. next_query configuration line time (phase configuration (told ∷ past)) (may_put w.link) w.last f) (sym (forced-same entry (λ j. None) notices past i)) in
-    ap (λ k. record (watch configuration (full ∷ past) i) { known = k }) (known-same entry (query_put configuration (entry ∷ past)) (λ j. None) notices past i)
-    ∙ put-law configuration (told ∷ past) i time (length (told ∷ past)) query tidy (λ is. may-of_some (may_ask i (entry ∷ past)) _ is)
-    ∙ ap (λ q. put line time q w) same
+    rw (
+      ← phase-same configuration past entry (λ j. None) notices,
+      ← may-law configuration (told ∷ past) i,
+      ← forced-same entry (λ j. None) notices past i,
+    ) in
+    rw (
+      known-same entry (query_put configuration (entry ∷ past)) (λ j. None) notices past i,
+      put-law configuration (told ∷ past) i time (length (told ∷ past)) query tidy (λ is. may-of_some (may_ask i (entry ∷ past)) _ is),
+      same,
+    )
 
 -- more notices, appended to those of which some wait
 waiting-append : (n : ℕ) (before more : List Notice) → n ≤ length before → drop n (before ++ more) ≡ drop n before ++ more
@@ -255,9 +219,10 @@ settled-law configuration past event tidy less none =
     let full = marked entry queries notices in
     let m = moved configuration past event in
     let watches : for_each_line (watch configuration (full ∷ past)) configuration.lines ≡ (queries_put m).watches =
-    for_each-same (λ i. asked_next configuration (clock (told ∷ past)) (phase configuration (told ∷ past)) (line_in configuration.lines i) (watch configuration (told ∷ past) i))
-    (watch configuration (full ∷ past)) configuration.lines (λ i within. watch-law configuration past event i (tidy i))
-    ∙ sym (asked-law configuration (clock (told ∷ past)) (phase configuration (told ∷ past)) configuration.lines (watch configuration (told ∷ past))) in
+    rw (
+      for_each-same (λ i. asked_next configuration (clock (told ∷ past)) (phase configuration (told ∷ past)) (line_in configuration.lines i) (watch configuration (told ∷ past) i)) (watch configuration (full ∷ past)) configuration.lines (λ i within. watch-law configuration past event i (tidy i)),
+      ← asked-law configuration (clock (told ∷ past)) (phase configuration (told ∷ past)) configuration.lines (watch configuration (told ∷ past)),
+    ) in
     let waiting : notices_waiting (full ∷ past) ≡ m.notices =
     ap (λ n. drop n (Trace.notices past ++ notices)) none ∙ waiting-append (notices_taken past) (Trace.notices past) notices less in
     ap (λ e. content_of configuration (e ∷ past)) (entry_is configuration past event)

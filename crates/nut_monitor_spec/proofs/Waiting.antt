@@ -1,12 +1,11 @@
 -- How many notices wait.
-use Rattle.std.proofs.Common.{◌≡◌, ℕ, zero, suc, ◌+◌, ◌≤◌, Bool, true, false, not, ◌&&◌, inl, inr, List, [], ◌∷◌, ◌++◌, length, refl, sym, ◌∙◌, ap, subst, arith, Option, Some, None, is_some, is_none, if◌then◌else◌, length-append, length-drop}
+use Rattle.std.proofs.Common.{◌≡◌, ℕ, zero, suc, ◌+◌, ◌≤◌, Bool, true, false, not, List, [], ◌∷◌, ◌++◌, length, refl, sym, ◌∙◌, ap, subst, arith, Option, Some, None, is_none, if◌then◌else◌, length-append, length-drop}
 use Rattle.std.specs.Prelude.{nat_lt, slice_get}
 use Rattle.std.proofs.lemmas.Bool.Decides.{leb_tells}
-use Rattle.nut_words.specs.declared.limits.TheConstants.{PIECE_MAX}
 use Rattle.nut_conf.specs.declared.notice.Notice.TheVariants as kinds
 use Rattle.nut_link.specs.Exchange.{Exchange}
 use Rattle.nut_link.specs.declared.outcome.Outcome.{Outcome}
-use Rattle.nut_link.specs.Link.{LinkValue, fed, outcome_of}
+use Rattle.nut_link.specs.Link.{LinkValue, fed}
 use Rattle.nut_conf.specs.declared.limits.TheConstants.{MONITORS_MAX}
 use Rattle.nut_monitor_spec.specs.declared.Communication.{Communication}
 use Rattle.nut_monitor_spec.specs.declared.Known.{Known}
@@ -19,27 +18,25 @@ use Rattle.nut_monitor_spec.specs.declared.Query.{Query}
 use Rattle.nut_monitor_spec.specs.declared.StatusFlags.{StatusFlags}
 use Rattle.nut_monitor_spec.specs.Configuration.{Line, Configuration}
 use Rattle.nut_monitor_spec.specs.Event.{Event, Moment, Linked, LinkBytes, LinkLost, LinkTook, OutOfMemory, NoticeTaken}
-use Rattle.nut_monitor_spec.specs.Query.{status_in, is_no_status, flags_of}
+use Rattle.nut_monitor_spec.specs.Query.{flags_of}
 use Rattle.nut_monitor_spec.specs.Decision.{is_bad, told, shutdown_told, when, status_notices, status_notices_in, loss_notices, next_query}
 use Rattle.nut_monitor_spec.specs.Trace.{trace}
-use Rattle.nut_monitor_spec.specs.Content.{Watch, Content, watch, for_each_line, content, phase_of}
+use Rattle.nut_monitor_spec.specs.Content.{Watch, Content, watch, for_each_line, content}
 use Rattle.nut_monitor_spec.specs.Acceptance.{IsAccepted, refusal, bytes_refusal, busy, watch_at}
-use Rattle.nut_monitor_spec.specs.machine.Machine.{update, answer_told, lost, made, took, watch_answered, told_heard, told_out, watch_heard, with_watch, bytes_heard, memory_out, link_lost, is_silent, all_silent, silences_told, silences_heard, clock_set, begins, ends, shutdown_judged, phase_moved, put, all_asked, queries_put, settled, advance, loss_told, may_put, piece_heard, piece_out, watch_out, heard_before, link_made}
+use Rattle.nut_monitor_spec.specs.machine.Machine.{update, answer_told, lost, made, took, told_heard, told_out, watch_heard, with_watch, bytes_heard, memory_out, link_lost, is_silent, all_silent, silences_told, silences_heard, clock_set, put, all_asked, settled, advance, may_put, piece_heard, piece_out, link_made}
 use Rattle.nut_monitor_spec.specs.laws.Laws.{NoticesAreFew}
 use Rattle.nut_monitor_spec.proofs.Kept.{keeps-content}
 
 -- ---- how many are told
 
 when-one : (b : Bool) (notice : Notice) → length (when b notice) ≤ 1
-when-one true notice = omega arith
-when-one false notice = omega arith
+when-one b notice = grind arith
 
 when-more : (n : ℕ) (front : List Notice) (b : Bool) (notice : Notice) → length front ≤ n → length (front ++ when b notice) ≤ n + 1
 when-more n front b notice few = omega (arith, length-append front (when b notice), when-one b notice, few)
 
 status-six : (configuration : Configuration) (time i : ℕ) (known : Known) (flags : StatusFlags) → length (status_notices configuration time i known flags) ≤ 6
-status-six configuration time i known flags =
-    when-more 5 _ _ _ (when-more 4 _ _ _ (when-more 3 _ _ _ (when-more 2 _ _ _ (when-more 1 _ _ _ (when-one (is_bad known.communication) (told kinds.Commok i))))))
+status-six configuration time i known flags = grind (arith, when-more)
 
 status-few : (configuration : Configuration) (time i : ℕ) (known : Known) (words : Option (List (List ℕ))) → length (status_notices_in configuration time i known words) ≤ 6
 status-few configuration time i known None = omega arith
@@ -47,26 +44,16 @@ status-few configuration time i known (Some words) = status-six configuration ti
 
 answer-few : (configuration : Configuration) (time i : ℕ) (last : Option LastQuery) (outcome : Option Outcome) (known : Known) →
     length (answer_told configuration time i last outcome known) ≤ 7
-answer-few configuration time i (Some last) (Some outcome) known =
-    when-more 6 _ (is_no_status last.query outcome && not (is_bad known.communication)) (told kinds.Commbad i) (status-few configuration time i known (status_in last.query outcome))
-answer-few configuration time i _ _ known = omega arith
+answer-few configuration time i last outcome known = grind (arith, when-more, status-few)
 
 loss-if : (b : Bool) (i : ℕ) (communication : Communication) → length (let ns : List Notice = if b then loss_notices i communication else [] in ns) ≤ 1
-loss-if true i communication = when-one (not (is_bad communication)) (told kinds.Commbad i)
-loss-if false i communication = omega arith
+loss-if b i communication = grind arith
 
 heard-few : (configuration : Configuration) (time i : ℕ) (watching : Bool) (v : LinkValue) (w : Watch) → length (told_heard configuration time i watching v w) ≤ 8
-heard-few configuration time i watching v w =
-    let first = answer_told configuration time i w.last (outcome_of v.exchange) w.known in
-    let after = (watch_answered configuration time watching (outcome_of v.exchange) w).known.communication in
-    let loss : List Notice = if is_some v.exchange.fault then loss_notices i after else [] in
-    omega (arith, length-append first loss, answer-few configuration time i w.last (outcome_of v.exchange) w.known, loss-if (is_some v.exchange.fault) i after)
+heard-few configuration time i watching v w = grind (arith, length-append, answer-few, loss-if)
 
 out-few : (configuration : Configuration) (time i : ℕ) (watching : Bool) (e : Exchange) (w : Watch) → length (told_out configuration time i watching e w) ≤ 8
-out-few configuration time i watching e w =
-    let first = answer_told configuration time i w.last (outcome_of e) w.known in
-    let after = (watch_answered configuration time watching (outcome_of e) w).known.communication in
-    omega (arith, length-append first (loss_notices i after), answer-few configuration time i w.last (outcome_of e) w.known, when-one (not (is_bad after)) (told kinds.Commbad i))
+out-few configuration time i watching e w = grind (arith, length-append, answer-few)
 
 silences-few : (configuration : Configuration) (time i : ℕ) (watches : List Watch) → length (silences_told configuration time i watches) ≤ length watches
 silences-few configuration time i [] = omega arith
@@ -84,8 +71,7 @@ all_fresh [] = 0
 all_fresh (w ∷ watches) = fresh w + all_fresh watches
 
 fresh-one : (b : Bool) → (if b then 0 else 1) ≤ 1
-fresh-one true = omega arith
-fresh-one false = omega arith
+fresh-one b = grind arith
 
 fresh-few : (watches : List Watch) → all_fresh watches ≤ length watches
 fresh-few [] = omega arith
@@ -115,8 +101,7 @@ length-each f [] = refl
 length-each f (line ∷ lines) = ap suc (length-each (λ i. f (suc i)) lines)
 
 put-fresh : (line : Line) (time : ℕ) (query : Option Query) (w : Watch) → fresh (put line time query w) ≡ fresh w
-put-fresh line time None w = refl
-put-fresh line time (Some query) w = refl
+put-fresh line time query w = grind arith
 
 asked-fresh : (configuration : Configuration) (time : ℕ) (phase : Phase) (lines : List Line) (watches : List Watch) → all_fresh (all_asked configuration time phase lines watches) ≡ all_fresh watches
 asked-fresh configuration time phase (line ∷ lines) (w ∷ watches) =
@@ -135,56 +120,27 @@ room s = length s.notices + (all_fresh s.watches + left s.ended)
 
 ends-left : (s : Content) (b : Bool) → (b ≡ true → s.ended ≡ None) →
     room (let r : Content = if b then record s { ended = Some s.clock; notices = s.notices ++ shutdown_told ∷ [] } else s in r) ≤ room s
-ends-left s true none = omega (arith, length-append s.notices (shutdown_told ∷ []), ap left (none refl))
-ends-left s false none = omega arith
-
-none-of : (o : Option ℕ) (b : Bool) → (is_none o && b) ≡ true → o ≡ None
-none-of None b is = refl
-none-of (Some m) b is = cc
-
-judged-room : (s : Content) (b : Bool) → (let r : Content = if b then record s { begun = Some s.clock } else s in room r) ≡ room s
-judged-room s true = refl
-judged-room s false = refl
+ends-left s b none = grind (arith, length-append)
 
 settled-room : (s : Content) → room (settled s) ≤ room s
-settled-room s =
-    let t = shutdown_judged s in
-    let u = phase_moved t in
-    let first : room t ≡ room s = judged-room s (begins s) in
-    let second : room u ≤ room t = ends-left t (ends t) (λ is. none-of t.ended _ is) in
-    let third : all_fresh (queries_put u).watches ≡ all_fresh u.watches = asked-fresh u.configuration u.clock (phase_of u) u.configuration.lines u.watches in
-    omega (arith, first, second, third)
+settled-room s = grind (arith, ends-left, asked-fresh)
 
 -- ---- each event
 
-left-one : (o : Option ℕ) → left o ≤ 1
-left-one None = omega arith
-left-one (Some m) = omega arith
-
 given-few : (b : Bool) (before more : List Notice) → length (if b then before ++ more else before) ≤ length before + length more
-given-few true before more = omega (arith, length-append before more)
-given-few false before more = omega arith
+given-few b before more = grind (arith, length-append)
 
 nothing-below : (n : ℕ) → nat_lt 0 n ≡ false → n ≡ 0
-nothing-below n is = elim (leb_tells 1 n) [
-  | inl more ↦ let e : true ≡ false = sym more.0 ∙ is in cc
-  | inr less ↦ omega (arith, less.1)
-]
+nothing-below n is = grind (arith, leb_tells)
 
 busy-none : (b : Bool) → (let o : Option MonitorFault = if b then Some Busy else None in o) ≡ None → b ≡ false
-busy-none true is = cc
-busy-none false is = refl
+busy-none b is = grind arith
 
 not-busy : (s : Content) → busy s ≡ None → length s.notices ≡ 0
 not-busy s is = nothing-below (length s.notices) (busy-none (nat_lt 0 (length s.notices)) is)
 
-heard-if : (there long : Bool) (a b : MonitorFault) (o : Option MonitorFault) → (if there then (if long then Some a else o) else Some b) ≡ None → o ≡ None
-heard-if true false a b o is = is
-heard-if _ _ a b o is = cc
-
 with-watch-room : (i : ℕ) (change : Watch → Watch) (more : List Notice) (s : Content) → length more ≤ 8 → length s.notices ≡ 0 → length s.watches ≤ MONITORS_MAX → room (with_watch i change more s) ≤ 73
-with-watch-room i change more s few none lines =
-    omega (arith, few, none, lines, given-few (is_none s.begun) s.notices more, fresh-few (update i change s.watches), length-update i change s.watches, left-one s.ended)
+with-watch-room i change more s few none lines = grind (arith, given-few, fresh-few, length-update)
 
 piece-room : (i : ℕ) (piece : List ℕ) (w : Watch) (l : Option LinkValue) (s : Content) → length s.notices ≡ 0 → length s.watches ≤ MONITORS_MAX → room s ≤ 73 → room (piece_heard i piece w l s) ≤ 73
 piece-room i piece w None s none lines before = before
@@ -193,47 +149,26 @@ piece-room i piece w (Some v) s none lines before =
     (heard-few s.configuration s.clock i (is_none s.begun) (fed piece v) w) none lines
 
 bytes-room : (i : ℕ) (piece : List ℕ) (o : Option Watch) (s : Content) → bytes_refusal s piece o ≡ None → length s.watches ≤ MONITORS_MAX → room s ≤ 73 → room (bytes_heard i piece o s) ≤ 73
-bytes-room i piece None s accepted lines before = before
-bytes-room i piece (Some w) s accepted lines before =
-    piece-room i piece w w.link s (not-busy s (heard-if (is_some w.link) (nat_lt PIECE_MAX (length piece)) _ _ (busy s) accepted)) lines before
+bytes-room i piece o s accepted lines before = grind (arith, piece-room, not-busy)
 
 out-room : (i : ℕ) (piece : List ℕ) (k : ℕ) (w : Watch) (l : Option LinkValue) (s : Content) → length s.notices ≡ 0 → length s.watches ≤ MONITORS_MAX → room s ≤ 73 → room (piece_out i piece k w l s) ≤ 73
-out-room i piece k w None s none lines before = before
-out-room i piece k w (Some v) s none lines before =
-    with-watch-room i (watch_out s.configuration s.clock (is_none s.begun) (heard_before k piece v)) (told_out s.configuration s.clock i (is_none s.begun) (heard_before k piece v) w) s
-    (out-few s.configuration s.clock i (is_none s.begun) (heard_before k piece v) w) none lines
+out-room i piece k w l s none lines before = grind (arith, with-watch-room, out-few)
 
 memory-room : (i : ℕ) (piece : List ℕ) (k : ℕ) (o : Option Watch) (s : Content) → bytes_refusal s piece o ≡ None → length s.watches ≤ MONITORS_MAX → room s ≤ 73 → room (memory_out i piece k o s) ≤ 73
-memory-room i piece k None s accepted lines before = before
-memory-room i piece k (Some w) s accepted lines before =
-    out-room i piece k w w.link s (not-busy s (heard-if (is_some w.link) (nat_lt PIECE_MAX (length piece)) _ _ (busy s) accepted)) lines before
+memory-room i piece k o s accepted lines before = grind (arith, out-room, not-busy)
 
 when-fresh : (b : Bool) (notice : Notice) → length (when (not b) notice) ≡ (if b then 0 else 1)
-when-fresh true notice = refl
-when-fresh false notice = refl
+when-fresh b notice = grind arith
 
 lost-room : (i : ℕ) (o : Option Watch) (s : Content) → slice_get s.watches i ≡ o → room (link_lost i o s) ≤ room s
-lost-room i None s is = omega arith
-lost-room i (Some w) s is =
-    omega (arith, given-few (is_none s.begun) s.notices (loss_told i w), when-fresh (is_bad w.known.communication) (told kinds.Commbad i), fresh-lost i s.watches w is)
+lost-room i o s is = grind (arith, given-few, when-fresh, fresh-lost)
 
 silences-room : (b : Bool) (s : Content) → length s.notices ≡ 0 → length s.watches ≤ MONITORS_MAX →
     room (let r : Content = if b then record s {
       notices = s.notices ++ silences_told s.configuration s.clock 0 s.watches;
       watches = all_silent s.configuration s.clock s.watches;
     } else s in r) ≤ 73
-silences-room true s none lines =
-    omega (
-      arith,
-      none,
-      lines,
-      length-append s.notices (silences_told s.configuration s.clock 0 s.watches),
-      silences-few s.configuration s.clock 0 s.watches,
-      fresh-few (all_silent s.configuration s.clock s.watches),
-      length-silent s.configuration s.clock s.watches,
-      left-one s.ended,
-    )
-silences-room false s none lines = omega (arith, none, lines, fresh-few s.watches, left-one s.ended)
+silences-room b s none lines = grind (arith, length-append, silences-few, fresh-few, length-silent)
 
 advance-room : (s : Content) (event : Event) → length s.watches ≤ MONITORS_MAX → refusal s event ≡ None → room s ≤ 73 → room (advance s event) ≤ 73
 advance-room s (Moment t) lines accepted before =

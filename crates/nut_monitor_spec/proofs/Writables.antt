@@ -1,5 +1,5 @@
 -- Each query of a MONITOR line can be written.
-use Rattle.std.proofs.Common.{◌≡◌, ℕ, ◌+◌, ◌*◌, ◌≤◌, nat_le, Bool, true, false, ◌&&◌, ◌||◌, cond, List, [], ◌∷◌, length, map, refl, ap, ◌∙◌, arith, length-append, leb-true, le-leb, codes}
+use Rattle.std.proofs.Common.{◌≡◌, ℕ, ◌+◌, ◌*◌, ◌≤◌, nat_le, Bool, true, ◌&&◌, ◌||◌, cond, List, [], ◌∷◌, length, map, refl, ap, ◌∙◌, arith, length-append, leb-true, le-leb, codes}
 use Rattle.std.specs.Prelude.{◌==◌}
 use Rattle.std.proofs.lemmas.Bool.{and_from, and_parts}
 use Rattle.std.proofs.lemmas.List.Folds.{list_all-append}
@@ -27,12 +27,10 @@ right_true : (a b : Bool) → (a && b) ≡ true → b ≡ true
 right_true a b h = (and_parts a b h).1
 
 escaped_printing : (b : Bool) (c : ℕ) → is_printing c ≡ true → list_all is_printing (cond b (92 ∷ c ∷ []) (c ∷ [])) ≡ true
-escaped_printing true c h = ap (λ b. b && true) h
-escaped_printing false c h = ap (λ b. b && true) h
+escaped_printing b c h = grind arith
 
 escaped_length : (b : Bool) (c : ℕ) → length (cond b (92 ∷ c ∷ []) (c ∷ [])) ≤ 2
-escaped_length true c = omega arith
-escaped_length false c = omega arith
+escaped_length b c = grind arith
 
 printing : (w : List ℕ) → IsPrintable w → list_all is_printing w ≡ true
 printing [] h = refl
@@ -52,12 +50,10 @@ quoted_printing : (w : List ℕ) → IsPrintable w → list_all is_printing (quo
 quoted_printing w h = list_all-append is_printing (flat_map escaped w) (34 ∷ []) ∙ ap (λ b. b && true) (escapes_printing w h)
 
 chosen_printing : (b : Bool) (w : List ℕ) → IsPrintable w → list_all is_printing (cond b w (quoted w)) ≡ true
-chosen_printing true w h = printing w h
-chosen_printing false w h = quoted_printing w h
+chosen_printing b w h = grind (arith, printing, quoted_printing)
 
 chosen_length : (b : Bool) (w : List ℕ) → length (cond b w (quoted w)) ≤ 2 * length w + 2
-chosen_length true w = omega arith
-chosen_length false w = omega (arith, length-append (flat_map escaped w) (34 ∷ []), escapes_length w)
+chosen_length b w = grind (arith, length-append, escapes_length)
 
 abbrev tail : List (List ℕ) → List ℕ
 tail ws = flat_map (λ part. 32 ∷ part_text part) (map Word ws)
@@ -78,9 +74,7 @@ tail_length [] = omega arith
 tail_length (w ∷ ws) = omega (arith, length-append (32 ∷ word_text w) (tail ws), chosen_length (stands_bare w) w, tail_length ws)
 
 message_printing : (w : List ℕ) (ws : List (List ℕ)) → IsPrintable w → AllByRecursion IsPrintable ws → list_all is_printing (message (map Word (w ∷ ws))) ≡ true
-message_printing w ws h hs =
-    list_all-append is_printing (word_text w) (tail ws)
-    ∙ and_from (list_all is_printing (word_text w)) (list_all is_printing (tail ws)) (chosen_printing (stands_bare w) w h) (tail_printing ws hs)
+message_printing w ws h hs = grind (arith, list_all-append, and_from, chosen_printing, tail_printing)
 
 message_length : (w : List ℕ) (ws : List (List ℕ)) → room (w ∷ ws) ≤ LINE_MAX → length (message (map Word (w ∷ ws))) ≤ LINE_MAX
 message_length w ws few = omega (arith, length-append (word_text w) (tail ws), chosen_length (stands_bare w) w, tail_length ws, few)
@@ -93,8 +87,7 @@ pub name_length : (most : ℕ) (w : List ℕ) → is_name most w ≡ true → le
 name_length most w h = leb-true (length w) most (right_true (nat_le 1 (length w)) (nat_le (length w) most) (left_true (nat_le 1 (length w) && nat_le (length w) most) (list_all is_name_byte w) h))
 
 text_length : (least most : ℕ) (w : List ℕ) → is_text least most w ≡ true → length w ≤ most
-text_length least most w h =
-    leb-true (length w) most (right_true (nat_le least (length w)) (nat_le (length w) most) (left_true (nat_le least (length w) && nat_le (length w) most) (list_all is_printing w) h))
+text_length least most w h = grind (arith, leb-true, right_true, nat_le, left_true)
 
 -- a word of bytes 0x20 to 0x7E is printable
 word_printable : (w : List ℕ) → list_all is_printing w ≡ true → IsPrintable w
