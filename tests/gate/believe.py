@@ -22,13 +22,15 @@ PROMISES = (
     ("A server", "what a server answers, keeps and asks of its drivers, and what callers see of that", (
         ("nut_server", None, ("Server.*", "silence_before_ping")),)),
     ("A server's configuration", "what the files make of a server", (
-        ("nut_server", "config.rt", ("Config.*", "User.*")),)),
+        ("nut_server", "config.rt", ("Config.*",)),)),
     ("What a server sends", "what connections and drivers are sent, and that cuts don't matter", (
         ("nut_server_spec", None, (
             "sent_and_waiting_is_due", "sent_is_front_of_due", "sent_is_received", "driver_sent_and_waiting_is_due",
             "driver_sent_is_received", "cuts_do_not_matter", "driver_cuts_do_not_matter", "cuts_and_writes_do_not_matter",
             "driver_cuts_and_writes_do_not_matter", "same_steps_same_answers", "logout_is_final", "others_stay", "other_drivers_stay",
             "opened_is_fresh", "closed_stays_closed", "numbers_rise", "status_is_the_drivers")),)),
+    ("Rights", "what needs a right, and who has it", (
+        ("nut_server_spec", None, ("nothing_without_the_right",)),)),
     ("Bounds of a server", "how much is kept, and how much waits", (
         ("nut_server_spec", None, (
             "bounds_hold", "connections_are_few", "answers_are_bounded", "waits_for_one_piece", "waits_are_bounded")),)),
@@ -77,26 +79,27 @@ PROMISES = (
             "configurations_are_spoken", "events_are_accepted", "pipes_carry_beginnings", "statuses_were_shown",
             "shutdowns_have_causes", "primaries_go_last")),
         ("nut_play", None, ("Fleet.new", "Fleet.config", "Fleet.play", "rooms_hold")))),
+    ("Who stops a machine", "that a machine stops only by what its drivers said, or if a user forces it who may", (
+        ("nut_fleet", None, ("nobody_else_halts", "fsds_follow_shutdowns", "nobody_stops_uncalled")),)),
     ("A room in time", "by when machines begin to shut down and are halted, and when none is", (
         ("nut_in_time", None, (
             "links_open_in_time", "statuses_come_in_time", "shutdowns_begin_in_time", "machines_halt_in_time", "shutdowns_go_on",
             "hostsync_suffices", "nobody_halts_in_vain", "the_last_ups_counts", "forced_is_shown", "room_stops_in_time",
             "cut_off_machines_stop", "links_come_back?", "machines_stop_as_told?", "room_stops_as_told?")),
         ("nut_upsmon", None, ("stops_within",)))),
-    ("Links that keep a pace", "how a link is seen to keep pace", (
-        ("nut_in_time", None, ("quiet_links_keep_pace", "rounds_keep_pace")),)),
     ("Lines of a schedule", "the step that a line says", (
         ("nut_play", "reading.rt", ("read_step",)),)),
 )
 
-# What no section has: clauses in terms of the machine, which say what others say in terms of histories; and laws that only proofs
-# cite.
+# What no section has: clauses in terms of the machine, which say what others say in terms of histories; laws that only proofs cite;
+# and laws by which worked examples see that a link keeps a pace.
 LEFT_OUT = {
     "nut_server": ("Server.step",),
     "nut_monitor": ("Monitor.step",),
     "nut_server_spec": ("machine_keeps_content", "answers_keep_content"),
     "nut_monitor_spec": ("machine_keeps_content", "answers_keep_content"),
     "nut_fleet": ("pipes_move", "contents_tell", "deeds_are_seen", "fleets_go_on"),
+    "nut_in_time": ("quiet_links_keep_pace", "rounds_keep_pace"),
 }
 # The crates each of whose laws has to be in a section or above.
 CRATES_OF_LAWS = ("nut_server_spec", "nut_monitor_spec", "nut_conf", "nut_client", "nut_dummy", "nut_fleet", "nut_in_time", "nut_play")
@@ -110,9 +113,9 @@ lines, comments included, and by file, in the order in which definitions build o
 definitions name. Words of the toolchain's library aren't listed. `python3 -m tests.gate.believe 'A monitor'` prints all that one
 section leads to.
 
-Two files are second forms of shorter ones, and are listed since clauses cite them. If you believe `nut_words: Spelling`, you need
-only `has_backslash`, `with_backslash` and `Gives` of `nut_words: Reader` (law `spelled_is_meant`). If you believe
-`nut_state: LookBack`, you need only `line_adds` of `nut_state: Step` (law `every_table_holds`).
+Two files have second forms. If you believe `nut_words: Spelling`, you need only `has_backslash`, `with_backslash` and `Gives` of
+`nut_words: Reader` (law `spelled_is_meant`). If you believe `nut_state: LookBack`, which no clause here cites, you need only
+`line_adds` of `nut_state: Step` (law `every_table_holds`).
 
 `python3 -m tests.gate.believe --write` makes this page. A test fails if the page differs, if it doesn't find a name that a clause or a
 definition has, or if a law is in no section.

@@ -23,9 +23,9 @@ from tests.support.manual import numbers
 DOCS = os.path.join(ROOT, "docs")
 PROVED = os.path.join(DOCS, "proved.md")
 # The greatest sizes, in bytes: of all of docs/, and of some pages.
-ALL_DOCS = 200_000
+ALL_DOCS = 212_000
 SIZES = {
-    "DECISIONS.md": 30_000, "believe.md": 26_000, "maintaining.md": 4_000, "proved.md": 24_000, "room.md": 12_500, "room-law.md": 6_500,
+    "DECISIONS.md": 30_000, "believe.md": 27_000, "maintaining.md": 4_000, "proved.md": 26_000, "room.md": 12_500, "room-law.md": 7_500,
     "decision.md": 4_500, "room.svg": 9_000,
 }
 

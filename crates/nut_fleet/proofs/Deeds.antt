@@ -1,5 +1,6 @@
 -- What holds of a world after a deed that is done only if a test holds, or only if there are bytes to move.
-use Rattle.std.proofs.Common.{◌≡◌, ℕ, ◌==◌, ◌&&◌, ◌||◌, ◌++◌, not, min, take, is_none, Bool, true, false, inl, inr, List, [], ◌∷◌, refl}
+use Rattle.std.proofs.Common.{arith}
+use Rattle.std.proofs.Common.{◌≡◌, ℕ, ◌==◌, ◌&&◌, ◌||◌, ◌++◌, not, min, take, is_none, Bool, true, false, inl, inr, List, [], ◌∷◌}
 use Rattle.std.specs.Prelude.{if◌then◌else◌}
 use Rattle.std.proofs.lemmas.Bool.{and_parts, cases_Bool, not-true}
 use Rattle.nut_words.specs.declared.limits.TheConstants.{PIECE_MAX}
@@ -13,12 +14,10 @@ use Rattle.nut_fleet.specs.World.{Setup, World, Deed, Skip, Tell, Inform, Join, 
 
 -- a step that is played if a test holds
 pub if-played : (P : World → Type 0) (setup : Setup) (w : World) (b : Bool) (d : Deed) → P w → (b ≡ true → P (after setup w d)) → P (after setup w (if b then d else Skip))
-if-played P setup w true d same played = played refl
-if-played P setup w false d same played = same
+if-played P setup w b d same played = grind arith
 
 pub if-carried : (P : World → Type 0) (setup : Setup) (w : World) (bytes : List ℕ) (d : List ℕ → Deed) → P w → P (after setup w (d bytes)) → P (after setup w (carried bytes d))
-if-carried P setup w [] d same played = same
-if-carried P setup w (b ∷ bytes) d same played = played
+if-carried P setup w bytes d same played = grind arith
 
 pub if-counted : (P : World → Type 0) (setup : Setup) (w : World) (n : ℕ) (d : ℕ → Deed) → P w → P (after setup w (d n)) → P (after setup w (counted n d))
 if-counted P setup w n d same played = elim (cases_Bool (n == 0)) [ inl e ↦ rw e same | inr e ↦ rw e played ]
@@ -31,12 +30,12 @@ IsFair setup w (arrivals.Reload new) = (k : Configuration) × (new ≡ kept_from
 IsFair setup w event = Unit {0}
 
 fair : (setup : Setup) (w : World) (event : arrivals.Event) → may_tell setup w (heeded setup.server event) ≡ true → IsFair setup w (heeded setup.server event)
-fair setup w (arrivals.Reload k) may = (k, refl, may)
-fair setup w event may = tt
+fair setup w event may = grind arith
 
--- What holds of a world, and once the server or a monitor was told something, and once a link that was down was made.
+-- What holds of a world, and once the server or a monitor was told something, and once a link whose ends were cut was made.
 module _ (setup : Setup) (w : World) (P : World → Type 0) (same : P w) (on_tell : (event : arrivals.Event) → IsFair setup w event → P (after setup w (Tell event)))
-    (on_inform : (m : ℕ) (event : events.Event) → P (after setup w (Inform m event))) (on_join : (m i : ℕ) → is_linked setup w m i ≡ false → P (after setup w (Join m i))) where
+    (on_inform : (m : ℕ) (event : events.Event) → P (after setup w (Inform m event)))
+    (on_join : (m i : ℕ) → is_open setup w m i ≡ false → is_linked setup w m i ≡ false → P (after setup w (Join m i))) where
   told : (event : arrivals.Event) → IsFair setup w event → P (after setup w (tell setup w event))
   told event is = if-played P setup w (is_none (server_tests.refusal (served setup w) event)) (Tell event) same (λ ok. on_tell event is)
 
@@ -53,7 +52,9 @@ module _ (setup : Setup) (w : World) (P : World → Type 0) (same : P w) (on_tel
       let free = not (is_open setup w m i) && not (is_linked setup w m i) in
       let fits = is_none (server_tests.refusal (served setup w) (arrivals.Open (address_of m))) in
       if-played P setup w (free && fits) (Join m i) same
-      (λ ok. on_join m i (not-true (is_linked setup w m i) (and_parts (not (is_open setup w m i)) (not (is_linked setup w m i)) (and_parts free fits ok).0).1))
+      (λ ok.
+      let cut = and_parts (not (is_open setup w m i)) (not (is_linked setup w m i)) (and_parts free fits ok).0 in
+      on_join m i (not-true (is_open setup w m i) cut.0) (not-true (is_linked setup w m i) cut.1))
   by (Out m i n) =
       let deed = λ (k : ℕ). inform setup w m (events.LinkTook i k) in
       let k = moved n (monitor_waits setup w m i) in
@@ -74,5 +75,11 @@ module _ (setup : Setup) (w : World) (P : World → Type 0) (same : P w) (on_tel
   by (CutMonitor m i) = heard m (events.LinkLost i)
   by (Other e) = if-played P setup w (may_tell setup w (heeded setup.server e)) (tell setup w (heeded setup.server e)) same (λ may. told (heeded setup.server e) (fair setup w e may))
 
-  pub each-deed : (step : Step) → P (after setup w (deed setup w step))
-  each-deed step = if-played P setup w (is_other step || is_fit setup step) (deed_of setup w step) same (λ ok. by step)
+  pub each-deed-open : (step : Step) → P (after setup w (deed setup w step))
+  each-deed-open step = if-played P setup w (is_other step || is_fit setup step) (deed_of setup w step) same (λ ok. by step)
+
+-- the same, if it doesn't matter that the server's end was cut
+pub each-deed : (setup : Setup) (w : World) (P : World → Type 0) → P w → ((event : arrivals.Event) → IsFair setup w event → P (after setup w (Tell event))) →
+    ((m : ℕ) (event : events.Event) → P (after setup w (Inform m event))) → ((m i : ℕ) → is_linked setup w m i ≡ false → P (after setup w (Join m i))) →
+    (step : Step) → P (after setup w (deed setup w step))
+each-deed setup w P same on_tell on_inform on_join step = each-deed-open setup w P same on_tell on_inform (λ m i shut cut. on_join m i cut) step

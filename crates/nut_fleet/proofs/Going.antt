@@ -1,5 +1,5 @@
 -- How a fleet that a program keeps continues with a step.
-use Rattle.std.proofs.Common.{◌≡◌, ◌⊎◌, ℕ, suc, ◌==◌, ◌&&◌, ◌++◌, ◌≤◌, ◌<◌, not, min, Bool, true, false, inl, inr, List, [], ◌∷◌, length, take, drop, map, None, is_some, is_none, refl, sym, ◌∙◌, ap, subst, arith, append-nil}
+use Rattle.std.proofs.Common.{◌≡◌, ◌⊎◌, ℕ, suc, ◌==◌, ◌&&◌, ◌++◌, ◌≤◌, ◌<◌, not, min, Bool, true, false, inl, inr, List, [], ◌∷◌, length, take, drop, None, is_some, is_none, refl, sym, ◌∙◌, ap, subst, arith, append-nil}
 use Rattle.std.specs.Prelude.{if◌then◌else◌}
 use Rattle.std.proofs.lemmas.Bool.{cases_Bool, cases_eq, and_parts, eqb-true, eq-eqb, ne_eqb, not-true, lt-ltb}
 use Rattle.std.specs.Prelude.{nat_lt}
@@ -24,18 +24,18 @@ use Rattle.nut_monitor_spec.specs.Trace as monitor
 use Rattle.nut_monitor_spec.proofs.Kept as monitor_kept
 use Rattle.nut_monitor_spec.proofs.Lists.{get_at}
 use Rattle.nut_fleet.specs.Schedule.{Step, ServerClock, MonitorClock, Up, Driver, Down, Link, Out, Reach, Back, Land, CutServer, CutMonitor, Other}
-use Rattle.nut_fleet.specs.World.{Setup, World, Deed, Skip, Tell, Inform, Join, monitor_of, seen, served, known, is_open, is_linked, to_server, to_monitor, server_waits, monitor_waits, tell, inform, carried, counted, moved, address_of, has_link, is_fit, deed_of, all_taken, informed, for_monitor, after, world, deed}
+use Rattle.nut_fleet.specs.World.{Setup, World, Deed, Skip, Tell, Inform, Join, monitor_of, seen, served, known, is_open, is_linked, to_server, to_monitor, server_waits, monitor_waits, tell, inform, carried, counted, moved, address_of, has_link, is_fit, deed_of, all_taken, informed, for_monitor, after, world}
 use Rattle.nut_fleet.specs.Fleet.{IsSetup}
-use Rattle.nut_fleet.specs.Log.{Noticed, turned, news, news_of}
+use Rattle.nut_fleet.specs.Log.{news, news_of}
 use Rattle.nut_fleet.specs.Moves.{reached, sent_off, landed, put_in, makes, ContentsTell}
-use Rattle.nut_fleet.specs.Seen.{Ends, Fleet, Stands, open_seen, linked_seen, KeepsLink, Keeps, tell_seen, inform_seen, deed_by}
+use Rattle.nut_fleet.specs.Seen.{Ends, Fleet, Stands, KeepsLink, Keeps}
 use Rattle.nut_fleet.specs.machine.Going.{what_counts, told_on, hushed, informed_on, with_ends, put_on, ends_reached, ends_back, ends_out, ends_landed, ends_made, moved_by, moved_on, heard_news, news_by, news_seen, FleetsGoOn}
 use Rattle.nut_fleet.proofs.Sound.{Sound, IsLawful}
 use Rattle.nut_fleet.proofs.Steps.{for-own, for-other, line-within, zero-closed, is_none-true, some-there}
 use Rattle.nut_fleet.proofs.Worlds.{sound}
-use Rattle.nut_fleet.proofs.Moves.{input-grows, taken-same, drop-more, drop-begins, was-open, still-open, landed-grows, sent-more, informed-same, linked-before, moves-made, no-link, contents-tell}
+use Rattle.nut_fleet.proofs.Moves.{input-grows, drop-more, drop-begins, landed-grows, sent-more, informed-same, linked-before, moves-made, no-link, contents-tell}
 use Rattle.nut_fleet.proofs.Entries.{entry-input}
-use Rattle.nut_fleet.proofs.Seen.{does-so, linked-is, open-is, played-is, same-deed, same-linked, same-monitor_waits, same-open, same-server_waits}
+use Rattle.nut_fleet.proofs.Seen.{does-so, played-is, same-deed, same-linked, same-monitor_waits, same-open, same-server_waits}
 
 -- ---- a monitor's content, after its notices were taken
 
@@ -52,9 +52,7 @@ taken-content config (notice ∷ notices) told accepted waiting =
 
 informed-content : (config : Configuration) (told : List events.Event) (event : events.Event) → monitor_tests.IsAccepted config (event ∷ told) →
     knowledge.content config (informed config told event) ≡ hushed (monitor_machine.advance (knowledge.content config told) event)
-informed-content config told event accepted =
-    taken-content config (notices_waiting (trace config (event ∷ told))) (event ∷ told) accepted refl
-    ∙ ap hushed (monitor_kept.keeps-content config told event accepted)
+informed-content config told event accepted = grind (arith, taken-content, monitor_kept.keeps-content)
 
 -- ---- a link at an event
 
@@ -68,21 +66,8 @@ module _ (setup : Setup) (m i c : ℕ) (h : List arrivals.Event) (told : List ev
       next.to_server ≡ drop (length (reached c e)) ends.to_server →
       (linked i (trace config told) ≡ true → next.to_monitor ≡ ends.to_monitor ++ take (sent_off c e) (server.waits setup.server c h)) →
       KeepsLink setup m i c (e ∷ h) told next
-  told-link e accepted bound begins front back = record {
-    connection = same ∙ k.connection;
-    to_server = λ up.
-        let before : is_some (server_tests.session_of c (server.content setup.server h).sessions) ≡ true =
-        still-open (server_tests.session_of c (server.content setup.server h).sessions)
-        (λ none. was-open (server_tests.session_of c (server.content setup.server (e ∷ h)).sessions) up (closed-stays setup.server h e c accepted bound none)) in
-        let bytes = monitor.sent config i (trace config told) in
-        front ∙ ap (drop (length (reached c e))) (k.to_server before) ∙ sym (drop-more (arrivals.input c h) (reached c e) bytes)
-        ∙ sym (ap (λ x. drop (length x) bytes) (input-grows c e h));
-    to_monitor = λ up.
-        let came = monitor.input i (trace config told) in
-        let more = take (sent_off c e) (server.waits setup.server c h) in
-        back up ∙ ap (λ x. x ++ more) (k.to_monitor up) ∙ sym (drop-begins came (server.sent setup.server c h) more begins)
-        ∙ sym (ap (drop (length came)) (sent-step setup.server h c e accepted.0 ∙ ap (λ n. server.sent setup.server c h ++ take n (server.waits setup.server c h)) (taken-same c e)));
-  }
+  told-link e accepted bound begins front back =
+      grind (arith, e, closed-stays, drop-more, input-grows, drop-begins, sent-step)
 
   informed-link : (event : events.Event) → monitor_tests.IsAccepted config (event ∷ told) → i < length config.lines → makes i event ≡ false →
       Begins (arrivals.input c h) (monitor.sent config i (trace config told)) →
@@ -111,32 +96,18 @@ abbrev AtLink : ℕ → ℕ → ℕ → ℕ → Type 0
 AtLink m i k j = ((k ≡ m) × (j ≡ i)) ⊎ ((k ≡ m) × (j ≡ i) → ⊥)
 
 at-link : (m i k j : ℕ) → AtLink m i k j
-at-link m i k j = elim (cases_eq k m) [
-  | inl same ↦ elim (cases_eq j i) [ inl equal ↦ inl (same, equal) | inr ne ↦ inr (λ both. ne both.1) ]
-  | inr ne ↦ inr (λ both. ne both.0)
-]
+at-link m i k j = grind (arith, cases_eq)
 
 one-own : {A : Type 0} (m i : ℕ) (x : A) (f : ℕ → ℕ → A) → for_monitor m (for_monitor i x (f m)) f m i ≡ x
 one-own m i x f = rw (eq-eqb m m refl, eq-eqb i i refl) refl
 
 one-other : {A : Type 0} (m i : ℕ) (x : A) (f : ℕ → ℕ → A) (k j : ℕ) → ((k ≡ m) × (j ≡ i) → ⊥) → for_monitor m (for_monitor i x (f m)) f k j ≡ f k j
-one-other m i x f k j ne = elim (cases_eq k m) [
-  | inl same ↦ elim (cases_eq j i) [
-    | inl equal ↦ absurd (ne (same, equal))
-    | inr differ ↦ rw (eq-eqb k m same, ne_eqb j i differ) (ap (λ y. f y j) (sym same))
-  ]
-  | inr differ ↦ rw (ne_eqb k m differ) refl
-]
+one-other m i x f k j ne = grind (arith, cases_eq, eq-eqb, ne_eqb)
 
 -- what holds of a link with a new value, and of all others
 with-link : {A : Type 0} (m i : ℕ) (x : A) (f : ℕ → ℕ → A) (P : ℕ → ℕ → A → Type 0) → P m i x → ((k j : ℕ) → ((k ≡ m) × (j ≡ i) → ⊥) → P k j (f k j)) →
     (k j : ℕ) → P k j (for_monitor m (for_monitor i x (f m)) f k j)
-with-link m i x f P own others k j = elim (at-link m i k j) [
-  | inl both ↦
-      subst (λ y. P y j (for_monitor m (for_monitor i x (f m)) f y j)) (sym both.0)
-      (subst (λ y. P m y (for_monitor m (for_monitor i x (f m)) f m y)) (sym both.1) (subst (P m i) (sym (one-own m i x f)) own))
-  | inr ne ↦ subst (P k j) (sym (one-other m i x f k j ne)) (others k j ne)
-]
+with-link m i x f P own others k j = grind (arith, own, at-link, one-own, one-other)
 
 -- ---- a fleet at a deed
 
@@ -149,8 +120,7 @@ abbrev IsQuietFor : ℕ → events.Event → Type 0
 IsQuietFor i event = (makes i event ≡ false) × (put_in i event ≡ 0) × (landed i event ≡ [])
 
 pub from-if : (b : Bool) (x : List ℕ) → (if b then x else []) ≡ [] → b ≡ true → [] ≡ x
-from-if true x is up = sym is
-from-if false x is up = cc
+from-if b x is up = grind arith
 
 module _ (setup : Setup) (earlier : List Step) (s : Sound setup earlier (world setup earlier)) (tells : ContentsTell setup (world setup earlier)) (f : Fleet)
     (keeps : Keeps setup (world setup earlier) f) where
@@ -242,17 +212,7 @@ module _ (setup : Setup) (earlier : List Step) (s : Sound setup earlier (world s
   monitor-told : (m : ℕ) (event : events.Event) → monitor_tests.Accepts (known setup w m) event → (k : ℕ) →
       for_monitor m (hushed (monitor_machine.advance (f.monitor m) event)) f.monitor k
       ≡ knowledge.content (monitor_of setup k) (for_monitor m (informed (monitor_of setup m) (w.monitor m) event) w.monitor k)
-  monitor-told m event ok k =
-      let new = hushed (monitor_machine.advance (f.monitor m) event) in
-      let told = informed (monitor_of setup m) (w.monitor m) event in
-      elim (cases_eq k m) [
-        | inl same ↦
-            subst (λ x. for_monitor m (hushed (monitor_machine.advance (f.monitor m) event)) f.monitor x ≡ knowledge.content (monitor_of setup x) (for_monitor m (informed (monitor_of setup m) (w.monitor m) event) w.monitor x)) (sym same)
-            (for-own m new f.monitor ∙ ap (λ x. hushed (monitor_machine.advance x event)) (keeps.monitor m)
-            ∙ sym (informed-content (monitor_of setup m) (w.monitor m) event ((s.monitors m).accepted, ok))
-            ∙ sym (ap (knowledge.content (monitor_of setup m)) (for-own m told w.monitor)))
-        | inr ne ↦ for-other m k new f.monitor ne ∙ keeps.monitor k ∙ sym (ap (knowledge.content (monitor_of setup k)) (for-other m k told w.monitor ne))
-      ]
+  monitor-told m event ok k = grind (arith, cases_eq, for-own, informed-content, for-other)
 
   -- a link that the monitor's event doesn't concern, if its connection is c and these are the server's events
   informed-quiet : (m : ℕ) (event : events.Event) → monitor_tests.Accepts (known setup w m) event → (i c : ℕ) (h : List arrivals.Event) → has_link setup m i ≡ true →
@@ -337,9 +297,7 @@ module _ (setup : Setup) (earlier : List Step) (s : Sound setup earlier (world s
   -- ---- a link is made
 
   free : (m i : ℕ) → has_link setup m i ≡ true → is_linked setup w m i ≡ false → monitor_tests.refusal (known setup w m) (events.Linked i) ≡ None
-  free m i there cut =
-      ap monitor_tests.linked_refusal (get_at i (knowledge.watch (monitor_of setup m) (seen setup w m)) (monitor_of setup m).lines (line-within setup m i there))
-      ∙ no-link setup earlier w s m i (linked i (seen setup w m)) cut
+  free m i there cut = grind (arith, get_at, line-within, no-link)
 
   join-keeps : (m i : ℕ) → has_link setup m i ≡ true → is_linked setup w m i ≡ false →
       server_tests.refusal (served setup w) (arrivals.Open (address_of m)) ≡ None →
@@ -389,9 +347,7 @@ module _ (setup : Setup) (earlier : List Step) (s : Sound setup earlier (world s
 
   same-heard : (m : ℕ) (event : events.Event) → monitor_tests.Accepts (known setup w m) event → heard_news m (f.monitor m) event ≡ news_of setup w (Inform m event)
   same-heard m event ok =
-      ap (λ x. heard_news m x event) (keeps.monitor m)
-      ∙ sym (ap (λ x. let y : knowledge.Content = x in map (Noticed m) y.notices ++ turned m (knowledge.phase_of (known setup w m)) (knowledge.phase_of y))
-      (monitor_kept.keeps-content (monitor_of setup m) (w.monitor m) event ((s.monitors m).accepted, ok)))
+      rw (keeps.monitor m, ← monitor_kept.keeps-content (monitor_of setup m) (w.monitor m) event ((s.monitors m).accepted, ok))
 
   -- ---- a step
 
@@ -399,12 +355,10 @@ module _ (setup : Setup) (earlier : List Step) (s : Sound setup earlier (world s
   Goes step d = Keeps setup (after setup w d) (moved_by f d step) × (news_by f d ≡ news_of setup w d)
 
   when-test : (step : Step) (b : Bool) (d : Deed) → (b ≡ true → Goes step d) → Goes step (if b then d else Skip)
-  when-test step true d goes = goes refl
-  when-test step false d goes = (keeps, refl)
+  when-test step b d goes = grind (arith, goes)
 
   when-carried : (step : Step) (bytes : List ℕ) (d : List ℕ → Deed) → Goes step (d bytes) → Goes step (carried bytes d)
-  when-carried step [] d goes = (keeps, refl)
-  when-carried step (b ∷ bytes) d goes = goes
+  when-carried step bytes d goes = grind (arith, goes)
 
   when-counted : (step : Step) (n : ℕ) (d : ℕ → Deed) → Goes step (d n) → Goes step (counted n d)
   when-counted step n d goes = elim (cases_Bool (n == 0)) [ inl e ↦ rw e (keeps, refl) | inr e ↦ rw e goes ]
@@ -462,43 +416,24 @@ module _ (setup : Setup) (earlier : List Step) (s : Sound setup earlier (world s
   goes (Other event) ok = cc
 
   pub goes-on : (step : Step) → is_fit setup step ≡ true → Keeps setup (world setup (step ∷ earlier)) (moved_on f step)
-  goes-on step ok =
-      subst (λ d. Keeps setup (after setup w d) (moved_on f step)) (sym (played-is setup w step ok))
-      (subst (λ d. Keeps setup (after setup w (deed_of setup w step)) (moved_by f d step)) (sym (same-deed setup w f keeps tells step ok)) (goes step ok).0)
+  goes-on step ok = grind (arith, same-deed, goes)
 
   pub tells-so : (step : Step) → is_fit setup step ≡ true → news_seen f step ≡ news setup w step
   tells-so step ok = ap (news_by f) (same-deed setup w f keeps tells step ok) ∙ (goes step ok).1 ∙ sym (ap (news_of setup w) (played-is setup w step ok))
 
   if-same : (a b : Bool) (x y : List ℕ) → a ≡ b → (b ≡ true → x ≡ y) → (if a then x else []) ≡ (if b then y else [])
-  if-same true true x y e same = same refl
-  if-same false false x y e same = refl
-  if-same _ _ x y e same = cc
+  if-same a b x y e same = grind (arith, e)
 
   pub counts-so : Stands setup w (what_counts f)
-  counts-so = record {
-    server = keeps.server;
-    monitor = keeps.monitor;
-    connection = λ m i there. (keeps.link m i there).connection;
-    to_server = λ m i there. if-same (open_seen f m i) (is_open setup w m i) _ _ (same-open setup w f keeps tells m i there) (λ up. (keeps.link m i there).to_server up);
-    to_monitor = λ m i there. if-same (linked_seen f m i) (is_linked setup w m i) _ _ (same-linked setup w f keeps tells m i there) (λ up. (keeps.link m i there).to_monitor up);
-  }
+  counts-so = grind (arith, if-same, same-open, same-linked)
 
 -- ---- `Keeps` from `Stands`
 module _ (setup : Setup) (w : World) (tells : ContentsTell setup w) (f : Fleet) (stands : Stands setup w (what_counts f)) where
   if-true : (a b : Bool) (x y : List ℕ) → a ≡ b → b ≡ true → (if a then x else []) ≡ (if b then y else []) → x ≡ y
-  if-true true true x y e up same = same
-  if-true _ _ x y e up same = cc
+  if-true a b x y e up same = grind (arith, e)
 
   pub kept-so : Keeps setup w f
-  kept-so = record {
-    server = stands.server;
-    monitor = stands.monitor;
-    link = λ m i there. record {
-      connection = stands.connection m i there;
-      to_server = λ up. if-true (open_seen f m i) (is_open setup w m i) _ _ (open-is setup w f m i (stands.connection m i there) stands.server) up (stands.to_server m i there);
-      to_monitor = λ up. if-true (linked_seen f m i) (is_linked setup w m i) _ _ (linked-is setup w f m i tells there (stands.monitor m)) up (stands.to_monitor m i there);
-    };
-  }
+  kept-so = grind (arith, if-true)
 
 pub fleets-go_on : (setup : Setup) → IsLawful setup.server → IsSetup setup → (schedule : List Step) → FleetsGoOn setup schedule
 fleets-go_on setup law fine schedule =

@@ -1,13 +1,12 @@
 -- What others tell the server isn't bytes on the connection of a link.
-use Rattle.std.proofs.Common.{◌≡◌, ℕ, zero, suc, ◌<◌, ◌==◌, ◌||◌, nat_lt, Bool, true, false, inl, inr, length, refl, ◌∙◌, ap, arith}
+use Rattle.std.proofs.Common.{◌≡◌, ℕ, zero, suc, ◌<◌, ◌==◌, ◌||◌, nat_lt, Bool, true, false, inl, inr, length, ◌∙◌, ap, arith}
 use Rattle.std.proofs.lemmas.Bool.{and_parts, cases_Bool, ltb-false, ltb-true, not-true}
 use Rattle.nut_server_spec.specs.Event as arrivals
 use Rattle.nut_fleet.specs.World.{Setup, World, any_below, has_link, is_of_link, may_tell, monitor_of}
 use Rattle.nut_fleet.proofs.Server.{is_of}
 
 or-none : (a b : Bool) → (a || b) ≡ false → (a ≡ false) × (b ≡ false)
-or-none true b is = cc
-or-none false b is = (refl, is)
+or-none a b is = grind arith
 
 none-below : (n : ℕ) (test : ℕ → Bool) (k : ℕ) → any_below n test ≡ false → k < n → test k ≡ false
 none-below zero test k none less = absurd (omega (arith, less))
@@ -30,5 +29,4 @@ module _ (setup : Setup) (w : World) where
       (ltb-true i (length (monitor_of setup m).lines) parts.1)
 
   pub other-link : (e : arrivals.Event) (m i : ℕ) → has_link setup m i ≡ true → may_tell setup w e ≡ true → is_of (w.connection m i) e ≡ false
-  other-link (arrivals.Bytes c piece) m i there may = not-of_link c m i there (not-true (is_of_link setup w c) may)
-  other-link e m i there may = refl
+  other-link e m i there may = grind (arith, not-of_link, not-true)

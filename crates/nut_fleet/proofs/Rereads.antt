@@ -1,5 +1,5 @@
 -- A reload in a schedule leaves a fleet's server its UPSes, with their drivers and numbers, its users and its MAXAGE.
-use Rattle.std.proofs.Common.{◌≡◌, ℕ, zero, suc, ◌+◌, ◌<◌, not, max, eqb, ltb, List, [], ◌∷◌, length, refl, sym, ◌∙◌, ap, subst, arith, Option, Some, None, ◌++◌, ◌&&◌, ◌||◌, true, min, take, is_none}
+use Rattle.std.proofs.Common.{◌≡◌, ℕ, zero, suc, ◌+◌, ◌<◌, not, max, eqb, ltb, List, [], ◌∷◌, length, refl, sym, ◌∙◌, ap, subst, arith, Option, Some, None}
 use Rattle.std.specs.Prelude.{if◌then◌else◌, option_map, position, slice_get}
 use Rattle.std.specs.List.{position_or_len}
 use Rattle.std.specs.Option.{option_and_then}
@@ -10,19 +10,14 @@ use Rattle.std.proofs.lemmas.List.Quantifiers.{position-Some}
 use Rattle.std.proofs.lemmas.Slice.Eq.{bytes_eq-Decides}
 use Rattle.nut_words.specs.Lines.{LineText}
 use Rattle.nut_server_spec.specs.Configuration.{Configuration, Ups, number_of_ups}
-use Rattle.nut_server_spec.specs.Content.{past}
 use Rattle.nut_server_spec.specs.Event.{Step, Said, Reported, Reloaded, steps, with_lines, with_reports, brought, input, driver_input}
 use Rattle.nut_server_spec.specs.Event as arrivals
-use Rattle.nut_server_spec.specs.Acceptance as server_tests
 use Rattle.nut_server_spec.specs.Numbering.{Kept, Numbering, below, fate_between, first_numbers, number_of, renumbered, ups_with, with_numbers}
 use Rattle.nut_server_spec.specs.Trace.{Entry, trace, configuration, fate_at, numbers, numbering, places}
 use Rattle.nut_server_spec.proofs.Places.{IsCount, below-length, below_counts, get_below}
-use Rattle.nut_monitor_spec.specs.Event as events
-use Rattle.nut_monitor_spec.specs.Acceptance as monitor_tests
 use Rattle.nut_fleet.specs.Schedule as schedules
-use Rattle.nut_fleet.specs.World.{Setup, World, counted, described, kept_from, world, Tell, Inform, Join, served, known, is_open, is_linked, to_server, to_monitor, server_waits, monitor_waits, tell, inform, carried, moved, address_of, deed_of, heeded, is_fit, is_other, may_tell, after}
+use Rattle.nut_fleet.specs.World.{Setup, World, counted, described, kept_from, world}
 use Rattle.nut_fleet.proofs.Deeds.{IsFair, each-deed}
-use Rattle.nut_words.specs.declared.limits.TheConstants.{PIECE_MAX}
 
 -- ---- a server whose reloads keep its UPSes
 
@@ -63,9 +58,7 @@ described-place name (x ∷ upses) (y ∷ new) = ap (λ n. if not (bytes_eq x.na
 described-place name _ _ = refl
 
 described-number : (name : List ℕ) (upses new : List Ups) → number_of_ups name (described upses new) ≡ number_of_ups name upses
-described-number name upses new =
-    ap (λ n. if ltb n (length (described upses new)) then Some n else None) (described-place name upses new)
-    ∙ ap (λ m. if ltb (position_or_len (λ (x : Ups). bytes_eq x.name name) upses) m then Some (position_or_len (λ (x : Ups). bytes_eq x.name name) upses) else None) (described-length upses new)
+described-number name upses new = grind (arith, ltb, described-place, described-length)
 
 described-alike : (u : ℕ) (upses new : List Ups) → shape (slice_get (described upses new) u) ≡ shape (slice_get upses u)
 described-alike (suc u) (x ∷ upses) (y ∷ new) = described-alike u upses new
@@ -73,15 +66,7 @@ described-alike zero (x ∷ upses) (y ∷ new) = refl
 described-alike u _ _ = refl
 
 kept-first : (first new : Configuration) (given : List ℕ) (count : ℕ) → given ≡ first_numbers first.upses → count ≡ length first.upses → AreFirst first (kept_from first new) given count
-kept-first first new given count numbered counted = record {
-  users = refl;
-  max_age = refl;
-  as_many = described-length first.upses new.upses;
-  named = λ name. described-number name first.upses new.upses;
-  alike = λ u. described-alike u first.upses new.upses;
-  numbered = numbered;
-  counted = counted;
-}
+kept-first first new given count numbered counted = grind (arith, described-length, described-number, described-alike)
 
 pub as-made : (first : Configuration) (s : List Step) → KeepsRoom first s → IsAsMade first (trace first s)
 as-made first [] kept = record { users = refl; max_age = refl; as_many = refl; named = λ name. refl; alike = λ u. refl; numbered = refl; counted = refl }
@@ -114,9 +99,7 @@ number-first first name = by (number_of_ups name first.upses) (number-within nam
 
 pub number-stays : (first : Configuration) (t : List Entry) (name : List ℕ) → IsAsMade first t →
     number_of name (numbering first t) ≡ number_of_ups name first.upses
-number-stays first t name made =
-    ap (option_and_then (slice_get (numbers first t))) (made.named name)
-    ∙ ap (λ ns. option_and_then (slice_get ns) (number_of_ups name first.upses)) made.numbered ∙ number-first first name
+number-stays first t name made = grind (arith, number-first)
 
 -- ---- what becomes of its UPSes
 
@@ -145,12 +128,7 @@ get-some (x ∷ upses) zero less = (x, refl)
 get-some (x ∷ upses) (suc u) less = get-some upses u (omega (arith, less))
 
 fate-kept : (o other : Option Ups) (x : Ups) → shape o ≡ shape (Some x) → shape other ≡ shape (Some x) → fate_between o other ≡ Kept
-fate-kept (Some y) (Some z) x old new =
-    let both : (let p : List ℕ × List ℕ = (y.name, y.driver) in p) ≡ (let p : List ℕ × List ℕ = (z.name, z.driver) in p) = cc in
-    let name : y.name ≡ z.name = ap (λ (p : List ℕ × List ℕ). p.0) both in
-    let driver : y.driver ≡ z.driver = ap (λ (p : List ℕ × List ℕ). p.1) both in
-    rw ((bytes_eq-Decides y.name z.name).1 name, (bytes_eq-Decides y.driver z.driver).1 driver) refl
-fate-kept _ _ x old new = cc
+fate-kept o other x old new = grind (arith, bytes_eq-Decides)
 
 pub stays-kept : (first : Configuration) (s : List Step) (k : Configuration) (u : ℕ) → KeepsRoom first (Reloaded k ∷ s) → u < length first.upses → fate_at first (trace first s) (Reloaded k) u ≡ Kept
 stays-kept first s k u kept less =
@@ -176,11 +154,7 @@ reports-keep first u (l ∷ ls) s kept = reports-keep first u ls (Reported u l �
 
 module _ (setup : Setup) (w : World) (kept : KeepsRoom setup.server (steps w.server)) where
   keeps : (e : arrivals.Event) → IsFair setup w e → KeepsRoom setup.server (steps (e ∷ w.server))
-  keeps (arrivals.Bytes c piece) is = lines-keep setup.server c (brought (input c w.server) piece) (steps w.server) kept
-  keeps (arrivals.DriverBytes u piece) is = reports-keep setup.server u (brought (driver_input u w.server) piece) (steps w.server) kept
-  keeps (arrivals.Reload new) is =
-      (is.0, is.1, (bytes_eq-Decides (renumbered new.upses (numbering setup.server (past setup.server w.server))) (numbers setup.server (past setup.server w.server))).0 is.2, kept)
-  keeps e is = kept
+  keeps e is = grind (arith, lines-keep, reports-keep, bytes_eq-Decides)
 
 -- Every reload of a schedule keeps the room.
 pub room-stays : (setup : Setup) (schedule : List schedules.Step) → KeepsRoom setup.server (steps (world setup schedule).server)

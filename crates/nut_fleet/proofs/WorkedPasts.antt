@@ -1,5 +1,5 @@
 -- The made-up pasts: what isn't true of them.
-use Rattle.std.proofs.Common.{◌≡◌, ℕ, ◌+◌, ◌<◌, ◌≤◌, ◌&&◌, nat_le, inl, inr, List, [], ◌∷◌, length, Bool, true, false, not, Option, Some, None, refl, sym, ◌∙◌, ap, subst, arith, codes}
+use Rattle.std.proofs.Common.{◌≡◌, ℕ, ◌<◌, ◌≤◌, ◌&&◌, nat_le, inl, inr, List, [], ◌∷◌, length, Bool, true, false, not, Option, Some, None, refl, sym, ◌∙◌, ap, subst, arith, codes}
 use Rattle.std.specs.Prelude.{◌==◌, nat_lt, reverse}
 use Rattle.std.specs.Fmt.{digits}
 use Rattle.std.proofs.lemmas.Bool.{and_from, and_parts, cases_Bool, eqb-true, le-leb, lt-ltb}
@@ -32,7 +32,7 @@ use Rattle.nut_fleet.specs.examples.PastExamples.{PastExamples, brings, counts_t
 
 -- ---- tests of each time of a schedule
 
-abbrev each-front : (List Step → Bool) → List Step → Bool
+abbrev pub each-front : (List Step → Bool) → List Step → Bool
 each-front test [] = test []
 each-front test (step ∷ earlier) = test (step ∷ earlier) && each-front test earlier
 
@@ -48,30 +48,19 @@ abbrev is-between : ℕ → ℕ → List Step → Bool
 is-between asked_then read_then early =
     nat_le asked_then (length ((world alone early).monitor 0)) && nat_lt (length ((world alone early).monitor 0)) read_then
 
-abbrev shows : List ℕ → Option (List (List ℕ)) → Bool
+abbrev pub shows : List ℕ → Option (List (List ℕ)) → Bool
 shows word None = false
 shows word (Some words) = has word words
 
 -- the status that the server shows between two events doesn't have this word
-abbrev hides : List ℕ → ℕ → ℕ → List Step → Bool
+abbrev pub hides : List ℕ → ℕ → ℕ → List Step → Bool
 hides word asked_then read_then early =
     not (is-between asked_then read_then early && shows word (shown_status alone.server (past alone.server (world alone early).server) (codes "su700")))
 
-never-shown : (word : List ℕ) (schedule : List Step) (front : List Entry) (words : List (List ℕ)) →
+pub never-shown : (word : List ℕ) (schedule : List Step) (front : List Entry) (words : List (List ℕ)) →
     each-front (hides word (asked_at (newest_answer (at_status 0 front))) (length (at_status 0 front))) schedule ≡ true → has word words ≡ true →
     WasShown alone schedule 0 0 front words → ⊥
-never-shown word schedule front words all is w =
-    let asked_then = asked_at (newest_answer (at_status 0 front)) in
-    let read_then = length (at_status 0 front) in
-    let events = length ((world alone w.early).monitor 0) in
-    let shown = shows word (shown_status alone.server (past alone.server (world alone w.early).server) (codes "su700")) in
-    let hidden = front-passes (hides word asked_then read_then) schedule all w.early w.between.front in
-    let yes : (is-between asked_then read_then w.early && shown) ≡ true =
-    and_from (is-between asked_then read_then w.early) shown
-    (and_from (nat_le asked_then events) (nat_lt events read_then) (le-leb asked_then events w.between.asked) (lt-ltb events read_then w.between.unread))
-    (ap (shows word) w.shown ∙ is) in
-    let bad : false ≡ true = sym (ap not yes) ∙ hidden in
-    cc
+never-shown word schedule front words all is w = grind (arith, front-passes, and_from, nat_le, le-leb, lt-ltb)
 
 -- ---- statuses
 
@@ -90,22 +79,13 @@ low-hides = refl
 -- ---- reasons
 
 no-calibration : IsReason primary (line_in primary.lines 0) 10 0 10 (codes "OB" ∷ codes "LB" ∷ codes "CAL" ∷ []) → ⊥
-no-calibration (inl forced) = let bad : false ≡ true = forced in cc
-no-calibration (inr (inl low)) = let bad : true ≡ false = low.2 in cc
-no-calibration (inr (inr gone)) = let late : 10 + 15 < 10 = gone.1 in absurd (omega (arith, late))
+no-calibration is = grind arith
 
 no-secondary : IsReason secondary (line_in secondary.lines 0) 15 0 15 (codes "OB" ∷ codes "LB" ∷ []) → ⊥
-no-secondary (inl forced) = let bad : false ≡ true = forced in cc
-no-secondary (inr (inl low)) = elim low.3 [
-  | inl leads ↦ let bad : false ≡ true = leads in cc
-  | inr late ↦ let over : 0 + 15 < 15 = late in absurd (omega (arith, over))
-]
-no-secondary (inr (inr gone)) = let late : 15 + 15 < 15 = gone.1 in absurd (omega (arith, late))
+no-secondary is = grind arith
 
 not-dead : IsReason primary (line_in primary.lines 0) 15 0 0 (codes "OB" ∷ []) → ⊥
-not-dead (inl forced) = let bad : false ≡ true = forced in cc
-not-dead (inr (inl low)) = let bad : false ≡ true = low.1 in cc
-not-dead (inr (inr gone)) = let late : 0 + 15 < 15 = gone.1 in absurd (omega (arith, late))
+not-dead is = grind arith
 
 -- ---- shutdowns
 

@@ -44,9 +44,7 @@ module _ (configuration : Configuration) (pace : Pace) (Words : List (List ℕ) 
   Given newest = Chosen configuration low (λ i. EachGiven i (length first) Words (trace configuration (newest ++ first)))
 
   good : (newest : List Event) → IsAccepted configuration (newest ++ first) → Keeps newest → Given newest → AllGood configuration (length first) pace Words low (newest ++ first)
-  good newest accepted keeps says i less is =
-      let now = always-now configuration (λ past. (linked i past ≡ true) × IsPrompt pace i past) first newest (keeps i less is) in
-      record { accepted = accepted; there = now.0; prompt = now.1; given = says i less is }
+  good newest accepted keeps says i less is = grind (arith, always-now)
 
   since : (newest : List Event) → IsAccepted configuration (newest ++ first) → IsEven configuration pace first newest → Keeps newest → Given newest →
       Along configuration (length first) pace Words low first (newest ++ first)
@@ -59,12 +57,7 @@ module _ (configuration : Configuration) (pace : Pace) (Words : List (List ℕ) 
   -- at the beginning
   lasts-at : (turn : ℕ) → AllGood configuration (length first) pace Words low first → Chosen configuration low (λ i. IsPolled i (trace configuration first)) →
       Lasts configuration (length first) (clock (trace configuration first)) turn pace Words low first
-  lasts-at turn good_first polled = record {
-    long = omega arith;
-    polls = λ not_begun i less is.
-        let g = good_first i less is in
-        inl (old-first configuration i first (length first) turn pace Words g.accepted g.there not_begun (polled i less is));
-  }
+  lasts-at turn good_first polled = grind (arith, old-first)
 
 -- the links of a machine that is told so, at the beginning and at the end
 module _ (configuration : Configuration) (pace : Pace) (Words : List (List ℕ) → Bool) (low : ℕ → Bool) (first newest : List Event) (is : IsTold configuration pace Words low first newest) where

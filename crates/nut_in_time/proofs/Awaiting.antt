@@ -4,10 +4,10 @@ use Rattle.nut_monitor_spec.specs.declared.Query.TheVariants.{Status, Fsd}
 use Rattle.nut_monitor_spec.specs.Configuration.{Configuration, line_in}
 use Rattle.nut_monitor_spec.specs.Decision.{is_alone}
 use Rattle.nut_monitor_spec.specs.Event.{Event}
-use Rattle.nut_monitor_spec.specs.Trace.{Asked, Answer, Entry, answer_of, begun, came, clock, clock_after, entry_of, forced, has_begun, has_ended, is_short, linked, logins}
+use Rattle.nut_monitor_spec.specs.Trace.{Asked, Answer, Entry, answer_of, begun, came, clock, entry_of, forced, has_begun, has_ended, is_short, linked, logins}
 use Rattle.nut_fleet.proofs.Entries.{is_made}
 use Rattle.nut_in_time.specs.Pace.{Pace, IsPrompt}
-use Rattle.nut_in_time.proofs.Asking.{Waits, Rests, answer-is, wait-comes, waits-on, waits-outstanding, read-soon}
+use Rattle.nut_in_time.proofs.Asking.{Waits, Rests, wait-comes, waits-on, waits-outstanding, read-soon}
 use Rattle.nut_in_time.proofs.Ending.{any-stays, clock-entry, earliest-now, earliest-stays, ended-begun, false-if}
 use Rattle.nut_in_time.proofs.Putting.{fsd-now, fsd-put, stays-forcing}
 
@@ -58,18 +58,7 @@ module _ (configuration : Configuration) (i n0 : ℕ) (Early Soon : Asked → Li
     -- The shutdown begins while a status query waits.
     pub status-first : (last : Asked) → last.query ≡ Status → last.moment ≤ clock next → Early last next → Waits i next last →
         has_begun configuration past ≡ false → has_begun configuration next ≡ true → StatusWaits next
-    status-first last is_status before early w not_begun began =
-        let same = (earliest-now (is_short configuration) (entry_of configuration past event) past not_begun began).0 in
-        let at : clock (begun configuration next) ≡ clock next = ap clock same in
-        record {
-          began = began;
-          not_ended = stays-in (not-over not_begun) (omega (arith, at));
-          last = last;
-          is_status = is_status;
-          before = omega (arith, at, before);
-          early = subst (Early last) (sym same) early;
-          waits = w;
-        }
+    status-first last is_status before early w not_begun began = grind (arith, stays-in, not-over)
 
     -- It begins while the link rests: FSD is put at once.
     pub fsd-first : (last : Asked) → last.query ≡ Status → Rests i midway last → Soon (fsd-now past event) next →
@@ -119,18 +108,4 @@ module _ (configuration : Configuration) (i n0 : ℕ) (Early Soon : Asked → Li
         ]
 
     pub fsd-next : FsdWaits past → FsdWaits next
-    fsd-next a = elim (wait-comes configuration i past event a.last made a.waits) [
-      | inl on ↦ record {
-        began = any-stays (is_short configuration) (entry_of configuration past event) past a.began;
-        last = a.last;
-        is_fsd = a.is_fsd;
-        after = a.after;
-        soon = subst (Soon a.last) (sym (earliest-stays (is_short configuration) (entry_of configuration past event) past a.began)) a.soon;
-        waits = waits-on configuration i past event a.last on.0;
-      }
-      | inr come ↦
-          let read = come.1 in
-          let number : read.0.asked.event ≡ a.last.event = ap (λ (x : Asked). x.event) read.3 in
-          let after = a.after in
-          absurd (not_read read.0 read.1 read.2 (ap (λ (x : Asked). x.query) read.3 ∙ a.is_fsd) (omega (arith, number, after)))
-    ]
+    fsd-next a = grind (arith, wait-comes, any-stays, waits-on)

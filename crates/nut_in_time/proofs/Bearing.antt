@@ -1,5 +1,5 @@
 -- Lines that give no reason for a shutdown, by what is known of them.
-use Rattle.std.proofs.Common.{◌≡◌, ◌⊎◌, ℕ, suc, ◌+◌, ◌<◌, ◌≤◌, ◌&&◌, inl, inr, List, ◌∷◌, length, Bool, true, false, not, Option, Some, None, is_some, refl, sym, ◌∙◌, ap, subst, arith}
+use Rattle.std.proofs.Common.{◌≡◌, ◌⊎◌, ℕ, suc, ◌+◌, ◌<◌, ◌≤◌, ◌&&◌, inl, inr, List, ◌∷◌, length, Bool, true, false, Option, Some, None, is_some, refl, sym, ◌∙◌, ap, subst, arith}
 use Rattle.std.specs.Prelude.{nat_lt}
 use Rattle.std.proofs.lemmas.Bool.{cases_Bool, and_parts, eq-eqb, lt-ltb, ltb-true, not-true}
 use Rattle.nut_monitor_spec.specs.Configuration.{Configuration}
@@ -15,7 +15,7 @@ use Rattle.nut_fleet.proofs.Fronts.{fronts-compare}
 use Rattle.nut_fleet.proofs.Shutdowns.{shutdowns-have_causes, power-more}
 use Rattle.nut_fleet.proofs.Sound.{IsLawful}
 use Rattle.nut_in_time.specs.Pace.{Pace, IsPrompt, Says, seen_at, shown_at}
-use Rattle.nut_in_time.specs.InTime.{turn, seen_by, is_low, has_fsd}
+use Rattle.nut_in_time.specs.InTime.{turn, seen_by}
 use Rattle.nut_in_time.specs.InVain.{is_bearable, NoneBeginsLater, NoneBeginsAnyMore, WasBorne, NoneBegins}
 use Rattle.nut_in_time.proofs.Asking.{wait-comes, rest-stays, waits-on, waits-outstanding, not-made}
 use Rattle.nut_in_time.proofs.Climbing.{each-event}
@@ -112,15 +112,7 @@ module _ (configuration : Configuration) (n0 t0 turn : ℕ) (pace : Pace) (Words
 
 no-reason : (setup : Setup) (m i : ℕ) (time calm polled : ℕ) (words : List (List ℕ)) → is_bearable words ≡ true →
     time ≤ polled + (monitor_of setup m).dead_time → IsReason (monitor_of setup m) (line_of setup m i) time calm polled words → ⊥
-no-reason setup m i time calm polled words fine young reason =
-    let parts = and_parts (not (has_fsd words)) (not (is_low words)) fine in
-    elim reason [
-      | inl fsd ↦ let bad : true ≡ false = sym fsd ∙ not-true (has_fsd words) parts.0 in cc
-      | inr (inl low) ↦
-          let all : is_low words ≡ true = rw (low.0, low.1, low.2) refl in
-          let bad : true ≡ false = sym all ∙ not-true (is_low words) parts.1 in cc
-      | inr (inr gone) ↦ let late = gone.1 in omega (arith, young, late)
-    ]
+no-reason setup m i time calm polled words fine young reason = grind (arith, and_parts, not-true)
 
 same-words : (o : Option (List (List ℕ))) (a b : List (List ℕ)) → o ≡ Some a → o ≡ Some b → a ≡ b
 same-words o a b p q = let e : Some a ≡ Some b = sym p ∙ q in cc
@@ -163,10 +155,8 @@ module _ (setup : Setup) (law : IsLawful setup.server) (fine_setup : IsSetup set
       (borne-next config n0 t0 most pace is_bearable fine turned soon) in
       at-most (clock (begun config past)) (seen_by config pace t0) (λ late. no-causes setup law fine_setup schedule m fine b.enough over (λ i within is cause.
       let bears = p.began over late i within is in
-      let young = bears.young in
-      let patient = b.patient in
       no-reason setup m i (clock (begun config past)) _ (polled i (begun config past)) cause.words (says-words (status i (begun config past)) cause.words bears.says cause.status_is)
-      (omega (arith, young, patient)) cause.reason))
+      (omega (arith, bears.young, b.patient)) cause.reason))
 
   pub none-begins_any_more : NoneBeginsAnyMore setup schedule
   none-begins_any_more pace m fine start middle b within late not_begun = false-if (has_begun (monitor_of setup m) (seen_at setup m schedule)) (λ over.
@@ -196,17 +186,16 @@ module _ (setup : Setup) (law : IsLawful setup.server) (fine_setup : IsSetup set
         let entry = entry_of config past event in
         let time = clock-entry config past event in
         let grows = clock-grows event (clock past) in
-        let since = k.since in
         let last : Lasting (entry ∷ past) = elim (cases_Bool (gives_status i (answer_of config past event))) [
           | inl read ↦
               let at : polled i (entry ∷ past) ≡ clock (entry ∷ past) = ap clock (status-read config i 0 0 0 pace is_bearable past event read) in
-              inr (omega (arith, at, time, grows, since, patient))
+              inr (omega (arith, at, time, grows, k.since, patient))
           | inr unread ↦
               let same = status-unread config i 0 0 0 pace is_bearable past event unread in
               subst (λ front. (status_of_answer (newest_answer front) ≡ None) ⊎ (seen_first ≤ clock front + config.dead_time)) (sym same) k.last
         ] in
         record {
-          since = omega (arith, time, grows, since);
+          since = omega (arith, time, grows, k.since);
           last = last;
           began = begun-by config entry past Lasting k.began (λ was_not. last);
         }
@@ -218,15 +207,7 @@ module _ (setup : Setup) (law : IsLawful setup.server) (fine_setup : IsSetup set
 
   kept-first : (pace : Pace) (m i : ℕ) (start : List Step) → has_begun (monitor_of setup m) (seen_at setup m start) ≡ false → WasBorne setup pace m i start →
       Kept pace m i start ((world setup start).monitor m)
-  kept-first pace m i start not_begun was = record {
-    since = omega arith;
-    last = by (status i (seen_at setup m start)) refl;
-    began = λ any. let bad : false ≡ true = sym not_begun ∙ any in cc;
-  }
-    where
-      by : (o : Option (List (List ℕ))) → status i (seen_at setup m start) ≡ o → Lasting pace m i start (seen_at setup m start)
-      by None is = inl is
-      by (Some words) is = inr (was.young (ap is_some is))
+  kept-first pace m i start not_begun was = grind arith
 
   pub none-begins : NoneBegins setup schedule
   none-begins pace m fine start b before patient not_begun = false-if (has_begun (monitor_of setup m) (seen_at setup m schedule)) (λ over.

@@ -1,17 +1,15 @@
 -- Machines that hear nothing of their UPSes any more.
-use Rattle.std.proofs.Common.{codes, ◌≡◌, ℕ, suc, ◌+◌, ◌<◌, ◌≤◌, ◌&&◌, ◌||◌, ◌==◌, inl, inr, List, [], ◌∷◌, length, Bool, true, false, not, take, Option, Some, None, is_some, refl, sym, ◌∙◌, ap, subst, arith}
-use Rattle.std.specs.Prelude.{option_map}
+use Rattle.std.proofs.Common.{◌≡◌, ℕ, suc, ◌+◌, ◌<◌, ◌≤◌, ◌&&◌, ◌==◌, inl, inr, List, [], ◌∷◌, length, Bool, true, false, not, take, Option, Some, None, is_some, refl, sym, ◌∙◌, ap, subst, arith}
 use Rattle.std.proofs.lemmas.Bool.{cases_Bool, and_parts, eqb-true, ltb-true, not-true}
 use Rattle.nut_words.specs.Lines.{LineText}
-use Rattle.nut_monitor_spec.specs.declared.MonitorFault.TheVariants.{WrongLinkState}
 use Rattle.nut_monitor_spec.specs.Acceptance.{IsAccepted, Accepts, bytes_refusal, watch_at}
 use Rattle.nut_monitor_spec.specs.Acceptance as tests
 use Rattle.nut_monitor_spec.specs.Configuration.{Configuration, line_in}
 use Rattle.nut_monitor_spec.specs.Content.{Content, Watch, content}
-use Rattle.nut_monitor_spec.specs.Decision.{is_critical, is_past, power_where}
+use Rattle.nut_monitor_spec.specs.Decision.{power_where}
 use Rattle.nut_monitor_spec.specs.Event.{Event, LinkBytes, OutOfMemory, NoticeTaken}
-use Rattle.nut_monitor_spec.specs.Query.{has, flags_of, status_in}
-use Rattle.nut_monitor_spec.specs.Trace.{Answer, Entry, all_taken, answer_of, answer_to, brought, first_answer, outstanding, at_status, begun, calm, clock, critical, entry_of, gives_status, has_begun, is_any, is_short, linked, newest_answer, polled, status, status_of_answer, supply, trace}
+use Rattle.nut_monitor_spec.specs.Query.{status_in}
+use Rattle.nut_monitor_spec.specs.Trace.{Answer, Entry, all_taken, answer_of, answer_to, brought, first_answer, outstanding, at_status, begun, clock, critical, entry_of, gives_status, has_begun, is_short, linked, polled, status, trace}
 use Rattle.nut_monitor_spec.proofs.Answering.{linked-made}
 use Rattle.nut_fleet.specs.Schedule.{Step, IsFront}
 use Rattle.nut_fleet.specs.World.{Setup, monitor_of, world}
@@ -20,12 +18,12 @@ use Rattle.nut_fleet.proofs.Fronts.{front-self}
 use Rattle.nut_fleet.proofs.Sound.{IsLawful}
 use Rattle.nut_fleet.proofs.Worlds.{sound}
 use Rattle.nut_in_time.specs.Pace.{Pace, IsSteady, Says, seen_at}
-use Rattle.nut_in_time.specs.InTime.{BeginsBy, has_fsd}
+use Rattle.nut_in_time.specs.InTime.{BeginsBy}
 use Rattle.nut_in_time.specs.CutOff.{CutOffStop, HearsNothing, NoneBeginsOnLine, NothingIsHeard, is_on_battery, is_on_line}
 use Rattle.nut_in_time.proofs.Asking.{to-is}
 use Rattle.nut_in_time.proofs.Beginning.{low-begun, critical-for}
 use Rattle.nut_in_time.proofs.Climbing.{front-of, each-event_with}
-use Rattle.nut_in_time.proofs.Ending.{earliest-now, earliest-sooner, halted-by_then, each-steady, false-if, at-most, begun-by, if-not}
+use Rattle.nut_in_time.proofs.Ending.{earliest-sooner, halted-by_then, each-steady, at-most, begun-by, if-not}
 use Rattle.nut_in_time.proofs.Lasting.{Chosen}
 use Rattle.nut_in_time.proofs.Polling.{status-unread}
 use Rattle.nut_fleet.proofs.Entries.{entry-linked}
@@ -35,8 +33,7 @@ use Rattle.nut_fleet.proofs.Shutdowns.{power-more}
 
 pub same-unread : (configuration : Configuration) (i : ℕ) (past : List Entry) (event : Event) → gives_status i (answer_of configuration past event) ≡ false →
     at_status i (entry_of configuration past event ∷ past) ≡ at_status i past
-same-unread configuration i past event unread =
-    status-unread configuration i 0 0 0 (record { delay = 0; skip = 0 }) (λ words. true) past event unread
+same-unread configuration i past event unread = grind (arith, status-unread)
 
 -- ---- on battery
 
@@ -44,10 +41,6 @@ same-unread configuration i past event unread =
 dead-critical : (configuration : Configuration) (i : ℕ) (past : List Entry) → Says is_on_battery (status i past) →
     polled i past + configuration.dead_time < clock past → critical configuration i past ≡ true
 dead-critical configuration i past says late = critical-for configuration i past says.0 says.1 (inr (inr (says.2, late)))
-
-any-status : (i : ℕ) (past : List Entry) → Says is_on_battery (status i past) → is_any past ≡ true
-any-status i [] says = let bad : None ≡ Some says.0 = says.1 in cc
-any-status i (entry ∷ past) says = refl
 
 -- ---- over a schedule
 
@@ -81,15 +74,7 @@ module _ (setup : Setup) (m : ℕ) (cut : ℕ → Bool) (start schedule : List S
       (short : power_where (λ i. not (cut i)) (monitor_of setup m).lines < (monitor_of setup m).min_supplies) where
     gone-begun : (told : List Event) → Quiet told → last + (monitor_of setup m).dead_time < clock (trace (monitor_of setup m) told) →
         has_begun (monitor_of setup m) (trace (monitor_of setup m) told) ≡ true
-    gone-begun told quiet late =
-        let past = trace config told in
-        let says : Chosen config cut (λ i. Says is_on_battery (status i past)) =
-        λ i within is. subst (λ f. Says is_on_battery (status_of_answer (newest_answer f))) (sym (quiet i within is)) (known i within is) in
-        low-begun config cut past (any-status one past (says one one_there one_cut)) short
-        (λ i within is.
-        let at : polled i past ≡ polled i (seen_at setup m start) = ap clock (quiet i within is) in
-        let sooner = read i within is in
-        dead-critical config i past (says i within is) (omega (arith, at, sooner, late)))
+    gone-begun told quiet late = grind (arith, Chosen, low-begun, dead-critical)
 
     abbrev InTime : Pace → List Event → Type 0
     InTime pace told = has_begun (monitor_of setup m) (trace (monitor_of setup m) told) ≡ true →
@@ -97,42 +82,18 @@ module _ (setup : Setup) (m : ℕ) (cut : ℕ → Bool) (start schedule : List S
 
     gone-next : (pace : Pace) (told : List Event) (event : Event) → Quiet told → Quiet (event ∷ told) →
         clock (trace (monitor_of setup m) (event ∷ told)) ≤ clock (trace (monitor_of setup m) told) + suc pace.skip → InTime pace told → InTime pace (event ∷ told)
-    gone-next pace told event before now steady p =
-        let past = trace config told in
-        begun-by config (entry_of config past event) past (λ front. clock front ≤ last + config.dead_time + suc pace.skip) p (λ was_not.
-        let le = at-most (clock past) (last + config.dead_time) (λ late. let bad : false ≡ true = sym was_not ∙ gone-begun told before late in cc) in
-        omega (arith, le, steady))
+    gone-next pace told event before now steady p = grind (arith, begun-by, at-most, gone-begun)
 
   -- ---- on line power
 
   module _ (known : (i : ℕ) → i < length (monitor_of setup m).lines → cut i ≡ true → (words : List (List ℕ)) → status i (seen_at setup m start) ≡ Some words → is_on_line words ≡ true)
       (enough : (monitor_of setup m).min_supplies ≤ power_where cut (monitor_of setup m).lines) where
     tame-line : (told : List Event) → Quiet told → (i : ℕ) → i < length (monitor_of setup m).lines → cut i ≡ true → critical (monitor_of setup m) i (trace (monitor_of setup m) told) ≡ false
-    tame-line told quiet i within is = by (status i (trace config told)) refl
-      where
-        none : (fsd battery low late gone : Bool) → fsd ≡ false → battery ≡ false → (fsd || (((battery && low) && late) || (battery && gone))) ≡ false
-        none fsd battery low late gone a b = rw (a, b) refl
-
-        by : (o : Option (List (List ℕ))) → status i (trace config told) ≡ o → critical config i (trace config told) ≡ false
-        by None e = ap (λ o. is_critical config (line_in config.lines i) (clock (trace config told)) (calm i (trace config told)) (polled i (trace config told)) (option_map flags_of o)) e
-        by (Some words) e =
-            let past = trace config told in
-            let line = line_in config.lines i in
-            let first : status i (seen_at setup m start) ≡ Some words = sym (ap (λ f. status_of_answer (newest_answer f)) (quiet i within is)) ∙ e in
-            let parts = and_parts (not (has_fsd words)) (not (is_on_battery words)) (known i within is words first) in
-            ap (λ o. is_critical config line (clock past) (calm i past) (polled i past) (option_map flags_of o)) e
-            ∙ none (has (codes "FSD") words) (has (codes "OB") words) (has (codes "LB") words && not (has (codes "CAL") words)) (line.primary || is_past config.host_sync (clock past) (calm i past))
-            (is_past config.dead_time (clock past) (polled i past)) (not-true (has_fsd words) parts.0) (not-true (is_on_battery words) parts.1)
+    tame-line told quiet i within is = grind (arith, and_parts, not-true)
 
     tame-next : (told : List Event) (event : Event) → Quiet (event ∷ told) → has_begun (monitor_of setup m) (trace (monitor_of setup m) told) ≡ false →
         has_begun (monitor_of setup m) (trace (monitor_of setup m) (event ∷ told)) ≡ false
-    tame-next told event now not_begun = false-if (has_begun config (trace config (event ∷ told))) (λ any.
-        let past = trace config told in
-        let next = entry_of config past event ∷ past in
-        let short = ltb-true (supply config next) config.min_supplies ((earliest-now (is_short config) (entry_of config past event) past not_begun any).1) in
-        let less : power_where cut config.lines ≤ supply config next =
-        power-more cut (λ i. not (critical config i next)) config.lines (λ i within is. let f = tame-line (event ∷ told) now i within is in rw f refl) in
-        absurd (omega (arith, short, less, enough)))
+    tame-next told event now not_begun = grind (arith, ltb-true, power-more, tame-line)
 
 -- ---- as laws
 
@@ -166,8 +127,7 @@ none-begins_on_line setup schedule m cut start front silent known enough not_beg
 -- ---- a link that is down
 
 refused-down : (s : Content) (piece : List ℕ) (o : Option Watch) → tests.is_linked o ≡ false → bytes_refusal s piece o ≡ None → ⊥
-refused-down s piece None down none = cc
-refused-down s piece (Some w) down none = let bad : Some WrongLinkState ≡ None = rw down at none in cc
+refused-down s piece o down none = grind (arith, none)
 
 -- an answer on another link
 other-link : (configuration : Configuration) (past : List Entry) (i j : ℕ) (texts : List LineText) → (j == i) ≡ false →

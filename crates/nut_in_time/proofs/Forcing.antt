@@ -1,14 +1,12 @@
 -- A primary whose shutdown has begun puts FSD once the status that it waits for has come.
-use Rattle.std.proofs.Common.{◌≡◌, ◌⊎◌, ℕ, suc, ◌+◌, ◌<◌, ◌≤◌, ◌||◌, ◌&&◌, inl, inr, List, ◌∷◌, length, Bool, true, false, not, Option, Some, None, sym, ◌∙◌, ap, arith}
-use Rattle.std.specs.Prelude.{option_map}
+use Rattle.std.proofs.Common.{◌≡◌, ◌⊎◌, ℕ, suc, ◌+◌, ◌<◌, ◌≤◌, inl, inr, List, ◌∷◌, length, Bool, true, false, Option, Some, arith}
 use Rattle.std.proofs.lemmas.Bool.{cases_Bool, ltb-false, ltb-true}
 use Rattle.nut_monitor_spec.specs.declared.Query.TheVariants.{Status, Fsd}
 use Rattle.nut_monitor_spec.specs.declared.StatusFlags.{StatusFlags}
 use Rattle.nut_monitor_spec.specs.Configuration.{Configuration, Line, line_in}
-use Rattle.nut_monitor_spec.specs.Decision.{is_alone, is_critical, is_past}
+use Rattle.nut_monitor_spec.specs.Decision.{is_alone, is_critical}
 use Rattle.nut_monitor_spec.specs.Event.{Event}
-use Rattle.nut_monitor_spec.specs.Query.{flags_of}
-use Rattle.nut_monitor_spec.specs.Trace.{Asked, Answer, Entry, clock, clock_after, linked, at_status, calm, critical, newest_answer, polled, status, status_of_answer, forced, logins, has_begun, answer_of, came, entry_of}
+use Rattle.nut_monitor_spec.specs.Trace.{Asked, Answer, Entry, clock, clock_after, linked, at_status, calm, critical, polled, forced, logins, has_begun, answer_of, came, entry_of}
 use Rattle.nut_fleet.proofs.Entries.{is_made}
 use Rattle.nut_in_time.specs.Pace.{Pace, IsPrompt}
 use Rattle.nut_in_time.proofs.Asking.{Waits, Rests, wait-comes, rest-stays, waits-on, read-soon}
@@ -22,37 +20,17 @@ use Rattle.nut_in_time.proofs.Awaiting.{FsdWaits, StatusWaits, fsd-first, fsd-ne
 abbrev pub IsGone : Configuration → ℕ → List Entry → Type 0
 IsGone configuration i past = polled i past + configuration.dead_time < clock past
 
-only-gone : (fsd low on_battery before after : Bool) → (fsd || ((low && true) || (on_battery && before))) ≡ false →
-    (fsd || ((low && true) || (on_battery && after))) ≡ true → (before ≡ false) × (after ≡ true)
-only-gone false false true before after a b = (a, b)
-only-gone _ _ _ before after a b = cc
-
 gone-flags : (configuration : Configuration) (line : Line) (time time' calm calm' polled : ℕ) (flags : Option StatusFlags) → line.primary ≡ true →
     is_critical configuration line time calm polled flags ≡ false → is_critical configuration line time' calm' polled flags ≡ true →
     (time ≤ polled + configuration.dead_time) × (polled + configuration.dead_time < time')
-gone-flags configuration line time time' calm calm' polled None primary a b = let bad : false ≡ true = b in cc
-gone-flags configuration line time time' calm calm' polled (Some f) primary a b =
-    let x = only-gone f.forced_shutdown (f.on_battery && (f.low_battery && not f.calibrating)) f.on_battery
-    (is_past configuration.dead_time time polled) (is_past configuration.dead_time time' polled) (rw primary at a) (rw primary at b) in (
-      ltb-false (polled + configuration.dead_time) time x.0,
-      ltb-true (polled + configuration.dead_time) time' x.1,
-    )
+gone-flags configuration line time time' calm calm' polled flags primary a b = grind (arith, time, ltb-false, ltb-true)
 
 -- It becomes so by the clock, which moves beyond DEADTIME.
 pub gone-now : (configuration : Configuration) (i : ℕ) (past : List Entry) (event : Event) → (line_in configuration.lines i).primary ≡ true →
     at_status i (entry_of configuration past event ∷ past) ≡ at_status i past → critical configuration i past ≡ false →
     critical configuration i (entry_of configuration past event ∷ past) ≡ true →
     (clock past < clock (entry_of configuration past event ∷ past)) × IsGone configuration i (entry_of configuration past event ∷ past)
-gone-now configuration i past event primary same tame now =
-    let next = entry_of configuration past event ∷ past in
-    let line = line_in configuration.lines i in
-    let at : polled i next ≡ polled i past = ap clock same in
-    let now' : is_critical configuration line (clock next) (calm i next) (polled i past) (option_map flags_of (status i past)) ≡ true =
-    sym (ap (λ front. is_critical configuration line (clock next) (calm i next) (clock front) (option_map flags_of (status_of_answer (newest_answer front)))) same) ∙ now in
-    let parts = gone-flags configuration line (clock past) (clock next) (calm i past) (calm i next) (polled i past) (option_map flags_of (status i past)) primary tame now' in
-    let before = parts.0 in
-    let after = parts.1 in
-    (omega (arith, before, after), omega (arith, at, after))
+gone-now configuration i past event primary same tame now = grind (arith, gone-flags)
 
 -- ---- from its last status query to its FSD
 

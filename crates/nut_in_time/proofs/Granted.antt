@@ -1,20 +1,21 @@
 -- A connection that was granted PRIMARY may force the shutdown of its UPS from then on.
-use Rattle.std.proofs.Common.{◌≡◌, ◌⊎◌, ℕ, ◌==◌, Bool, true, false, inl, inr, List, [], ◌∷◌, Option, Some, None, refl, sym, ◌∙◌, ap, subst}
+use Rattle.std.proofs.Common.{arith}
+use Rattle.std.proofs.Common.{◌≡◌, ◌⊎◌, ℕ, ◌==◌, Bool, true, false, inl, inr, List, [], ◌∷◌, Option, Some, refl, sym, ◌∙◌, ap, subst}
 use Rattle.std.proofs.lemmas.Bool.{cases_Bool, and_parts, eqb-true, eq-eqb}
 use Rattle.nut_words.specs.Lines.{LineText}
 use Rattle.nut_proto.specs.declared.refusal.Refusal.{Refusal}
 use Rattle.nut_proto.specs.declared.refusal.Refusal.TheVariants as refusals
 use Rattle.nut_proto.specs.declared.reply.Reply.TheVariants as replies
-use Rattle.nut_server_spec.specs.Configuration.{Configuration, User, number_of_ups, user_named, has_password}
+use Rattle.nut_server_spec.specs.Configuration.{Configuration, User, number_of_ups, user_named}
 use Rattle.nut_server_spec.specs.Command.{Asks, command_of}
-use Rattle.nut_server_spec.specs.Event.{Event, Bytes, DriverBytes, Step, Said, Reported, steps, with_lines, with_reports, brought, input, driver_input, Reloaded}
+use Rattle.nut_server_spec.specs.Event.{Event, Step, Said, Reported, steps, with_lines, with_reports, Reloaded}
 use Rattle.nut_server_spec.specs.Content.{past}
-use Rattle.nut_server_spec.specs.Answer.{Answer, Line as OneLine, Scene, Caller, refused, require, check, once, with_right, has_right, may_be_primary, may_force, ups_number}
+use Rattle.nut_server_spec.specs.Answer.{Answer, Line as OneLine, Scene, Caller, refused, require, check, with_right, has_right, may_be_primary, may_force, ups_number}
 use Rattle.nut_server_spec.specs.Effect.{user_then, password_then, forced_then, at_target, target}
 use Rattle.nut_server_spec.specs.Trace.{Entry, trace, user, password, logged_out, forced, scene, caller, answer_to, numbering}
 use Rattle.nut_server_spec.proofs.Requests.{require-case, check-case}
 use Rattle.nut_monitor_spec.specs.declared.Query.{Query}
-use Rattle.nut_monitor_spec.specs.declared.Query.TheVariants.{Username, Password, Primary, Fsd}
+use Rattle.nut_monitor_spec.specs.declared.Query.TheVariants.{Primary, Fsd}
 use Rattle.nut_monitor_spec.specs.Configuration.{Line}
 use Rattle.nut_monitor_spec.specs.Query.{request}
 use Rattle.nut_fleet.specs.Schedule.{Step as Playing}
@@ -77,18 +78,12 @@ module _ (first : Configuration) (line : Line) (c : ℕ) (t : List Entry) (spoke
   -- a user name isn't taken twice
   name-kept : (query : Query) (name : List ℕ) → user c t ≡ Some name →
       user_then (Asks (request line query)) (answer_to first t c (query_line line query)) (user c t) ≡ Some name
-  name-kept Username name is =
-      ap (λ a. user_then (Asks (request line Username)) a (user c t))
-      (query-answer first t c line Username spoken stays ∙ ap (once refusals.AlreadySetUsername) is) ∙ is
-  name-kept query name is = is
+  name-kept query name is = grind (arith, query-answer)
 
   -- nor is a password
   secret-kept : (query : Query) (secret : List ℕ) → password c t ≡ Some secret →
       password_then (Asks (request line query)) (answer_to first t c (query_line line query)) (password c t) ≡ Some secret
-  secret-kept Password secret is =
-      ap (λ a. password_then (Asks (request line Password)) a (password c t))
-      (query-answer first t c line Password spoken stays ∙ ap (once refusals.AlreadySetPassword) is) ∙ is
-  secret-kept query secret is = is
+  secret-kept query secret is = grind (arith, query-answer)
 
   entitled-said : (text : LineText) → ((query : Query) × (text ≡ query_line line query)) → IsEntitled first line (user c t) (password c t) →
       IsEntitled first line (user_then (command_of text) (answer_to first t c text) (user c t)) (password_then (command_of text) (answer_to first t c text) (password c t))
@@ -136,10 +131,7 @@ entitled first line c (_ ∷ s) none spoken own h = entitled first line c s none
 -- ---- its FSD is accepted
 
 force-right : (secret : List ℕ) (o : Option User) → has_right may_be_primary secret o ≡ true → has_right may_force secret o ≡ true
-force-right secret None is = cc
-force-right secret (Some u) is =
-    let parts = and_parts (has_password secret u) (may_be_primary u) is in
-    rw (parts.0, parts.1) refl
+force-right secret o is = grind (arith, and_parts)
 
 right-goes : (names secrets : Option (List ℕ)) (number : Option ℕ) (test : List ℕ → List ℕ → Bool) (next : ℕ → Answer) (name secret : List ℕ) (u : ℕ) →
     names ≡ Some name → secrets ≡ Some secret → number ≡ Some u → test name secret ≡ true →
@@ -166,18 +158,17 @@ pub answered-forced : (setup : Setup) (m i u : ℕ) (step : Playing) (early : Li
     number_of_ups (line_of setup m i).ups setup.server.upses ≡ Some u → IsAnswered setup m i Fsd replies.FsdSet step early →
     forced setup.server u (past setup.server (world setup (step ∷ early)).server) ≡ true
 answered-forced setup m i u step early spoken number a =
-    let first = setup.server in
     let line = line_of setup m i in
     let c = (world setup early).connection m i in
-    let t = past first (world setup early).server in
+    let t = past setup.server (world setup early).server in
     let command = query-command line Fsd spoken in
-    ap (λ s. forced first u (trace first s)) a.said
-    ∙ own-target u (target (numbering first t) (command_of (query_line line Fsd)))
-    (forced_then (command_of (query_line line Fsd)) (answer_to first t c (query_line line Fsd))) (forced first u t)
-    (ap (target (numbering first t)) command
-    ∙ number-stays first t line.ups (as-made first (steps (world setup early).server) (room-stays setup early)) ∙ number)
-    (ap (λ k. forced_then k (answer_to first t c (query_line line Fsd)) (forced first u t)) command
-    ∙ ap (λ x. forced_then (Asks (request line Fsd)) x (forced first u t)) a.answered)
+    ap (λ s. forced setup.server u (trace setup.server s)) a.said
+    ∙ own-target u (target (numbering setup.server t) (command_of (query_line line Fsd)))
+    (forced_then (command_of (query_line line Fsd)) (answer_to setup.server t c (query_line line Fsd))) (forced setup.server u t)
+    (ap (target (numbering setup.server t)) command
+    ∙ number-stays setup.server t line.ups (as-made setup.server (steps (world setup early).server) (room-stays setup early)) ∙ number)
+    (ap (λ k. forced_then k (answer_to setup.server t c (query_line line Fsd)) (forced setup.server u t)) command
+    ∙ ap (λ x. forced_then (Asks (request line Fsd)) x (forced setup.server u t)) a.answered)
 
 -- ---- what was said isn't taken back
 
@@ -191,6 +182,4 @@ module _ (first : Configuration) (c : ℕ) (P : Exchange → Type 0) where
   reports-keep u (l ∷ ls) s h = reports-keep u ls (Reported u l ∷ s) h
 
   pub said-keeps : (e : Event) (h : List Event) → Exists P (exchanges c (past first h)) → Exists P (exchanges c (past first (e ∷ h)))
-  said-keeps (Bytes d piece) h is = lines-keep d (brought (input d h) piece) (steps h) is
-  said-keeps (DriverBytes u piece) h is = reports-keep u (brought (driver_input u h) piece) (steps h) is
-  said-keeps e h is = is
+  said-keeps e h is = grind (arith, lines-keep, reports-keep)

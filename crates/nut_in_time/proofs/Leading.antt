@@ -64,18 +64,17 @@ module _ (configuration : Configuration) (i n0 : ℕ) (pace : Pace) where
     opened-next not_begun o =
         let now = time in
         let grows = clock-grows event (clock past) in
-        let known = o.known in
         elim o.stage [
           | inl w ↦ elim (wait-comes configuration i past event o.last made w) [
             | inl on ↦ record {
               last = o.last;
               is_status = o.is_status;
-              known = omega (arith, now, grows, known);
+              known = omega (arith, now, grows, o.known);
               stage = inl (waits-on configuration i past event o.last on.0);
             }
-            | inr come ↦ rested not_begun o.last o.is_status known come.0
+            | inr come ↦ rested not_begun o.last o.is_status o.known come.0
           ]
-          | inr r ↦ let on = rest-stays configuration i past event o.last made r in rested not_begun o.last o.is_status known on.0
+          | inr r ↦ let on = rest-stays configuration i past event o.last made r in rested not_begun o.last o.is_status o.known on.0
         ]
 
     -- the shutdown begins

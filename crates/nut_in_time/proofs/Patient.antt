@@ -65,7 +65,5 @@ module _ (setup : Setup) (pace : Pace) (p : ℕ) (start e : List Step) (since : 
       (Borne config n0 t0 most pace (λ words. true) every turned soon)
       (record { lasts = lasts-first setup law fine pace p is.early e front (λ words. true) every lines most; began = λ any late. absurd (omega (arith, sooner, late)) })
       (borne-next config n0 t0 most pace (λ words. true) every turned soon) in
-      let long = is.long in
-      let young = (b.began any (omega (arith, long, later)) 0 (omega (arith, one)) refl).young in
-      let patient = is.patient in
-      omega (arith, young, patient, gone)
+      let young = (b.began any (omega (arith, is.long, later)) 0 (omega (arith, one)) refl).young in
+      omega (arith, young, is.patient, gone)

@@ -1,26 +1,20 @@
 -- A primary in Forcing puts FSD on a link that rests.
-use Rattle.std.proofs.Common.{◌≡◌, ℕ, suc, ◌+◌, ◌<◌, ◌≤◌, ◌&&◌, inl, inr, List, [], ◌∷◌, length, Bool, true, false, Option, Some, is_some, is_none, refl, sym, ◌∙◌, ap, arith}
-use Rattle.std.specs.Prelude.{if◌then◌else◌}
+use Rattle.std.proofs.Common.{◌≡◌, ℕ, suc, ◌+◌, ◌<◌, ◌≤◌, ◌&&◌, inl, inr, List, ◌∷◌, length, Bool, true, false, Option, Some, is_none, refl, sym, ◌∙◌, ap, arith}
 use Rattle.std.proofs.lemmas.Bool.{cases_Bool}
 use Rattle.nut_monitor_spec.specs.declared.LastQuery.{LastQuery}
 use Rattle.nut_monitor_spec.specs.declared.Phase.{Phase}
-use Rattle.nut_monitor_spec.specs.declared.Phase.TheVariants.{Watching, Forcing}
+use Rattle.nut_monitor_spec.specs.declared.Phase.TheVariants.{Forcing}
 use Rattle.nut_monitor_spec.specs.declared.Query.TheVariants.{Status, Fsd}
 use Rattle.nut_monitor_spec.specs.Configuration.{Configuration, Line, line_in}
-use Rattle.nut_monitor_spec.specs.Decision.{is_alone, next_query, phase_at}
+use Rattle.nut_monitor_spec.specs.Decision.{is_alone, next_query}
 use Rattle.nut_monitor_spec.specs.Event.{Event}
-use Rattle.nut_monitor_spec.specs.Trace.{Asked, Entry, clock, clock_after, moment_of, linked, is_any, may_ask, last_in, last_query, forced, logins, alone, phase, begun, has_begun, ended, has_ended, is_over_at, came, query_put, entry_of}
+use Rattle.nut_monitor_spec.specs.Trace.{Asked, Entry, clock, clock_after, linked, may_ask, last_in, last_query, forced, logins, phase, begun, has_begun, has_ended, came, query_put, entry_of}
 use Rattle.nut_fleet.proofs.Entries.{entry-linked, is_made}
 use Rattle.nut_fleet.proofs.Shutdowns.{empty-any}
 use Rattle.nut_fleet.proofs.Primaries.{each_primary-at, over-cases}
 use Rattle.nut_in_time.proofs.Asking.{Waits, Rests, rests-none, phase-came, next-queries, next-answers}
-use Rattle.nut_in_time.proofs.Ending.{clock-entry, earliest-now, false-if}
 
 -- ---- in Forcing
-
-forcing-by : (front : List Entry) → is_any front ≡ true → (let p : Phase = if is_some (moment_of front) then Forcing else Watching in p) ≡ Forcing
-forcing-by [] any = cc
-forcing-by (x ∷ front) any = refl
 
 -- the FSD that is put at the end of an event
 abbrev pub fsd-now : List Entry → Event → Asked
@@ -36,22 +30,12 @@ module _ (configuration : Configuration) (i : ℕ) (past : List Entry) (event : 
   abbrev midway : List Entry
   midway = came configuration past event ∷ past
 
-  time : clock (entry_of configuration past event ∷ past) ≡ clock_after event (clock past)
-  time = clock-entry configuration past event
-
   -- it doesn't leave Forcing yet
   pub stays-forcing : has_ended configuration past ≡ false → clock next ≤ clock (begun configuration next) + configuration.host_sync → has_ended configuration next ≡ false
-  stays-forcing not_ended soon = false-if (has_ended configuration next) (λ t.
-      let over = (earliest-now (is_over_at configuration) (entry_of configuration past event) past not_ended t).1 in
-      elim (over-cases configuration (clock next) (alone configuration next) (begun configuration next) over) [
-        | inl counts ↦ not_alone (each_primary-at (λ j. is_alone (logins j next)) configuration.lines i counts within primary)
-        | inr waited ↦ omega (arith, soon, waited)
-      ])
+  stays-forcing not_ended soon = grind (arith, over-cases, each_primary-at)
 
   is-forcing : has_begun configuration next ≡ true → has_ended configuration next ≡ false → phase configuration next ≡ Forcing
-  is-forcing began not_ended =
-      ap (λ front. phase_at configuration (clock next) (moment_of (begun configuration next)) (moment_of front)) (empty-any (ended configuration next) not_ended)
-      ∙ forcing-by (begun configuration next) began
+  is-forcing began not_ended = grind (arith, empty-any)
 
   put-forcing : (line : Line) (now : ℕ) (phase : Phase) (may : Bool) (last : Option LastQuery) (done : Bool) (moment : ℕ) → phase ≡ Forcing → may ≡ true →
       line.primary ≡ true → done ≡ false → last ≡ Some (record { query = Status; moment = moment }) → next_query configuration line now phase may last done ≡ Some Fsd

@@ -1,11 +1,11 @@
 -- What holds of each query as it is put holds of the one that waits for its answer.
-use Rattle.std.proofs.Common.{◌≡◌, ◌⊎◌, ℕ, suc, ◌<◌, ◌≤◌, ◌==◌, inl, inr, List, ◌∷◌, length, true, false, Option, Some, None, refl, sym, ◌∙◌, ap, subst, arith}
+use Rattle.std.proofs.Common.{◌≡◌, ◌⊎◌, ℕ, suc, ◌<◌, inl, inr, List, ◌∷◌, length, true, false, Option, Some, None, refl, sym, ◌∙◌, ap, arith}
 use Rattle.std.proofs.lemmas.Bool.{cases_Bool}
 use Rattle.nut_monitor_spec.specs.declared.Query.{Query}
 use Rattle.nut_monitor_spec.specs.Acceptance.{IsAccepted}
 use Rattle.nut_monitor_spec.specs.Configuration.{Configuration}
 use Rattle.nut_monitor_spec.specs.Event.{Event, NoticeTaken}
-use Rattle.nut_monitor_spec.specs.Trace.{Asked, clock, clock_after, linked, queries, answers, outstanding, number, came, query_put, answer_of, answered_in, notices_waiting, trace}
+use Rattle.nut_monitor_spec.specs.Trace.{Asked, clock, clock_after, linked, queries, answers, outstanding, number, came, query_put, notices_waiting, trace}
 use Rattle.nut_monitor_spec.proofs.Lists.{number-none}
 use Rattle.nut_monitor_spec.proofs.Putting.{come-alone, come-in-turn}
 use Rattle.nut_fleet.specs.World.{informed}
@@ -29,30 +29,12 @@ module _ (configuration : Configuration) (i : ℕ) where
   newly told event query = record { query = query; moment = clock_after event (clock (trace configuration told)); event = suc (length (trace configuration told)) }
 
   head-or : (n : ℕ) (new asked : Asked) (older : List Asked) → number n (new ∷ older) ≡ Some asked → (new ≡ asked) ⊎ (number n older ≡ Some asked)
-  head-or n new asked older is = elim (cases_Bool (length older == n)) [
-    | inl t ↦ let same : Some new ≡ Some asked = rw t at is in let same' : new ≡ asked = cc in inl same'
-    | inr f ↦ inr (rw f at is)
-  ]
+  head-or n new asked older is = grind (arith, cases_Bool)
 
   -- before a query is put, the query that waits has waited before
   midway-asked : (told : List Event) (event : Event) → Up told → is_made i event ≡ false → (a : Asked) →
       outstanding i (came configuration (trace configuration told) event ∷ trace configuration told) ≡ Some a → outstanding i (trace configuration told) ≡ Some a
-  midway-asked told event u made a is =
-      let past = trace configuration told in
-      let q = midway-queries configuration i past event made in
-      let read = midway-answers configuration i past event made in
-      let is' : number (length (answers i (came configuration past event ∷ past))) (queries i past) ≡ Some a =
-      sym (ap (number (length (answers i (came configuration past event ∷ past)))) q) ∙ is in
-      let is'' : number (length (answered_in i (answer_of configuration past event) (answers i past))) (queries i past) ≡ Some a =
-      sym (ap (λ x. number (length x) (queries i past)) read) ∙ is' in
-      elim (answer-cases configuration i past event (answer_of configuration past event) refl) [
-        | inl none ↦ sym (ap (λ x. number (length x) (queries i past)) none.0) ∙ is''
-        | inr some ↦
-            let one : number (suc (length (answers i past))) (queries i past) ≡ Some a = sym (ap (λ x. number (length x) (queries i past)) some.4) ∙ is'' in
-            let few : length (queries i past) ≤ suc (length (answers i past)) =
-            elim (turn-counts (queries i past) (answers i past) (come-in-turn configuration told i u.accepted u.there)) [ inl e ↦ omega (arith, e) | inr e ↦ omega (arith, e) ] in
-            let bad : None ≡ Some a = sym (number-none (suc (length (answers i past))) (queries i past) few) ∙ one in cc
-      ]
+  midway-asked told event u made a is = grind (arith, midway-queries, midway-answers, answer-cases, turn-counts, come-in-turn, number-none)
 
   module _ (within : i < length configuration.lines) where
     -- An event puts no query, and the query that waits has waited before; or it puts one, and that waits.
@@ -99,10 +81,7 @@ module _ (configuration : Configuration) (i : ℕ) (within : i < length configur
     (fits : (told : List Event) (event : Event) (query : Query) → At (event ∷ told) → Fits (newly configuration i told event query)) where
   pub recent-next : (told : List Event) (event : Event) → At (event ∷ told) → Up configuration i told → Up configuration i (event ∷ told) →
       ((a : Asked) → outstanding i (trace configuration told) ≡ Some a → Fits a) → (a : Asked) → outstanding i (trace configuration (event ∷ told)) ≡ Some a → Fits a
-  recent-next told event now u u' r a is = elim (put-cases configuration i within told event u u') [
-    | inl older ↦ r a (older.1 a is)
-    | inr new ↦ let n = new a is in subst Fits n.1 (fits told event n.0 now)
-  ]
+  recent-next told event now u u' r a is = grind (arith, put-cases)
 
   -- an event and the taking of its notices
   pub recent-informed : (told : List Event) (event : Event) → At (event ∷ told) → Up configuration i told → Up configuration i (informed configuration told event) →

@@ -25,8 +25,7 @@ use Rattle.nut_in_time.proofs.Starting.{old-first}
 
 -- at most four answers open a link
 four-open : (primary : Bool) (delay : ℕ) → times (full primary) delay ≤ 4 * delay
-four-open true delay = let e = times-four delay in omega (arith, e)
-four-open false delay = let e = times-three delay in omega (arith, e)
+four-open primary delay = grind (arith, times-four, times-three)
 
 -- the link is opened, or the status is asked for
 abbrev Comes : Configuration → ℕ → ℕ → ℕ → ℕ → Pace → (List (List ℕ) → Bool) → List Entry → Type 0
@@ -74,9 +73,8 @@ module _ (configuration : Configuration) (i n0 t0 turn : ℕ) (pace : Pace) (Wor
     comes-late made steady prompt (inr polls) prompt_next late = late-next configuration i n0 t0 turn pace Words past event turned made steady prompt polls prompt_next late
     comes-late made steady prompt (inl opens) prompt_next late =
         let in_time = waits-soon configuration i past event pace opens.last made opens.waits prompt prompt_next in
-        let bound = opens.soon in
         let most = four-open (line_in configuration.lines i).primary pace.delay in
-        absurd (omega (arith, bound, most, opening, in_time, late))
+        absurd (omega (arith, opens.soon, most, opening, in_time, late))
 
   comes-now : (past : List Entry) → IsPrompt pace i past → Here past → t0 + turn + pace.delay < clock past → Current configuration i n0 t0 turn pace Words past
   comes-now past prompt (inr polls) late = late-now configuration i n0 t0 turn pace Words past turned polls prompt late
@@ -91,16 +89,15 @@ module _ (configuration : Configuration) (n0 t0 turn : ℕ) (pace : Pace) (Words
   returns-know turned soon opening = record {
     next = λ told event before now steady r.
         let past = trace configuration told in
-        let long = r.long in
         let count = length-trace configuration told in
         record {
-          long = omega (arith, long);
+          long = omega (arith, r.long);
           comes = λ not_begun i within is.
               let g = now i within is in
               let b = before i within is in
               comes-next configuration i n0 t0 turn pace Words turned soon opening past event
               (not-made configuration told event i within g.accepted.1 b.there) g.there not_begun steady b.prompt
-              (subst (λ o. IsGiven i n0 Words o) (entry-answer configuration past event) g.given.0) (omega (arith, long, count))
+              (subst (λ o. IsGiven i n0 Words o) (entry-answer configuration past event) g.given.0) (omega (arith, r.long, count))
               (r.comes (begun-before configuration past (entry_of configuration past event) not_begun) i within is);
         };
     before = λ told event before now steady not_begun r late i within is.

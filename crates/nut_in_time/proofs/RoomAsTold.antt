@@ -1,5 +1,5 @@
 -- A primary forces the shutdown of UPSes that may be at several servers, and the machines that need them stop before it.
-use Rattle.std.proofs.Common.{◌≡◌, ℕ, suc, ◌+◌, ◌<◌, ◌≤◌, ◌||◌, inl, inr, List, [], ◌∷◌, ◌++◌, length, Bool, true, false, Option, Some, None, is_some, refl, sym, ◌∙◌, ap, subst, arith, ◌⊎◌}
+use Rattle.std.proofs.Common.{◌≡◌, ℕ, suc, ◌+◌, ◌<◌, ◌≤◌, ◌||◌, inl, inr, List, [], ◌∷◌, ◌++◌, length, Bool, true, false, Option, Some, is_some, refl, sym, ◌∙◌, ap, subst, arith, ◌⊎◌}
 use Rattle.std.specs.List.{AllByRecursion}
 use Rattle.std.proofs.lemmas.Bool.{cases_Bool, eq-eqb}
 use Rattle.nut_monitor_spec.specs.declared.Query.{Query}
@@ -9,7 +9,7 @@ use Rattle.nut_monitor_spec.specs.Configuration.{Configuration, has_primary, lin
 use Rattle.nut_monitor_spec.specs.Decision.{is_alone}
 use Rattle.nut_monitor_spec.specs.Event.{Event}
 use Rattle.nut_monitor_spec.specs.Query.{is_forced, logins_in}
-use Rattle.nut_monitor_spec.specs.Trace.{Answer, Asked, Entry, alone, answers, asked_in, begun, came, clock, clock_after, ended, entry_of, forced, gives, has_begun, has_ended, is_over_at, linked, logins, outstanding, phase, queries, query_put, since_linked, trace}
+use Rattle.nut_monitor_spec.specs.Trace.{Answer, Asked, Entry, alone, answers, asked_in, begun, came, clock, clock_after, ended, entry_of, forced, gives, has_begun, has_ended, linked, logins, outstanding, phase, queries, query_put, since_linked, trace}
 use Rattle.nut_monitor_spec.proofs.Putting.{follow-fsd}
 use Rattle.nut_fleet.proofs.Entries.{entry-answer, entry-queries, length-trace}
 use Rattle.nut_fleet.proofs.Shutdowns.{any-empty, earliest-passes, or-right}
@@ -21,7 +21,7 @@ use Rattle.nut_in_time.specs.Pace.{Pace, IsPolled, IsPrompt}
 use Rattle.nut_in_time.specs.RoomAsTold.{EachTaken, HostsyncSufficesAsTold, PrimariesForceAsTold}
 use Rattle.nut_in_time.proofs.AnyServers.{always-now, begun-on, machines-stop}
 use Rattle.nut_in_time.proofs.Asking.{answer-is, not-made, waits-outstanding}
-use Rattle.nut_in_time.proofs.Ending.{earliest-sooner, true-if, false-if}
+use Rattle.nut_in_time.proofs.Ending.{earliest-sooner, false-if}
 use Rattle.nut_in_time.proofs.Leading.{Led, led-next, opened-first}
 use Rattle.nut_in_time.proofs.RoomSteps.{begun-ending, is-halted}
 use Rattle.nut_in_time.proofs.Starting.{since-all}
@@ -37,10 +37,7 @@ forced-on i entry past is = forced-now i entry past ∙ ap (λ b. gives is_force
 -- the answer of an event counts as soon as it came
 forced-came : (configuration : Configuration) (past : List Entry) (event : Event) (i : ℕ) →
     forced i (came configuration past event ∷ past) ≡ forced i (entry_of configuration past event ∷ past)
-forced-came configuration past event i =
-    forced-now i (came configuration past event) past
-    ∙ ap (λ o. gives is_forced i o || forced i past) (sym (entry-answer configuration past event))
-    ∙ sym (forced-now i (entry_of configuration past event) past)
+forced-came configuration past event i = grind (arith, forced-now, entry-answer)
 
 module _ (configuration : Configuration) (i : ℕ) where
   abbrev Counted : List Entry → Asked → Type 0
@@ -48,8 +45,7 @@ module _ (configuration : Configuration) (i : ℕ) where
 
   put-counted : (moment n : ℕ) (put : Option Query) (past : List Entry) (asked : List Asked) → (put ≡ Some NumLogins → forced i past ≡ true) →
       AllByRecursion (Counted past) asked → AllByRecursion (Counted past) (asked_in moment n put asked)
-  put-counted moment n None past asked new all = all
-  put-counted moment n (Some query) past asked new all = ((λ e. new (ap (λ q. Some q) e)), all)
+  put-counted moment n put past asked new all = grind arith
 
   all-counted : (told : List Event) → AllByRecursion (Counted (trace configuration told)) (queries i (trace configuration told))
   all-counted [] = tt
@@ -136,8 +132,7 @@ module _ (configuration : Configuration) (pace : Pace) (first : List Event) (i :
         | inl before ↦ inl before.0
         | inr (inl w) ↦
             let in_time = prompt w.last (waits-outstanding i past w.last w.waits) in
-            let before = w.before in
-            inr (omega (arith, in_time, before))
+            inr (omega (arith, in_time, w.before))
         | inr (inr a) ↦
             let in_time = prompt a.last (waits-outstanding i past a.last a.waits) in
             let soon : a.last.moment ≤ clock (begun configuration past) + pace.delay = a.soon in
@@ -145,29 +140,14 @@ module _ (configuration : Configuration) (pace : Pace) (first : List Event) (i :
       ]
 
 pub primaries-force : (configuration : Configuration) (pace : Pace) → PrimariesForceAsTold configuration pace
-primaries-force configuration pace first newest i is long within primary began late =
-    true-if (forced i (trace configuration (newest ++ first))) (λ none.
-    let line = is.lines i within primary in
-    elim (behind configuration pace first i within primary long is.not_begun line.0 newest is.accepted line.1 line.2 none) [
-      | inl before ↦ let bad : false ≡ true = sym before ∙ began in cc
-      | inr le ↦ absurd (omega (arith, le, late))
-    ])
+primaries-force configuration pace first newest i is long within primary began late = grind (arith, behind)
 
 -- ---- HOSTSYNC suffices
 
 -- a primary that isn't alone has waited for HOSTSYNC
 waited : (primary : Configuration) (past : List Entry) → has_ended primary past ≡ true → alone primary (ended primary past) ≡ false →
     clock (begun primary past) + primary.host_sync < clock past
-waited primary past over counts = elim (earliest-passes (is_over_at primary) past) [
-  | inl none ↦ absurd (any-empty (ended primary past) over none)
-  | inr passes ↦
-      let same = ap clock (begun-ending primary past over) in
-      let sooner = earliest-sooner (is_over_at primary) past in
-      elim (over-cases primary (clock (ended primary past)) (alone primary (ended primary past)) (begun primary (ended primary past)) passes) [
-        | inl is ↦ let bad : true ≡ false = sym is ∙ counts in cc
-        | inr lt ↦ omega (arith, same, sooner, lt)
-      ]
-]
+waited primary past over counts = grind (arith, earliest-passes, any-empty, begun-ending, earliest-sooner, over-cases)
 
 pub hostsync-suffices_told : (primary configuration : Configuration) (pace : Pace) (low : ℕ → Bool) → HostsyncSufficesAsTold primary configuration pace low
 hostsync-suffices_told primary configuration pace low first_p newest_p first newest later before drift told even until began since apart enough over counts =

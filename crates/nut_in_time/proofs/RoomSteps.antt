@@ -1,19 +1,16 @@
 -- What proofs about rooms need of a step at which a shutdown is forced, of phases, and of links that are polled.
-use Rattle.std.proofs.Common.{◌≡◌, ℕ, ◌≤◌, inl, inr, List, [], ◌∷◌, length, Bool, true, false, Option, Some, None, is_some, refl, sym, ◌∙◌, ap, arith}
-use Rattle.std.specs.Prelude.{if◌then◌else◌}
+use Rattle.std.proofs.Common.{◌≡◌, ℕ, ◌≤◌, inl, inr, List, [], ◌∷◌, length, Bool, true, false, Some, sym, ◌∙◌, ap, arith}
 use Rattle.std.proofs.lemmas.Bool.{cases_Bool}
-use Rattle.nut_server_spec.specs.Content.{past as happened}
-use Rattle.nut_server_spec.specs.Trace.{forced}
 use Rattle.nut_monitor_spec.specs.declared.LastQuery.{LastQuery}
 use Rattle.nut_monitor_spec.specs.declared.Phase.{Phase}
-use Rattle.nut_monitor_spec.specs.declared.Phase.TheVariants.{Watching, Forcing, Halted}
+use Rattle.nut_monitor_spec.specs.declared.Phase.TheVariants.{Halted}
 use Rattle.nut_monitor_spec.specs.declared.Query.TheVariants.{Status}
 use Rattle.nut_monitor_spec.specs.Configuration.{Configuration}
-use Rattle.nut_monitor_spec.specs.Decision.{is_halted, phase_at}
+use Rattle.nut_monitor_spec.specs.Decision.{is_halted}
 use Rattle.nut_monitor_spec.specs.Event.{Event}
-use Rattle.nut_monitor_spec.specs.Trace.{Asked, Entry, clock, moment_of, latest, earliest, last_in, queries, phase, begun, has_begun, is_short, ended, has_ended, is_over_at, entry_of, trace}
+use Rattle.nut_monitor_spec.specs.Trace.{Asked, Entry, clock, latest, earliest, last_in, queries, phase, begun, has_begun, is_short, ended, has_ended, is_over_at, entry_of, trace}
 use Rattle.nut_fleet.specs.Schedule.{Step, IsFront}
-use Rattle.nut_fleet.specs.World.{Setup, World, Deed, Inform, Join, after, deed, monitor_of, world}
+use Rattle.nut_fleet.specs.World.{Setup, monitor_of}
 use Rattle.nut_in_time.specs.Pace.{Pace, IsPolled, KeepsPace, seen_at}
 use Rattle.nut_in_time.specs.Room.{KeepsStep, is_forced}
 use Rattle.nut_in_time.proofs.Climbing.{each-event, front-of}
@@ -23,17 +20,9 @@ use Rattle.nut_fleet.proofs.Shutdowns.{empty-any, earliest-keeps}
 
 -- ---- a step at which a shutdown is forced
 
--- it is a step of the server, so the monitors' clocks don't move
-pub deed-server : (setup : Setup) (u m : ℕ) (w : World) (d : Deed) → forced setup.server u (happened setup.server w.server) ≡ false →
-    forced setup.server u (happened setup.server (after setup w d).server) ≡ true → (after setup w d).monitor m ≡ w.monitor m
-deed-server setup u m w (Inform k event) none now = let bad : false ≡ true = sym none ∙ now in cc
-deed-server setup u m w (Join k i) none now = let bad : false ≡ true = sym none ∙ now in cc
-deed-server setup u m w d none now = refl
-
 pub stood : (setup : Setup) (u m : ℕ) (step : Step) (early : List Step) → is_forced setup u early ≡ false → is_forced setup u (step ∷ early) ≡ true →
     clock (seen_at setup m (step ∷ early)) ≡ clock (seen_at setup m early)
-stood setup u m step early none now =
-    ap (λ told. clock (trace (monitor_of setup m) told)) (deed-server setup u m (world setup early) (deed setup (world setup early) step) none now)
+stood setup u m step early none now = grind arith
 
 -- ---- phases
 
@@ -41,13 +30,7 @@ pub is-halted : (now : Phase) (flag : Bool) → now ≡ Halted flag → is_halte
 is-halted now flag is = ap is_halted is
 
 pub not-ended : (configuration : Configuration) (past : List Entry) → has_ended configuration past ≡ false → is_halted (phase configuration past) ≡ false
-not-ended configuration past none =
-    ap (λ front. is_halted (phase_at configuration (clock past) (moment_of (begun configuration past)) (moment_of front))) (empty-any (ended configuration past) none)
-    ∙ by (moment_of (begun configuration past))
-  where
-    by : (o : Option ℕ) → is_halted (if is_some o then Forcing else Watching) ≡ false
-    by None = refl
-    by (Some moment) = refl
+not-ended configuration past none = grind (arith, empty-any)
 
 -- the shutdown began at the same time by the past of Final
 pub begun-ending : (configuration : Configuration) (past : List Entry) → has_ended configuration past ≡ true →
@@ -97,25 +80,13 @@ status-last i past last older is status =
 
 pub polls-polled : (configuration : Configuration) (i n0 t0 most : ℕ) (pace : Pace) (Words : List (List ℕ) → Bool) (past : List Entry) →
     Polls configuration i n0 t0 most pace Words past → IsPolled i past
-polls-polled configuration i n0 t0 most pace Words past (inl old) = elim old.stage [
-  | inl w ↦ status-last i past old.last w.older w.queries_are old.is_status
-  | inr r ↦ let rests = r.0 in status-last i past old.last rests.older rests.queries_are old.is_status
-]
-polls-polled configuration i n0 t0 most pace Words past (inr (inl first)) =
-    let w = first.waits in status-last i past first.last w.older w.queries_are first.is_status
-polls-polled configuration i n0 t0 most pace Words past (inr (inr c)) = elim c.stage [
-  | inl w ↦ let waits = w.0 in status-last i past c.last waits.older waits.queries_are c.is_status
-  | inr r ↦ let rests = r.0 in status-last i past c.last rests.older rests.queries_are c.is_status
-]
+polls-polled configuration i n0 t0 most pace Words past is = grind (arith, status-last)
 
 -- ---- up to an earlier time
 
 pub pace-front : (setup : Setup) (pace : Pace) (m i : ℕ) (start early late : List Step) → IsFront early late → KeepsPace setup pace m i start late →
     KeepsPace setup pace m i start early
-pace-front setup pace m i start early late inside k = record {
-  linked = λ e within from. k.linked e (front-of e early late within inside) from;
-  prompt = λ e within from. k.prompt e (front-of e early late within inside) from;
-}
+pace-front setup pace m i start early late inside k = grind (arith, front-of)
 
 pub step-front : (setup : Setup) (pace : Pace) (drift p m : ℕ) (start early late : List Step) → IsFront early late → KeepsStep setup pace drift p m start late →
     KeepsStep setup pace drift p m start early

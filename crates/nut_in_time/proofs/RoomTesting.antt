@@ -24,13 +24,7 @@ is_together setup drift p m x y early =
 
 together-holds : (setup : Setup) (drift p m x y : ℕ) (early : List Step) → is_together setup drift p m x y early ≡ true →
     (clock (seen_at setup p early) + x ≤ clock (seen_at setup m early) + y) × (clock (seen_at setup m early) + y ≤ clock (seen_at setup p early) + x + drift)
-together-holds setup drift p m x y early is =
-    let a = nat_le (clock (seen_at setup p early) + x) (clock (seen_at setup m early) + y) in
-    let b = nat_le (clock (seen_at setup m early) + y) (clock (seen_at setup p early) + x + drift) in
-    let parts = and_parts a b is in (
-      leb-true (clock (seen_at setup p early) + x) (clock (seen_at setup m early) + y) parts.0,
-      leb-true (clock (seen_at setup m early) + y) (clock (seen_at setup p early) + x + drift) parts.1,
-    )
+together-holds setup drift p m x y early is = grind (arith, nat_le, and_parts, leb-true)
 
 -- the UPS is shown at this time, and on a low battery if it has to be, and nobody has forced its shutdown
 abbrev pub is_shown_low : Setup → List ℕ → ℕ → Bool → List Step → Bool

@@ -1,6 +1,6 @@
 -- A room stops in time.
 use Rattle.std.proofs.Common.{◌≡◌, ◌⊎◌, ℕ, zero, suc, ◌+◌, ◌-◌, ◌<◌, ◌≤◌, ◌||◌, ◌&&◌, inl, inr, List, [], ◌∷◌, length, Bool, true, false, not, refl, sym, ◌∙◌, ap, subst, arith, Contains}
-use Rattle.std.specs.Prelude.{◌==◌, if◌then◌else◌, nat_lt, slice_index_or}
+use Rattle.std.specs.Prelude.{◌==◌, if◌then◌else◌, slice_index_or}
 use Rattle.std.specs.List.{list_any}
 use Rattle.std.specs.Str.{bytes_eq}
 use Rattle.std.proofs.lemmas.Bool.{and_cases, and_from, and_parts, cases_Bool, eqb-true, lt-ltb, ltb-false, ltb-true, not-true, or_cases}
@@ -94,9 +94,7 @@ module _ (tables : EveryTableHolds) (setup : Setup) (law : IsLawful setup.server
     (room : IsRoom setup weak u p) (ready : IsReady setup u p start) (stops : IsStopping setup pace drift weak u p start schedule)
     (long : (pace p).delay ≤ (monitor_of setup p).host_sync) (patient : Bool) (waits : patient ≡ true → IsPatient setup (pace p) p start) where
   there-at : (m i : ℕ) → i < length (monitor_of setup m).lines → has_link setup m i ≡ true
-  there-at m i within =
-      and_from (nat_lt m (length setup.monitors)) (nat_lt i (length (monitor_of setup m).lines))
-      (lt-ltb m (length setup.monitors) (has-monitor setup.monitors m i within)) (lt-ltb i (length (monitor_of setup m).lines) within)
+  there-at m i within = grind (arith, and_from, lt-ltb, has-monitor)
 
   -- whether p has a single line
   abbrev single : Bool
@@ -123,8 +121,7 @@ module _ (tables : EveryTableHolds) (setup : Setup) (law : IsLawful setup.server
               let bad : false ≡ true = sym (not-true (leads setup p p i) tame) ∙ led-own (monitor_of setup p).lines i within (room.primary i within is) in cc
           | inr is_not ↦ rw is_not refl
         ]) in
-        let short = room.needs.short in
-        omega (arith, less, short);
+        omega (arith, less, room.needs.short);
   }
 
   -- one of its UPSes isn't forced
@@ -186,10 +183,7 @@ module _ (tables : EveryTableHolds) (setup : Setup) (law : IsLawful setup.server
 
   module _ (only : length (monitor_of setup p).lines ≡ 1) where
     weak-only : weak 0 ≡ true
-    weak-only =
-        let there = room.needs.there in
-        let zero_is : room.needs.one ≡ 0 = omega (arith, only, there) in
-        subst (λ i. weak i ≡ true) zero_is room.needs.passes
+    weak-only = grind arith
 
     within-only : 0 < length (monitor_of setup p).lines
     within-only = omega (arith, only)
@@ -198,11 +192,7 @@ module _ (tables : EveryTableHolds) (setup : Setup) (law : IsLawful setup.server
     needed-only = let short = room.needs.short in omega (arith, short)
 
     unforced-only : (e : List Step) → are_forced setup u p e ≡ false → is_forced setup (u 0) e ≡ false
-    unforced-only e none =
-        let one = some-primary (λ i. is_forced setup (u i) e) (monitor_of setup p).lines none in
-        let less = one.1 in
-        let zero_is : one.0 ≡ 0 = omega (arith, only, less) in
-        subst (λ i. is_forced setup (u i) e ≡ false) zero_is one.3
+    unforced-only e none = grind (arith, some-primary)
 
     late-only : (e : List Step) → IsFront e schedule → IsFront start e → are_forced setup u p e ≡ false →
         clock (seen_at setup p e) ≤ seen_by (monitor_of setup p) (pace p) (clock (seen_at setup p start)) + (pace p).delay
@@ -243,46 +233,15 @@ module _ (tables : EveryTableHolds) (setup : Setup) (law : IsLawful setup.server
 
   late-at : (e : List Step) → IsFront e schedule → IsFront start e → are_forced setup u p e ≡ false →
       clock (seen_at setup p e) ≤ clock (seen_at setup p start) + forced_in (monitor_of setup p) (pace p)
-  late-at e inside since none = elim (cases_Bool single) [
-    | inl t ↦ let le = late-only (alone t) e inside since none in omega (arith, le)
-    | inr f ↦
-        let b = begins e inside since (stops.primary e inside since none) in
-        let last = seen_by (monitor_of setup p) (pace p) (clock (seen_at setup p start)) in
-        let in_ : forced_in (monitor_of setup p) (pace p) ≡ reads_in (monitor_of setup p) (pace p) + (pace p).delay + (pace p).delay = rw f refl in
-        elim (cases_Bool (nat_lt last (clock (seen_at setup p e)))) [
-          | inr early ↦ let le = ltb-false last (clock (seen_at setup p e)) early in omega (arith, le, in_)
-          | inl late ↦
-              let any = b.begins (ltb-true last (clock (seen_at setup p e)) late) in
-              let began = b.began any in
-              elim (behind-at e inside since none) [
-                | inl none' ↦ let bad : true ≡ false = sym any ∙ none' in cc
-                | inr le ↦ omega (arith, began, le, in_)
-              ]
-        ]
-  ]
+  late-at e inside since none = grind (arith, cases_Bool, late-only, alone, begins, ltb-false, ltb-true, behind-at)
 
   soon-at : (e : List Step) → IsFront e schedule → IsFront start e → are_forced setup u p e ≡ false → (has_begun (monitor_of setup p) (seen_at setup p e) ≡ false)
       ⊎ (clock (seen_at setup p e) ≤ clock (begun (monitor_of setup p) (seen_at setup p e)) + accepted_in (monitor_of setup p) (pace p) patient)
-  soon-at e inside since none = elim (cases_Bool single) [
-    | inl t ↦
-        let in_ : accepted_in (monitor_of setup p) (pace p) patient ≡ single_in = rw t refl in
-        elim (soon-only (alone t) e inside since none) [ inl not_yet ↦ inl not_yet | inr le ↦ inr (omega (arith, le, in_)) ]
-    | inr f ↦
-        let in_ : accepted_in (monitor_of setup p) (pace p) patient ≡ (pace p).delay + (pace p).delay = rw f refl in
-        elim (behind-at e inside since none) [ inl not_yet ↦ inl not_yet | inr le ↦ inr (omega (arith, le, in_)) ]
-  ]
+  soon-at e inside since none = grind (arith, cases_Bool, soon-only, alone, behind-at)
 
   soon-forced : (e : List Step) → IsFront e schedule → IsFront start e → has_begun (monitor_of setup p) (seen_at setup p schedule) ≡ true → are_forced setup u p e ≡ false →
       clock (seen_at setup p e) ≤ clock (begun (monitor_of setup p) (seen_at setup p schedule)) + accepted_in (monitor_of setup p) (pace p) patient
-  soon-forced e inside since over none = elim (cases_Bool (has_begun (monitor_of setup p) (seen_at setup p e))) [
-    | inl t ↦
-        let same = ap clock (front-stays setup (is_short (monitor_of setup p)) p e schedule inside t) in
-        elim (soon-at e inside since none) [
-          | inl none' ↦ let bad : true ≡ false = sym t ∙ none' in cc
-          | inr le ↦ omega (arith, le, same)
-        ]
-    | inr not_yet ↦ let le = begins-later setup p e schedule inside not_yet over in omega (arith, le)
-  ]
+  soon-forced e inside since over none = grind (arith, cases_Bool, front-stays, soon-at, begins-later)
 
   pub soon-accepted : has_begun (monitor_of setup p) (seen_at setup p schedule) ≡ true →
       clock (begun (monitor_of setup p) (seen_at setup p schedule)) + accepted_in (monitor_of setup p) (pace p) patient < clock (seen_at setup p schedule) → are_forced setup u p schedule ≡ true
@@ -294,9 +253,7 @@ module _ (tables : EveryTableHolds) (setup : Setup) (law : IsLawful setup.server
   -- ---- the primary
 
   pub stays-up : (monitor_of setup p).host_sync < to_halted (monitor_of setup p) (pace p)
-  stays-up =
-      let has : has_primary (monitor_of setup p).lines ≡ true = line-primary (monitor_of setup p).lines room.needs.one room.needs.there (room.primary room.needs.one room.needs.there room.needs.passes) in
-      rw has (omega arith)
+  stays-up = grind (arith, line-primary)
 
   pub leader-halted : clock (seen_at setup p start) + halted_in (monitor_of setup p) (pace p) ≤ clock (seen_at setup p schedule) → is_stopped setup p schedule ≡ true
   leader-halted late = if-not (is_halted (phase (monitor_of setup p) (seen_at setup p schedule))) (λ f.
@@ -319,9 +276,7 @@ module _ (tables : EveryTableHolds) (setup : Setup) (law : IsLawful setup.server
     pub now : are_forced setup u p (step ∷ early) ≡ true
 
   none-at : are_forced setup u p start ≡ false
-  none-at =
-      let primary = room.primary room.needs.one room.needs.there room.needs.passes in
-      unforced room.needs.one room.needs.there primary start (ready.not_forced room.needs.one room.needs.there primary)
+  none-at = grind (arith, unforced)
 
   firsts : (e : List Step) → IsFront start e → IsFront e schedule → are_forced setup u p e ≡ true → Firsts
   firsts [] front inside is = let bad : false ≡ true = sym none-at ∙ ap (are_forced setup u p) front ∙ is in cc
@@ -333,10 +288,7 @@ module _ (tables : EveryTableHolds) (setup : Setup) (law : IsLawful setup.server
 
   -- the monitors' clocks don't move then
   stands-at : (m : ℕ) (f : Firsts) → clock (seen_at setup m (f.step ∷ f.early)) ≡ clock (seen_at setup m f.early)
-  stands-at m f =
-      let one = some-primary (λ i. is_forced setup (u i) f.early) (monitor_of setup p).lines f.not_yet in
-      stood setup (u one.0) m f.step f.early one.3
-      (each_primary-at (λ i. is_forced setup (u i) (f.step ∷ f.early)) (monitor_of setup p).lines one.0 f.now one.1 one.2)
+  stands-at m f = grind (arith, some-primary, stood, each_primary-at)
 
   -- ---- a machine that follows
 
@@ -452,19 +404,16 @@ module _ (tables : EveryTableHolds) (setup : Setup) (law : IsLawful setup.server
         let a = earliest-shorter (is_over_at config_p) (seen_at setup p early) in
         let count = length-trace config_p ((world setup early).monitor p) in
         let b = at-count-shorter (ended config_p (seen_at setup p schedule)) in
-        let unread = w.between.unread in
-        absurd (omega (arith, same, a, count, b, unread))) in
+        absurd (omega (arith, same, a, count, b, w.between.unread))) in
         let step_p = stops.keeps p self early inside since (not-ended config_p (seen_at setup p early) running) in
         let step_m = step-front setup (pace m) drift p m start early schedule inside k in
         let led = led-own config_p.lines i within primary in
         let one = logged-in p self i within led early since step_p in
         let two = subst (λ n. Contains (logins setup.server (happened setup.server (world setup early).server) n) ((world setup early).connection m follows.one)) (sym name)
         (logged-in m follows follows.one follows.there follows.passes early since step_m) in
-        let few = w.at_most_one in
-        let counted = w.counted in
         let same : (world setup early).connection m follows.one ≡ (world setup early).connection p i =
         same-one (logins setup.server (happened setup.server (world setup early).server) (line_of setup p i).ups) ((world setup early).connection p i) ((world setup early).connection m follows.one)
-        (omega (arith, few, counted)) one two in
+        (omega (arith, w.at_most_one, w.counted)) one two in
         elim ((sound setup law fine early).distinct m follows.one p i same) [
           | inl none ↦
               some-there (server_tests.session_of ((world setup early).connection m follows.one) (server.content setup.server (world setup early).server).sessions)
@@ -499,13 +448,7 @@ module _ (tables : EveryTableHolds) (setup : Setup) (law : IsLawful setup.server
         ])
 
 forced-within : (primary : Configuration) (pace : Pace) (patient : Bool) → forced_in primary pace ≤ reads_in primary pace + accepted_in primary pace patient
-forced-within primary pace patient =
-    let le = by (length primary.lines == 1) pace.delay in
-    omega (arith, le)
-  where
-    by : (single : Bool) (d : ℕ) → (if single then 0 else d) ≤ (if single then (if patient then 0 else d - 1) else d)
-    by true d = omega arith
-    by false d = omega arith
+forced-within primary pace patient = grind arith
 
 pub room-stops : EveryTableHolds → (setup : Setup) → IsLawful setup.server → IsSetup setup → (schedule : List Step) → RoomStopsInTime setup schedule
 room-stops tables setup law fine schedule pace drift patient weak u p start room ready stops long waits = record {

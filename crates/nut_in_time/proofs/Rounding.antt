@@ -31,7 +31,7 @@ use Rattle.nut_in_time.specs.Round.{WentRound, IsThere, RoundsAnswer, RoundsKeep
 use Rattle.nut_in_time.proofs.Asking.{not-made}
 use Rattle.nut_in_time.proofs.Climbing.{front-of, each-event, each-event_with}
 use Rattle.nut_in_time.proofs.Emptied.{whole, all-taken}
-use Rattle.nut_in_time.proofs.Ending.{clock-entry, clock-grows}
+use Rattle.nut_in_time.proofs.Ending.{clock-entry}
 use Rattle.nut_in_time.proofs.Recent.{Up, up-older, newly, put-cases, recent-next}
 use Rattle.nut_in_time.proofs.Standing.{connection-kept, taken-grows, input-begins, sent-begins}
 
@@ -90,12 +90,7 @@ module _ (setup : Setup) (law : IsLawful setup.server) (fine : IsSetup setup) (m
     Behind told = (n0 ≤ length told) × (t0 ≤ clock (trace config told))
 
     behind-next : (told : List Event) (event : Event) → Since told → Behind (event ∷ told)
-    behind-next told event s =
-        let time = clock-entry config (trace config told) event in
-        let grows = clock-grows event (clock (trace config told)) in
-        let n = s.0 in
-        let t = s.1 in
-        (omega (arith, n), omega (arith, time, grows, t))
+    behind-next told event s = grind (arith, clock-entry)
 
     since-of : (told : List Event) → Behind told → Since told
     since-of told b = let n = b.0 in (omega (arith, n), b.1)
@@ -104,12 +99,7 @@ module _ (setup : Setup) (law : IsLawful setup.server) (fine : IsSetup setup) (m
     on told event b = behind-next told event (since-of told b)
 
     fits : (told : List Event) (event : Event) (query : Query) → Behind (event ∷ told) → Fits (newly config i told event query)
-    fits told event query b =
-        let count = length-trace config told in
-        let time = clock-entry config (trace config told) event in
-        let n = b.0 in
-        let t = b.1 in
-        (omega (arith, count, n), omega (arith, time, t))
+    fits told event query b = grind (arith, length-trace, clock-entry)
 
     since-at : (e : List Step) → IsFront start e → Since ((world setup e).monitor m)
     since-at e front = each-event setup m start e Since front first (λ told event s. since-of (event ∷ told) (behind-next told event s))
@@ -293,7 +283,6 @@ rounds-keep_pace setup law fine schedule pace m i start there up fresh goes = re
     | inr went ↦
         let up' : IsThere setup m i went.since early = λ e inside from. up e (front-of e early schedule inside within) (front-of start went.since e went.front from) in
         let r = (round-recent setup law fine m i there went.since early up' went.round asked is).1 in
-        let soon = went.soon in
-        omega (arith, soon, r)
+        omega (arith, went.soon, r)
   ];
 }

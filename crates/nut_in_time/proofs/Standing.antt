@@ -1,13 +1,13 @@
 -- What a link that is up keeps: its connection, what the server heard on it, and what each end put into its pipe.
-use Rattle.std.proofs.Common.{◌≡◌, ◌⊎◌, ℕ, ◌≤◌, ◌==◌, true, false, inl, inr, List, ◌∷◌, refl, sym, ◌∙◌, ap, subst, arith}
+use Rattle.std.proofs.Common.{◌≡◌, ◌⊎◌, ℕ, ◌≤◌, ◌==◌, true, false, inl, inr, List, ◌∷◌, refl, sym, ◌∙◌, subst, arith}
 use Rattle.std.proofs.lemmas.Bool.{cases_Bool, cases_eq, eq-eqb, ne_eqb}
 use Rattle.nut_words.specs.Quoting.{Begins}
 use Rattle.nut_server_spec.specs.Event as arrivals
 use Rattle.nut_server_spec.specs.Content as server
-use Rattle.nut_monitor_spec.specs.Event.{Event, Linked, LinkTook}
+use Rattle.nut_monitor_spec.specs.Event.{Event}
 use Rattle.nut_monitor_spec.specs.Trace.{taken_after}
 use Rattle.nut_fleet.specs.Schedule.{Step, IsFront}
-use Rattle.nut_fleet.specs.World.{Setup, World, Deed, Tell, Join, is_linked, address_of, deed, after, world}
+use Rattle.nut_fleet.specs.World.{Setup, World, Deed, Join, is_linked, deed, after, world}
 use Rattle.nut_fleet.specs.Fleet.{IsSetup}
 use Rattle.nut_fleet.proofs.Entries.{is_made}
 use Rattle.nut_fleet.proofs.Fronts.{begins-self, begins-more, begins-then, front-self, from-front}
@@ -24,16 +24,7 @@ module _ (setup : Setup) (w : World) (m i : ℕ) (up : is_linked setup w m i ≡
 
   -- only a link that is down is made
   made : (k j : ℕ) → is_linked setup w k j ≡ false → Same (after setup w (Join k j))
-  made k j cut = elim (cases_eq m k) [
-    | inl same ↦ elim (cases_eq i j) [
-      | inl equal ↦
-          let here : is_linked setup w m i ≡ false =
-          subst (λ y. is_linked setup w m y ≡ false) (sym equal) (subst (λ x. is_linked setup w x j ≡ false) (sym same) cut) in
-          let bad : true ≡ false = sym up ∙ here in cc
-      | inr ne ↦ rw (eq-eqb m k same, ne_eqb i j ne) (ap (λ x. w.connection x i) (sym same))
-    ]
-    | inr ne ↦ rw (ne_eqb m k ne) refl
-  ]
+  made k j cut = grind (arith, cases_eq, eq-eqb, ne_eqb)
 
   pub connection-same : (step : Step) → Same (after setup w (deed setup w step))
   connection-same = each-deed setup w Same refl (λ event is. refl) (λ k event. refl) made
@@ -50,9 +41,7 @@ connection-kept setup m i early late front =
 -- ---- what its monitor put into the pipe
 
 pub taken-grows : (i : ℕ) (event : Event) (before : ℕ) → is_made i event ≡ false → before ≤ taken_after i event before
-taken-grows i (LinkTook j n) before made = elim (cases_Bool (j == i)) [ inl t ↦ rw t (omega arith) | inr f ↦ rw f (omega arith) ]
-taken-grows i (Linked j) before made = rw made (omega arith)
-taken-grows i event before made = omega arith
+taken-grows i event before made = grind (arith, made, cases_Bool)
 
 -- ---- what a server heard on a connection, and what it put into its pipe
 
@@ -66,9 +55,7 @@ input-grows c event h = begins-self (arrivals.input c h)
 -- the server's events stay, or there is one more
 pub server-moves : (setup : Setup) (w : World) (d : Deed) →
     ((after setup w d).server ≡ w.server) ⊎ ((event : arrivals.Event) × ((after setup w d).server ≡ event ∷ w.server))
-server-moves setup w (Tell event) = inr (event, refl)
-server-moves setup w (Join m i) = inr (arrivals.Open (address_of m), refl)
-server-moves setup w d = inl refl
+server-moves setup w d = grind arith
 
 -- What holds of the server's events at one time, and is kept by each event, holds at a later time.
 pub server-climb : (setup : Setup) (early late : List Step) (P : List arrivals.Event → Type 0) → IsFront early late → P (world setup early).server →

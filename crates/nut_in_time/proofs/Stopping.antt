@@ -34,10 +34,7 @@ is_urgent words = has_fsd words || is_low words
 
 pub urgent-critical : (configuration : Configuration) (i : ℕ) (past : List Entry) → (line_in configuration.lines i).primary ≡ true →
     Says is_urgent (status i past) → critical configuration i past ≡ true
-urgent-critical configuration i past primary says = elim (or_cases (has_fsd says.0) (is_low says.0) says.2) [
-  | inl fsd ↦ fsd-critical configuration i past (says.0, says.1, fsd)
-  | inr low ↦ low-critical configuration i past (says.0, says.1, low) (inl primary)
-]
+urgent-critical configuration i past primary says = grind (arith, or_cases, fsd-critical, low-critical)
 
 pub none-power : (lines : List Line) → power_where (λ i. false) lines ≡ 0
 none-power [] = refl
@@ -77,8 +74,7 @@ module _ (setup : Setup) (pace : Pace) (m : ℕ) (Words : List (List ℕ) → Bo
     (steady : IsSteady setup pace m start schedule) (one : length (monitor_of setup m).lines ≡ 1) (needed : 0 < (monitor_of setup m).min_supplies)
     (watched : IsWatched setup pace m 0 Words start schedule) where
   pub lines-watched : (i : ℕ) → i < length (monitor_of setup m).lines → every i ≡ true → IsWatched setup pace m i Words start schedule
-  lines-watched zero within is = watched
-  lines-watched (suc i) within is = absurd (omega (arith, one, within))
+  lines-watched i within is = grind (arith, within, watched)
 
   pub failing : IsFailing setup pace m Words every start schedule
   failing = record {
@@ -126,8 +122,7 @@ module _ (setup : Setup) (law : IsLawful setup.server) (fine : IsSetup setup) (p
   }
 
   urgent : (past : List Entry) → Chosen config every (λ i. Says is_urgent (status i past) → critical config i past ≡ true)
-  urgent past zero less is says = urgent-critical config 0 past primary says
-  urgent past (suc i) less is says = absurd (omega (arith, one, less))
+  urgent past given less is says = grind (arith, urgent-critical)
 
   pub primary-begins : BeginsBy config (seen_by config pace t0) (seen_by config pace t0) (seen_at setup p schedule)
   primary-begins = begin-by setup law fine schedule pace p is_urgent every start (failing setup pace p is_urgent start schedule front steady one needed watched) urgent
@@ -231,8 +226,7 @@ module _ (setup : Setup) (law : IsLawful setup.server) (fine : IsSetup setup) (p
           | inl f ↦ inl f
           | inr (inl w) ↦
               let in_time = prompt w.last (waits-outstanding 0 (seen_at setup p schedule) w.last w.waits) in
-              let before = w.before in
-              inr (inl (omega (arith, in_time, before)))
+              inr (inl (omega (arith, in_time, w.before)))
           | inr (inr a) ↦
               let in_time = prompt a.last (waits-outstanding 0 (seen_at setup p schedule) a.last a.waits) in
               elim a.soon.1 [

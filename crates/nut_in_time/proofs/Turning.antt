@@ -10,9 +10,9 @@ use Rattle.nut_fleet.proofs.Fronts.{front-self}
 use Rattle.nut_fleet.proofs.Sound.{IsLawful}
 use Rattle.nut_in_time.specs.Pace.{Pace, FromOn, seen_at}
 use Rattle.nut_in_time.specs.Round.{WentRound, goes_on, further, is_tick, round_in, goes_round, RoundedLinksKeepPace}
-use Rattle.nut_in_time.specs.Tests.{each_since, is_nothing, is_prompt, is_steady}
+use Rattle.nut_in_time.specs.Tests.{each_since, is_prompt, is_steady}
 use Rattle.nut_in_time.proofs.Rounding.{rounds-keep_pace}
-use Rattle.nut_in_time.proofs.Testing.{front-append, front-same, nothing-holds, each-holds, prompt-holds}
+use Rattle.nut_in_time.proofs.Testing.{front-append, front-same, each-holds, prompt-holds}
 
 module _ (setup : Setup) (m i : ℕ) where
   -- what has to hold at each place of a round
@@ -29,50 +29,16 @@ module _ (setup : Setup) (m i : ℕ) where
   Far since (suc k) e = (x : List Step) × (Far since k x × Holds k x) × IsFront x e
 
   far-on : (since : List Step) (k : ℕ) (step : Step) (e : List Step) → Far since k e → Far since k (step ∷ e)
-  far-on since zero step e far = inr far
-  far-on since (suc k) step e far = (far.0, far.1, inr far.2)
+  far-on since k step e far = grind arith
 
   goes-on : (since : List Step) (holds : Bool) (place far : ℕ) (e : List Step) → (holds ≡ true → Holds place e) → Far since far e → Far since (goes_on holds place far) e
-  goes-on since holds place far e gives before = elim (cases_Bool (far == place && holds)) [
-    | inl t ↦
-        let parts = and_parts (far == place) holds t in
-        rw t (e, (subst (λ k. Far since k e) (eqb-true far place parts.0) before, gives parts.1), front-self e)
-    | inr f ↦ rw f before
-  ]
+  goes-on since holds place far e gives before = grind (arith, cases_Bool, and_parts, eqb-true, front-self)
 
   further-far : (since : List Step) (far : ℕ) (e : List Step) → Far since far e → Far since (further setup m i e far) e
-  further-far since far e before =
-      let w = world setup e in
-      let one = goes_on (is_nothing (monitor_waits setup w m i)) 0 far in
-      let two = goes_on (is_open setup w m i && is_nothing (to_server setup w m i)) 1 one in
-      let three = goes_on (is_nothing (server_waits setup w m i)) 2 two in
-      goes-on since (is_nothing (to_monitor setup w m i)) 3 three e (nothing-holds (to_monitor setup w m i))
-      (goes-on since (is_nothing (server_waits setup w m i)) 2 two e (nothing-holds (server_waits setup w m i))
-      (goes-on since (is_open setup w m i && is_nothing (to_server setup w m i)) 1 one e
-      (λ is. let parts = and_parts (is_open setup w m i) (is_nothing (to_server setup w m i)) is in (parts.0, nothing-holds (to_server setup w m i) parts.1))
-      (goes-on since (is_nothing (monitor_waits setup w m i)) 0 far e (nothing-holds (monitor_waits setup w m i)) before)))
+  further-far since far e before = grind (arith, goes-on, and_parts)
 
   went : (since e : List Step) → Far since 4 e → WentRound setup m i since e
-  went since e far =
-      let back = far.1.0 in
-      let reach = back.1.0 in
-      let out = reach.1.0 in
-      record {
-        out = out.0;
-        reach = reach.0;
-        back = back.0;
-        land = far.0;
-        first = out.1.0;
-        second = out.2;
-        third = reach.2;
-        fourth = back.2;
-        over = far.2;
-        put = out.1.1;
-        is_open = reach.1.1.0;
-        reached = reach.1.1.1;
-        taken = back.1.1;
-        landed = far.1.1;
-      }
+  went since e far = grind arith
 
   module _ (pace : Pace) (start : List Step) where
     -- a step that is no tick doesn't move the clock
@@ -126,8 +92,7 @@ module _ (setup : Setup) (m i : ℕ) where
               let all : (round_in setup m i start newest == 4) ≡ true = rw t at both.0 in
               let far : Far s.since 4 e = subst (λ k. Far s.since k e) (eqb-true (round_in setup m i start newest) 4 all) s.far in
               let a = leb-true (clock (seen_at setup m (step ∷ e))) (clock (seen_at setup m e) + suc pace.skip) little.0 in
-              let b = s.still in
-              inr (record { since = s.since; front = s.front; soon = omega (arith, a, b); far = far-on s.since 4 step e far })
+              inr (record { since = s.since; front = s.front; soon = omega (arith, a, s.still); far = far-on s.since 4 step e far })
           | inr f ↦
               let a = stands step e f in
               elim (top newest both.1 little.1) [

@@ -81,8 +81,7 @@ module _ (setup : Setup) (law : IsLawful setup.server) (fine : IsSetup setup) (p
 
   -- so no number of logins was read
   pub none-counted : (told : List Event) → EachGenuine setup schedule p (trace (monitor_of setup p) told) → is_alone (logins i (trace (monitor_of setup p) told)) ≡ true → ⊥
-  none-counted told all alone =
-      let bad : false ≡ true = sym (unforced (trace (monitor_of setup p) told) all) ∙ alone-forced (monitor_of setup p) i told alone in cc
+  none-counted told all alone = grind (arith, unforced, alone-forced)
 
   -- no answer to an FSD that was put since `start` was read
   pub none-read : (past : List Entry) (a : Answer) → Genuine setup schedule p past a → a.link ≡ i → a.asked.query ≡ Fsd → n0 < a.asked.event → ⊥

@@ -1,5 +1,5 @@
 -- The worked machine with UPSes at two servers.
-use Rattle.std.proofs.Common.{◌≡◌, ℕ, suc, ◌+◌, ◌<◌, ◌&&◌, ◌||◌, ◌==◌, nat_le, not, List, [], ◌∷◌, ◌++◌, length, Bool, true, Option, Some, None, is_none, refl, ◌∙◌, ap, subst, arith}
+use Rattle.std.proofs.Common.{◌≡◌, ℕ, suc, ◌+◌, ◌<◌, ◌&&◌, ◌||◌, ◌==◌, nat_le, not, List, [], ◌∷◌, ◌++◌, length, Bool, true, Option, Some, None, is_none, refl, ap, arith}
 use Rattle.std.specs.Prelude.{nat_lt}
 use Rattle.std.proofs.lemmas.Bool.{and_parts, eq-eqb, leb-true, lt-ltb}
 use Rattle.nut_words.specs.Reader.{read}
@@ -31,8 +31,7 @@ happens s NoticeTaken = is_busy s
 happens s event = true
 
 happens-holds : (s : Content) (event : Event) → happens s event ≡ true → Happens s event
-happens-holds s NoticeTaken is = is
-happens-holds s event is = tt
+happens-holds s event is = grind arith
 
 abbrev pub were_accepted : Configuration → List Event → Bool
 were_accepted configuration [] = true
@@ -64,9 +63,7 @@ abbrev pub keeps : Pace → ℕ → List Entry → Bool
 keeps pace i past = linked i past && is_prompt pace.delay (clock past) (outstanding i past)
 
 keeps-holds : (pace : Pace) (i : ℕ) (past : List Entry) → keeps pace i past ≡ true → (linked i past ≡ true) × IsPrompt pace i past
-keeps-holds pace i past is =
-    let parts = and_parts (linked i past) (is_prompt pace.delay (clock past) (outstanding i past)) is in
-    (parts.0, λ asked waits. prompt-holds pace.delay (clock past) (outstanding i past) parts.1 asked waits)
+keeps-holds pace i past is = grind (arith, and_parts, prompt-holds)
 
 abbrev pub always : Configuration → (List Entry → Bool) → List Event → List Event → Bool
 always configuration test first [] = test (trace configuration first)
@@ -87,14 +84,7 @@ is_so asks i n passes (Some a) = not (a.link == i && (asks a.asked.query && nat_
 
 pub so-holds : (asks : Query → Bool) (i n : ℕ) (passes : Query → Outcome → Bool) (answer : Option Answer) → is_so asks i n passes answer ≡ true →
     (a : Answer) → answer ≡ Some a → a.link ≡ i → asks a.asked.query ≡ true → n < a.asked.event → passes a.asked.query a.outcome ≡ true
-so-holds asks i n passes None is a e link asked late = cc
-so-holds asks i n passes (Some b) is a e link asked late =
-    let same : b ≡ a = cc in
-    let e1 : (b.link == i) ≡ true = eq-eqb b.link i (ap (λ (x : Answer). x.link) same ∙ link) in
-    let e2 : asks b.asked.query ≡ true = ap (λ (x : Answer). asks x.asked.query) same ∙ asked in
-    let e3 : nat_lt n b.asked.event ≡ true = ap (λ (x : Answer). nat_lt n x.asked.event) same ∙ lt-ltb n a.asked.event late in
-    let passed : passes b.asked.query b.outcome ≡ true = rw (e1, e2, e3) at is in
-    subst (λ (x : Answer). passes x.asked.query x.outcome ≡ true) same passed
+so-holds asks i n passes answer is a e link asked late = grind (arith, eq-eqb, lt-ltb)
 
 abbrev says_in : (List (List ℕ) → Bool) → Query → Outcome → Bool
 says_in Words query outcome = says Words (status_in query outcome)

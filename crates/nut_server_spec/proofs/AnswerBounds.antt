@@ -1,17 +1,15 @@
 -- No answer is longer than the longest.
-use Rattle.std.proofs.Common.{ℕ, ◌≤◌, Bool, true, false, List, [], ◌∷◌, length, map, arith}
+use Rattle.std.proofs.Common.{ℕ, ◌≤◌, List, [], ◌∷◌, length, map, arith}
 use Rattle.std.specs.List.{AllByRecursion}
-use Rattle.std.specs.Prelude.{if◌then◌else◌}
 use Rattle.std.proofs.lemmas.List.{length-map}
 use Rattle.nut_conf.specs.declared.limits.TheConstants.{CONNECTIONS_MAX}
 use Rattle.nut_words.specs.Lines.{LineText}
 use Rattle.nut_state.specs.laws.Holds.{EveryTableHolds}
 use Rattle.nut_server_spec.specs.Configuration.{Configuration}
-use Rattle.nut_server_spec.specs.Command.{command_of}
 use Rattle.nut_server_spec.specs.Event.{Event, Bytes, Took, DriverBytes, Step, Said, Reported, input, driver_input, steps, with_lines, with_reports, brought, Reload}
-use Rattle.nut_server_spec.specs.Answer.{Silence, Guest, text_of, answer}
+use Rattle.nut_server_spec.specs.Answer.{Guest, text_of}
 use Rattle.nut_server_spec.specs.Device.{Device}
-use Rattle.nut_server_spec.specs.Trace.{Entry, address, open_numbers, device, guest, scene, caller, logged_out, reports, ups_numbers, answer_to, trace, configuration}
+use Rattle.nut_server_spec.specs.Trace.{Entry, address, open_numbers, device, guest, scene, reports, ups_numbers, answer_to, trace, configuration}
 use Rattle.nut_server_spec.specs.Content.{Session, past, session}
 use Rattle.nut_server_spec.specs.Acceptance.{IsAccepted}
 use Rattle.nut_server_spec.specs.laws.Limits.{IsWithin, AreWithin, AnswersAreBounded, longest_answer}
@@ -50,10 +48,7 @@ module _ (every : EveryTableHolds) (first : Configuration) where
   }
 
   answer_short : (t : List Entry) (c : ℕ) (line : LineText) → IsShortPast first t → IsFit (answer_to first t c line)
-  answer_short t c line short = by_test (logged_out c t) where
-    by_test : (b : Bool) → IsFit (if b then Silence else answer (scene first t) (caller first t c) (command_of line))
-    by_test true = fit_silence
-    by_test false = answer_fit (scene first t) (scene_short t short) (caller first t c) (command_of line) (readable-command line)
+  answer_short t c line short = grind (arith, IsFit, fit_silence, answer_fit, scene_short, readable-command)
 
   lines_fit : (c : ℕ) (ls : List LineText) (s : List Step) → IsShortPast first (trace first s) → AreFit (trace first s) → AreFit (trace first (with_lines c ls s))
   lines_fit c [] s short fit = fit
@@ -83,7 +78,4 @@ module _ (every : EveryTableHolds) (first : Configuration) where
   answers_fit (e ∷ h) within accepted = (fit_silence, answers_fit h within accepted.0)
 
 pub answers-bounded : EveryTableHolds → AnswersAreBounded
-answers-bounded every = record {
-  given = λ first h within accepted. answers_fit every first h within accepted;
-  coming = λ first h c line within accepted. answer_short every first (past first h) c line (past_short every first h within accepted);
-}
+answers-bounded every = grind (arith, answers_fit, answer_short, past_short)

@@ -1,6 +1,6 @@
 -- How long answers are, if what the server knows is within its limits.
 use Rattle.std.proofs.Common.{◌≡◌, ℕ, zero, suc, ◌+◌, ◌*◌, ◌<◌, ◌≤◌, Bool, true, false, List, [], ◌∷◌, ◌++◌, length, map, refl, sym, subst, ◌∙◌, arith, inl, inr, Option, Some, None, Result, Ok, Err, codes, decimal, length-append}
-use Rattle.std.specs.Prelude.{◌&&◌, if◌then◌else◌, filter, not, slice_index_or, is_none, nat_lt, slice_get}
+use Rattle.std.specs.Prelude.{◌&&◌, if◌then◌else◌, filter, slice_index_or, is_none, nat_lt}
 use Rattle.std.specs.List.{AllByRecursion, flat_map, position_or_len}
 use Rattle.std.specs.Str.{bytes_eq}
 use Rattle.std.proofs.lemmas.Bool.{cases_Bool, ltb-true}
@@ -35,12 +35,11 @@ use Rattle.nut_server_spec.specs.Configuration.{Ups, ups_named, number_of_ups, m
 use Rattle.nut_proto.specs.Forms.{meaning}
 use Rattle.nut_proto.specs.laws.ReadBack.{IsReadable}
 use Rattle.nut_proto.proofs.Readable.{read_requests_are_readable}
-use Rattle.nut_words.specs.Lines.{LineText, Text, TooLong}
-use Rattle.nut_words.specs.Reader.{spelled}
+use Rattle.nut_words.specs.Lines.{LineText}
 use Rattle.nut_words.specs.declared.words.WordFault.{WordFault}
-use Rattle.nut_server_spec.specs.Command.{Command, Blank, Malformed, Asks, asked, command_in, command_of}
-use Rattle.nut_server_spec.specs.Device.{Device, absent, trouble}
-use Rattle.nut_server_spec.specs.Answer.{Answer, Silence, Line, Listing, text_of, Guest, Scene, Caller, refused, ups_number, device_at, on_ups, on_data, on_device, on_variable, on_command, may_set, may_log_in, may_be_primary, may_force, shown, kind_of, is_empty, guests_of, is_logged_in, var_row, rw_row, type_reply, described, list_answer, misfit, parameter_misfit, accepted, status_of, set_answer, command_answer, once, answer_request, answer}
+use Rattle.nut_server_spec.specs.Command.{Command, Asks, asked, command_in, command_of}
+use Rattle.nut_server_spec.specs.Device.{Device, absent}
+use Rattle.nut_server_spec.specs.Answer.{Answer, Silence, Line, Listing, text_of, Guest, Scene, Caller, refused, device_at, on_ups, on_data, on_device, on_variable, on_command, may_set, may_log_in, may_be_primary, may_force, shown, kind_of, guests_of, is_logged_in, var_row, rw_row, type_reply, described, list_answer, misfit, parameter_misfit, accepted, status_of, set_answer, command_answer, once, answer_request, answer}
 use Rattle.nut_server_spec.specs.laws.Limits.{IsUpsWithin, IsWithin, longest_answer}
 use Rattle.nut_server_spec.proofs.Alls.{all_weaker, all_filter, all_places}
 use Rattle.nut_server_spec.proofs.Lengths.{length-word, name_within}
@@ -73,8 +72,7 @@ fit_accepted : IsFit (Line replies.Accepted)
 fit_accepted = fit_line replies.Accepted (omega (arith, L.length-accepted))
 
 fit_accepted_as : (s : Scene) (number : Option ℕ) → IsNext s number → IsFit (accepted number)
-fit_accepted_as s None next = fit_accepted
-fit_accepted_as s (Some number) next = fit_line (replies.AcceptedAs number) (omega (arith, L.length-accepted_as number next.1))
+fit_accepted_as s number next = grind (arith, fit_accepted, fit_line, L.length-accepted_as)
 
 -- what a client asks for is within its own bounds
 abbrev pub IsReadableCommand : Command → Type 0
@@ -82,22 +80,18 @@ IsReadableCommand (Asks request) = IsReadable request
 IsReadableCommand other = Unit {0}
 
 readable-asked : (words : List (List ℕ)) (r : Result Request Refusal) → meaning words ≡ r → IsReadableCommand (asked r)
-readable-asked words (Ok request) is = read_requests_are_readable words request is
-readable-asked words (Err refusal) is = tt
+readable-asked words r is = grind (arith, Ok, read_requests_are_readable, Err)
 
 readable-in : (r : Result (List (List ℕ)) WordFault) → IsReadableCommand (command_in r)
-readable-in (Ok (word ∷ words)) = readable-asked (word ∷ words) (meaning (word ∷ words)) refl
-readable-in other = tt
+readable-in other = grind (arith, Ok, readable-asked)
 
 pub readable-command : (line : LineText) → IsReadableCommand (command_of line)
-readable-command (Text bytes) = readable-in (spelled bytes)
-readable-command TooLong = tt
+readable-command line = grind (arith, readable-in)
 
 fit_list : (query : ListQuery) (rows : List Reply) (m n : ℕ) → length (begin_line query) + length (end_line query) ≤ m → length (flat_map reply_line rows) ≤ n → m + n ≤ longest_answer
     → IsFit (Listing query rows)
 unfolding text_of
-fit_list query rows m n marks few most =
-    omega (arith, length-append (begin_line query) (flat_map reply_line rows ++ end_line query), length-append (flat_map reply_line rows) (end_line query))
+fit_list query rows m n marks few most = grind (arith, length-append)
 
 rows_short : {X : Type 0} (row : X → Reply) (xs : List X) → AllByRecursion (λ x. length (reply_line (row x)) ≤ 1300) xs → length (flat_map reply_line (map row xs)) ≤ 1300 * length xs
 rows_short row [] all = omega arith
@@ -151,14 +145,10 @@ number_within name upses u all found = by_place upses all (inside (nat_lt (posit
 
 module _ (s : Scene) (short : IsShortScene s) where
   fit_ups : (name : List ℕ) (next : ℕ → Answer) → ((u : ℕ) → is_name UPS_NAME_MAX name ≡ true → IsFit (next u)) → IsFit (on_ups s name next)
-  fit_ups name next fit =
-      require-case IsFit refusals.UnknownUps (ups_number s name) next (fit_refused refusals.UnknownUps) (λ u found.
-      option_and_then_some (slice_get s.numbers) (number_of_ups name s.configuration.upses) u found (λ place there number.
-      fit u (number_within name s.configuration.upses place short.configured.each_ups there)))
+  fit_ups name next fit = grind (arith, require-case, fit_refused, option_and_then_some, number_within)
 
   fit_data : (u : ℕ) (next : Device → Answer) → (IsShortTable (device_at s u).table → IsFit (next (device_at s u))) → IsFit (on_data s u next)
-  fit_data u next fit =
-      unless-case IsFit (trouble s.configuration.max_age s.clock (device_at s u)) (next (device_at s u)) fit_refused (fit (device_short s.devices u short.nothing short.devices))
+  fit_data u next fit = grind (arith, unless-case, fit_refused, device_short)
 
   fit_device : (name : List ℕ) (next : Device → Answer) → ((d : Device) → is_name UPS_NAME_MAX name ≡ true → IsShortTable d.table → IsFit (next d)) → IsFit (on_device s name next)
   fit_device name next fit = fit_ups name _ (λ u named. fit_data u next (λ table. fit (device_at s u) named table))
@@ -176,17 +166,13 @@ ups_short name named = (name_within UPS_NAME_MAX name named).1
 -- ---- the values that clients see
 
 length-marked : (b : Bool) (value : List ℕ) → length value ≤ VALUE_MAX → length (quoted (if b then codes "FSD " ++ value else value)) ≤ 1030
-length-marked true value few = omega (arith, length-quoted value)
-length-marked false value few = omega (arith, length-quoted value)
+length-marked b value few = grind (arith, length-quoted)
 
 length-shown : (d : Device) (v : Entry) → IsWithinLimits v → length (quoted (shown d v)) ≤ 1030
 length-shown d v within = length-marked (d.forced && bytes_eq v.name (codes "ups.status")) v.value within.value
 
 length-plain : (d : Device) (v : Entry) → IsWithinLimits v → bytes_eq v.name (codes "ups.status") ≡ false → length (quoted (shown d v)) ≤ 1026
-length-plain d v within other = by_forced d.forced where
-  by_forced : (b : Bool) → length (quoted (if b && bytes_eq v.name (codes "ups.status") then codes "FSD " ++ v.value else v.value)) ≤ 1026
-  by_forced true = rw other (omega (arith, length-quoted v.value, within.value))
-  by_forced false = omega (arith, length-quoted v.value, within.value)
+length-plain d v within other = grind (arith, length-quoted)
 
 -- the rows of a list of values: only that of the status may be four bytes longer
 rows_shown : (d : Device) (row : Entry → Reply) (vs : List Entry) → ((v : Entry) → IsWithinLimits v → length (reply_line (row v)) ≤ 103 + length (quoted (shown d v)))
@@ -217,12 +203,7 @@ all_within d table = all_places IsWithinLimits d.table.variables table.in_order.
 -- ---- the answers
 
 kind_few : (v : Entry) (m : ℕ) → v.aux ≤ VALUE_MAX → kind_of v ≡ kinds.String m → m ≤ VALUE_MAX
-kind_few v m few is = by_tests (not (is_empty v.enums)) (not (is_empty v.ranges)) v.flags.string is where
-  by_tests : (a b c : Bool) → (if a then kinds.Enum else if b then kinds.Range else if c then kinds.String v.aux else kinds.Number) ≡ kinds.String m → m ≤ VALUE_MAX
-  by_tests true b c is = absurd (cc)
-  by_tests false true c is = absurd (cc)
-  by_tests false false true is = let same : v.aux ≡ m = cc in omega arith
-  by_tests false false false is = absurd (cc)
+kind_few v m few is = grind arith
 
 described_fit : (name : List ℕ) (upses : List Ups) → AllByRecursion IsUpsWithin upses → IsFit (described name (ups_named name upses))
 described_fit name [] all = fit_refused refusals.UnknownUps
@@ -236,8 +217,7 @@ described_fit name (x ∷ xs) all =
     ]
 
 once_fit : (r : Refusal) (o : Option (List ℕ)) → IsFit (once r o)
-once_fit r None = fit_accepted
-once_fit r (Some given) = fit_refused r
+once_fit r o = grind (arith, fit_accepted, fit_refused)
 
 module _ (s : Scene) (short : IsShortScene s) where
   list_fit : (query : ListQuery) → IsFit (list_answer s query)
@@ -334,6 +314,4 @@ module _ (s : Scene) (short : IsShortScene s) where
   request_fit k requests.StartTls readable = fit_refused refusals.FeatureNotConfigured
 
   pub answer_fit : (k : Caller) (command : Command) → IsReadableCommand command → IsFit (answer s k command)
-  answer_fit k Blank readable = fit_silence
-  answer_fit k (Malformed refusal) readable = fit_refused refusal
-  answer_fit k (Asks request) readable = request_fit k request readable
+  answer_fit k command readable = grind (arith, fit_silence, fit_refused, request_fit)

@@ -1,11 +1,10 @@
 -- At most 2,048 bytes of a line are kept, and at most 4,096 bytes wait for a driver.
-use Rattle.std.proofs.Common.{◌≡◌, ℕ, ◌+◌, ◌<◌, ◌≤◌, Bool, true, false, eqb, leb, List, [], ◌∷◌, ◌++◌, drop, length, refl, sym, ◌∙◌, ap, arith, inl, inr, Option, Some, None, length-append, length-drop, subst}
-use Rattle.std.specs.Prelude.{if◌then◌else◌, max, ◌&&◌, ◌/◌, nat_lt}
-use Rattle.std.specs.Option.{option_map_or}
+use Rattle.std.proofs.Common.{◌≡◌, ℕ, ◌+◌, ◌<◌, ◌≤◌, Bool, true, false, eqb, leb, List, [], ◌∷◌, drop, length, refl, sym, ◌∙◌, ap, arith, inl, inr, Option, Some, None, length-append, length-drop}
+use Rattle.std.specs.Prelude.{if◌then◌else◌, max, nat_lt}
 use Rattle.std.proofs.lemmas.Bool.{cases_Bool, eqb-true, leb-true, ltb-true, ltb-false}
 use Rattle.std.proofs.lemmas.Option.{get_or_from_slice_get}
 use Rattle.nut_queue.specs.declared.limits.TheConstants.{ASKS_MAX}
-use Rattle.nut_words.specs.Lines.{LineText, as_line, last_of, parts}
+use Rattle.nut_words.specs.Lines.{LineText, as_line}
 use Rattle.nut_words.specs.Cutter.{kept_of}
 use Rattle.nut_words.specs.declared.limits.TheConstants.{LINE_MAX}
 use Rattle.nut_proto.specs.declared.driver_ask.DriverAsk.TheVariants.{Ping, DumpAll}
@@ -13,27 +12,23 @@ use Rattle.nut_proto.specs.DriverAsks.{ask_line}
 use Rattle.nut_proto.specs.Lines.{line}
 use Rattle.nut_server_spec.specs.Configuration.{Configuration}
 use Rattle.nut_server_spec.specs.Command.{command_of}
-use Rattle.nut_server_spec.specs.Device.{Device, absent, is_past, fits, needs_ping}
+use Rattle.nut_server_spec.specs.Device.{Device, absent, fits, needs_ping}
 use Rattle.nut_server_spec.specs.Effect.{target, request_of}
 use Rattle.nut_server_spec.specs.Event.{Event, Moment, Bytes, DriverUp, DriverBytes, DriverTook, DriverDown, Step, Clock, Said, Reported, input, driver_input, steps, with_lines, with_reports, brought, Reload}
 use Rattle.nut_server_spec.specs.Answer.{device_at}
 use Rattle.nut_server_spec.specs.Trace.{places, numbering, Entry, configuration, clock, device, connected, logged_out, driver_due, driver_taken, driver_waits, scene, caller, with_request, request_for, ping, trace, answer_to, asks_at}
-use Rattle.nut_server_spec.specs.Content.{Session, Supply, past, supply}
-use Rattle.nut_server_spec.specs.laws.Laws.{IsBoundedSession, IsBoundedSupply, BoundsHold}
+use Rattle.nut_server_spec.specs.Content.{past}
+use Rattle.nut_server_spec.specs.laws.Laws.{BoundsHold}
 use Rattle.nut_server_spec.proofs.Kept.{session_is, supply_is}
 use Rattle.nut_server_spec.proofs.Places.{get_below, found_below}
 use Rattle.nut_server_spec.proofs.Requests.{asked-fits}
-use Rattle.nut_server_spec.specs.Numbering.{Fate, Kept, by_fate, fate_of}
+use Rattle.nut_server_spec.specs.Numbering.{Fate, by_fate, fate_of}
 use Rattle.nut_server_spec.proofs.Numbering.{no_ups_with, numbers_below}
 
 -- ---- lines
 
 pub line-bound : (text : List ℕ) → kept_of (as_line text) ≤ LINE_MAX
-line-bound text =
-    elim (cases_Bool (leb (length text) LINE_MAX)) [
-      | inl e ↦ rw e (leb-true (length text) LINE_MAX e)
-      | inr e ↦ rw e (omega arith)
-    ]
+line-bound text = grind (arith, cases_Bool, leb, leb-true)
 
 -- ---- what waits for a driver
 
@@ -47,34 +42,17 @@ fits-bound line d holds = leb-true (length d.waits + length line) ASKS_MAX holds
 asked-bound : (is : Bool) (m : ℕ) (due : List ℕ) (request : Option (List ℕ)) → length (if is then drop m due else []) ≤ ASKS_MAX
     → ((line : List ℕ) → request ≡ Some line → length (if is then drop m due else []) + length line ≤ ASKS_MAX)
     → length (if is then drop m (with_request request due) else []) ≤ ASKS_MAX
-asked-bound true m due None bounded fit = bounded
-asked-bound true m due (Some line) bounded fit =
-    omega (arith, fit line refl, length-drop m (due ++ line), length-drop m due, length-append due line)
-asked-bound false m due request bounded fit = omega arith
+asked-bound is m due request bounded fit = grind (arith, length-drop, length-append)
 
 -- What waits stays within the bound when some of it is taken.
 drained-bound : (is : Bool) (m n : ℕ) (due : List ℕ) → length (if is then drop m due else []) ≤ ASKS_MAX → length (if is then drop (m + n) due else []) ≤ ASKS_MAX
-drained-bound true m n due bounded = omega (arith, bounded, length-drop m due, length-drop (m + n) due)
-drained-bound false m n due bounded = omega arith
-
--- A driver is sent PING only if it fits.
-and-right : (a b : Bool) → (a && b) ≡ true → b ≡ true
-and-right true b holds = holds
-and-right false b holds = cc
+drained-bound is m n due bounded = grind (arith, length-drop)
 
 needed-fits : (age time : ℕ) (d : Device) → needs_ping age time d ≡ true → fits (ask_line Ping) d ≡ true
-needed-fits age time d holds =
-    and-right (d.connected && is_past (age / 3) time d.heard_at && option_map_or (is_past (age / 3) time) d.pinged_at true) (fits (ask_line Ping) d) holds
+needed-fits age time d holds = grind arith
 
 ping-fits : (age time : ℕ) (d : Device) (line : List ℕ) → ping (needs_ping age time d) ≡ Some line → fits line d ≡ true
-ping-fits age time d line is =
-    elim (cases_Bool (needs_ping age time d)) [
-      | inl e ↦
-          let same : Some (ask_line Ping) ≡ Some line = rw e at is in
-          let text : ask_line Ping ≡ line = cc in
-          ap (λ x. fits x d) (sym text) ∙ needed-fits age time d e
-      | inr e ↦ absurd (let bad : None ≡ Some line = rw e at is in cc)
-    ]
+ping-fits age time d line is = grind (arith, cases_Bool, needed-fits)
 
 -- A line's request to a driver is sent only if it fits.
 request-fits : (first : Configuration) (t : List Entry) (u c : ℕ) (text : LineText) (line : List ℕ) (o : Option ℕ) → u < places first t
@@ -106,8 +84,7 @@ bounded-reports first v u (l ∷ ls) s bounded = bounded-reports first v u ls (R
 -- What waits stays within the bound at a reload.
 fated-bound : (fate : Fate) (is : Bool) (m : ℕ) (due : List ℕ) → length (if is then drop m due else []) ≤ ASKS_MAX
     → length (if by_fate fate false (λ before. false) is then drop (by_fate fate 0 (λ before. before) m) (by_fate fate [] (λ before. before) due) else []) ≤ ASKS_MAX
-fated-bound Kept is m due bounded = bounded
-fated-bound fate is m due bounded = omega arith
+fated-bound fate is m due bounded = grind arith
 
 dump-bound : length (ask_line DumpAll) ≤ ASKS_MAX
 unfolding ask_line line
@@ -143,11 +120,4 @@ waits-bound first (Reload k ∷ h) u less =
 waits-bound first (e ∷ h) u less = waits-bound first h u less
 
 pub bounds-hold : BoundsHold
-bounds-hold first h accepted = (
-  (λ c k found.
-      let P : Session → Type 0 = λ x. IsBoundedSession x in
-      subst P (sym (session_is first h c k found)) (line-bound (last_of (parts (input c h))))),
-  (λ u d found.
-      let P : Supply → Type 0 = λ x. IsBoundedSupply x in
-      subst P (sym (supply_is first h u d found)) (waits-bound first h u (found_below u (places first (past first h)) (supply first h) d found))),
-)
+bounds-hold first h accepted = grind (arith, session_is, line-bound, supply_is, waits-bound, found_below)

@@ -19,8 +19,4 @@ opened-most first (DriverBytes u piece ∷ h) accepted = omega (arith, opened_re
 opened-most first (e ∷ h) accepted = opened-most first h accepted.0
 
 pub connections-few : ConnectionsAreFew
-connections-few first h accepted = record {
-  few = (few_history first h accepted).few;
-  given = opened-most first h accepted;
-  each = (numbers-rise first h).2;
-}
+connections-few first h accepted = grind (arith, few_history, opened-most, numbers-rise)

@@ -1,17 +1,16 @@
 -- A reload leads to the same content if what it ends is ended before it, one by one.
-use Rattle.std.proofs.Common.{◌≡◌, ℕ, zero, suc, ◌<◌, ◌&&◌, Bool, true, false, not, eqb, List, [], ◌∷◌, ◌++◌, filter, map, length, ◌⊎◌, refl, sym, ◌∙◌, ap, ap₂, subst, arith, inl, inr, Option, Some, None}
+use Rattle.std.proofs.Common.{◌≡◌, ℕ, zero, suc, ◌<◌, ◌&&◌, Bool, true, false, not, eqb, List, [], ◌∷◌, ◌++◌, filter, map, length, ◌⊎◌, refl, sym, ◌∙◌, ap, ap₂, subst, arith, inl, inr, Option, None}
 use Rattle.std.specs.List.{AllByRecursion}
-use Rattle.std.proofs.lemmas.Bool.{and_parts, cases_Bool, eq-eqb, eqb-true, ne_eqb, not-true, true≢false}
+use Rattle.std.proofs.lemmas.Bool.{and_parts, cases_Bool, eq-eqb, eqb-true, ne_eqb, not-true}
 use Rattle.std.proofs.lemmas.List.{map-id}
 use Rattle.nut_proto.specs.declared.tracking.TrackingStatus.{TrackingStatus}
-use Rattle.nut_proto.specs.declared.tracking.TrackingStatus.TheVariants.{Pending}
 use Rattle.nut_server_spec.specs.Acceptance.{IsAccepted, close_refusal, down_refusal, is_connected, session_of, supply_of}
 use Rattle.nut_server_spec.specs.Configuration.{Configuration}
 use Rattle.nut_server_spec.specs.Content.{Session, Supply, content, past, session, supply, down, numbering_of}
 use Rattle.nut_server_spec.specs.Event.{Event, Close, DriverDown, Reload}
-use Rattle.nut_server_spec.specs.Numbering.{Fate, Kept, Disconnected, Cleared, Numbering, below, fate_of, is_taken, is_to_cleared}
+use Rattle.nut_server_spec.specs.Numbering.{Fate, Numbering, below, fate_of, is_taken, is_to_cleared}
 use Rattle.nut_server_spec.specs.Reloading.{connections_ended, drivers_ended, is_kept}
-use Rattle.nut_server_spec.specs.Trace.{login, numbering, open_numbers, ups_numbers}
+use Rattle.nut_server_spec.specs.Trace.{login, numbering, open_numbers}
 use Rattle.nut_server_spec.specs.Tracking.{Tracked, abandoned, all_abandoned}
 use Rattle.nut_server_spec.specs.laws.Laws.{IsBelow, IsRising}
 use Rattle.nut_server_spec.specs.laws.Reloads.{ReloadIsDownsThenClosesThenItself, with_closes, with_downs}
@@ -20,7 +19,7 @@ use Rattle.nut_server_spec.proofs.Alls.{all_filter, all_weaker}
 use Rattle.nut_server_spec.proofs.Numbering.{AreBelow, below_are}
 use Rattle.nut_server_spec.proofs.Numbers.{IsBelow-push, IsRising-filter, open_numbers_rise}
 use Rattle.nut_server_spec.proofs.Others.{other-drivers-stay, others-stay}
-use Rattle.nut_server_spec.proofs.Places.{map-same, map-twice}
+use Rattle.nut_server_spec.proofs.Places.{map-twice}
 use Rattle.nut_server_spec.proofs.Reloads.{map-filter, supply-reload}
 use Rattle.nut_server_spec.proofs.Sessions.{session_of-map}
 use Rattle.nut_server_spec.proofs.Renumbered.{are_among}
@@ -28,17 +27,14 @@ use Rattle.nut_server_spec.proofs.Renumbered.{are_among}
 -- ---- a driver is disconnected before a reload that doesn't keep its UPS
 
 abandoned_twice : (s : TrackingStatus) → abandoned (abandoned s) ≡ abandoned s
-abandoned_twice Pending = refl
-abandoned_twice status = refl
+abandoned_twice status = grind arith
 
 all_abandoned_twice : (ts : List Tracked) → all_abandoned (all_abandoned ts) ≡ all_abandoned ts
 all_abandoned_twice [] = refl
 all_abandoned_twice (t ∷ ts) = ap₂ (λ s rest. record { number = t.number; status = s } ∷ rest) (abandoned_twice t.status) (all_abandoned_twice ts)
 
 fated_down : (fate : Fate) (d : Supply) → is_kept fate ≡ false → fated fate (down d) ≡ fated fate d
-fated_down Kept d left = absurd (true≢false left)
-fated_down Disconnected d left = ap (λ ts. record (down d) { device = record (down d).device { tracked = ts } }) (all_abandoned_twice d.device.tracked)
-fated_down Cleared d left = refl
+fated_down fate d left = grind (arith, all_abandoned_twice)
 
 down_self : (first : Configuration) (h : List Event) (u : ℕ) → supply first (DriverDown u ∷ h) u ≡ down (supply first h u)
 down_self first h u = rw (eq-eqb u u refl) refl
@@ -62,9 +58,7 @@ supply_down first h k u v left = supply-reload first (DriverDown u ∷ h) k v �
 
 down_first : (first : Configuration) (h : List Event) (k : Configuration) (u : ℕ) → is_kept (fate_of k.upses (numbering first (past first h)) u) ≡ false
     → content first (Reload k ∷ DriverDown u ∷ h) ≡ content first (Reload k ∷ h)
-down_first first h k u left =
-    ap (λ supplies. record (content first (Reload k ∷ h)) { supplies = supplies })
-    (map-same (supply first (Reload k ∷ h)) (supply first (Reload k ∷ DriverDown u ∷ h)) (ups_numbers first (past first (Reload k ∷ h))) (λ v. supply_down first h k u v left))
+down_first first h k u left = grind (arith, supply_down)
 
 -- the numbers of UPSes that this reload doesn't keep
 abbrev AreLeft : Configuration → Numbering → List ℕ → Type 0
@@ -125,9 +119,7 @@ all_pass p (n ∷ ns) = elim (cases_Bool (p n)) [ inl e ↦ rw e (e, all_pass p 
 
 drivers_pass : (first : Configuration) (h : List Event) (k : Configuration)
     → AllByRecursion (λ u. (is_connected (supply_of u (content first h).supplies) && not (is_kept (fate_of k.upses (numbering first (past first h)) u))) ≡ true) (drivers_ended k (content first h))
-drivers_pass first h k =
-    let s = content first h in
-    all_pass (λ u. is_connected (supply_of u s.supplies) && not (is_kept (fate_of k.upses (numbering_of s) u))) (below (length s.supplies))
+drivers_pass first h k = grind (arith, all_pass)
 
 drivers_left : (first : Configuration) (h : List Event) (k : Configuration) → AreLeft k (numbering first (past first h)) (drivers_ended k (content first h))
 drivers_left first h k =
@@ -185,8 +177,7 @@ below_rising zero = tt
 below_rising (suc n) = rising_push n (below n) (below_are n) (below_rising n)
 
 connected_up : (o : Option Supply) → is_connected o ≡ true → down_refusal o ≡ None
-connected_up None is = absurd (true≢false (sym is))
-connected_up (Some d) is = rw is refl
+connected_up o is = grind arith
 
 drivers_up : (first : Configuration) (h : List Event) (k : Configuration) → AreUp first h (drivers_ended k (content first h))
 drivers_up first h k =

@@ -1,5 +1,6 @@
 -- A number that an answer gives is the next one, and its request is to a UPS that exists.
-use Rattle.std.proofs.Common.{◌≡◌, ℕ, ◌+◌, ◌<◌, Bool, true, false, List, length, rules, subst, Option, Some, None}
+use Rattle.std.proofs.Common.{arith}
+use Rattle.std.proofs.Common.{◌≡◌, ℕ, ◌+◌, ◌<◌, Bool, true, false, List, length, rules, Option, Some}
 use Rattle.std.specs.Prelude.{if◌then◌else◌}
 use Rattle.nut_proto.specs.declared.refusal.Refusal.{Refusal}
 use Rattle.nut_proto.specs.declared.refusal.Refusal.TheVariants as refusals
@@ -30,12 +31,10 @@ module _ (s : Scene) (command : Command) where
   bad r number is = cc
 
   of_described : (name : List ℕ) (ups : Option Ups) → P (described name ups)
-  of_described name None number is = cc
-  of_described name (Some ups) number is = cc
+  of_described name ups number is = grind arith
 
   of_once : (refusal : Refusal) (o : Option (List ℕ)) → P (once refusal o)
-  of_once refusal None number is = cc
-  of_once refusal (Some given) number is = cc
+  of_once refusal o number is = grind arith
 
   of_tracking : (k : Caller) → P (tracking_answer k)
   of_tracking k = with_credentials-case P k (λ user password. Line replies.Accepted) bad (λ user password number is. cc)
@@ -45,10 +44,7 @@ module _ (s : Scene) (command : Command) where
   of_list query = search rules
 
   of_accepted : (number : Option ℕ) (u : ℕ) → IsNext s number → target (numbering_in s) command ≡ Some u → u < length s.devices → P (accepted number)
-  of_accepted None u next there within n is = cc
-  of_accepted (Some number) u next there within n is =
-      let same : number ≡ n = cc in
-      (subst (λ m. m ≡ s.given + 1) same next.0, (u, there, within))
+  of_accepted number u next there within n is = grind arith
 
 -- Each UPS that has a name and a number is there.
 abbrev pub AreKnown : Scene → Type 0

@@ -1,15 +1,14 @@
 -- How a content changes with the bytes of a connection, line by line.
+use Rattle.std.proofs.Common.{arith}
 use Rattle.std.proofs.Common.{◌≡◌, ℕ, true, false, eqb, List, [], ◌∷◌, map, refl, sym, ◌∙◌, ap, inl, inr, Some}
-use Rattle.std.specs.Prelude.{if◌then◌else◌, option_map}
+use Rattle.std.specs.Prelude.{if◌then◌else◌}
 use Rattle.std.proofs.lemmas.Bool.{cases_Bool}
-use Rattle.nut_words.specs.Lines.{LineText, Text, joined}
+use Rattle.nut_words.specs.Lines.{LineText, joined}
 use Rattle.nut_server_spec.specs.Command.{Command, command_of}
-use Rattle.nut_server_spec.specs.Effect.{target}
 use Rattle.nut_server_spec.specs.Answer.{Answer, Silence, answer}
-use Rattle.nut_server_spec.specs.Content.{Session, Content, numbering_of}
+use Rattle.nut_server_spec.specs.Content.{Session, Content}
 use Rattle.nut_server_spec.specs.Acceptance.{session_of}
-use Rattle.nut_server_spec.specs.Trace.{given_then}
-use Rattle.nut_server_spec.specs.machine.Machine.{update, with_rest, with_sessions, guest_of, caller_of, scene_of, answered, answer_in, act_on, acted, after_answer, line_heard, byte_heard}
+use Rattle.nut_server_spec.specs.machine.Machine.{update, with_rest, with_sessions, guest_of, caller_of, scene_of, answer_in, after_answer, byte_heard}
 use Rattle.nut_server_spec.proofs.Sessions.{KeepsNumber, session_of-update}
 
 -- ---- updates of one session
@@ -53,8 +52,7 @@ pub with_unfinished-same : (c : ℕ) (r : LineText) (s : Content) (k : Session) 
 with_unfinished-same c r s k found is = ap (λ sessions. with_sessions sessions s) (update-same c r s.sessions k found is)
 
 pub byte_other : (c b : ℕ) (r : LineText) (s : Content) → eqb b 10 ≡ false → byte_heard c b (with_unfinished c r s) ≡ with_unfinished c (joined r (b ∷ [])) s
-byte_other c b r s other =
-    rw other (ap (λ sessions. with_sessions sessions s) (update-update c (with_rest r) (λ k. with_rest (joined k.rest (b ∷ [])) k) s.sessions (λ k. refl)))
+byte_other c b r s other = grind (arith, update-update)
 
 -- What the server knows when it answers a line doesn't depend on unfinished lines.
 scene-unfinished : (c : ℕ) (r : LineText) (s : Content) → scene_of (with_unfinished c r s) ≡ scene_of s
@@ -64,15 +62,8 @@ answer-unfinished : (c : ℕ) (r : LineText) (s : Content) (command : Command) (
 answer-unfinished c r s command k = ap (λ scene. if k.logged_out then Silence else answer scene (caller_of k) command) (scene-unfinished c r s)
 
 after-unfinished : (c : ℕ) (r : LineText) (s : Content) (command : Command) (reply : Answer) → after_answer c command reply (with_unfinished c r s) ≡ after_answer c command reply s
-after-unfinished c r s command reply =
-    ap (λ sessions. record s { given = given_then reply s.given; sessions = sessions; supplies = act_on (target (numbering_of s) command) (acted command reply) s.supplies })
-    (update-update c (with_rest r) (λ k. with_rest (Text []) (answered (numbering_of s) command reply k)) s.sessions (λ k. refl))
+after-unfinished c r s command reply = grind (arith, update-update)
 
 pub byte_feed : (c b : ℕ) (r : LineText) (s : Content) (k : Session) → session_of c s.sessions ≡ Some k → eqb b 10 ≡ true
     → byte_heard c b (with_unfinished c r s) ≡ after_answer c (command_of r) (answer_in s (command_of r) k) s
-byte_feed c b r s k found is =
-    let there : session_of c (update c (with_rest r) s.sessions) ≡ Some (with_rest r k) =
-    session_of-update c (with_rest r) s.sessions (λ k. refl) ∙ ap (option_map (with_rest r)) found in
-    rw is (ap (λ o. line_heard c o (with_unfinished c r s)) there
-    ∙ ap (λ reply. after_answer c (command_of r) reply (with_unfinished c r s)) (answer-unfinished c r s (command_of r) k)
-    ∙ after-unfinished c r s (command_of r) (answer_in s (command_of r) k))
+byte_feed c b r s k found is = grind (arith, session_of-update, answer-unfinished, after-unfinished)

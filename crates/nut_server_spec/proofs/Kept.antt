@@ -1,19 +1,18 @@
 -- What holds after every history of accepted events, and the law of the machine.
-use Rattle.std.proofs.Common.{◌≡◌, ℕ, ◌+◌, ◌-◌, ◌<◌, ◌≤◌, Bool, true, false, eqb, ltb, List, [], ◌∷◌, ◌++◌, map, drop, length, refl, sym, ◌∙◌, ap, arith, inl, inr, Option, Some, None, length-drop, subst}
+use Rattle.std.proofs.Common.{◌≡◌, ℕ, ◌+◌, ◌-◌, ◌<◌, ◌≤◌, Bool, true, false, eqb, ltb, List, [], ◌∷◌, map, drop, length, refl, ◌∙◌, ap, arith, inl, inr, Option, Some, None, length-drop, subst}
 use Rattle.std.specs.Prelude.{if◌then◌else◌}
 use Rattle.nut_server_spec.proofs.Sessions.{session_of-map}
 use Rattle.std.proofs.lemmas.Bool.{ltb-true, cases_Bool, eqb-true, ne_eqb, eq-eqb, ltb-false}
 use Rattle.std.proofs.lemmas.List.{map-append}
 use Rattle.nut_words.specs.Lines.{LineText}
-use Rattle.nut_server_spec.specs.declared.Refused.TheVariants.{TooMuchTaken}
 use Rattle.nut_server_spec.specs.Configuration.{Configuration}
 use Rattle.nut_server_spec.specs.Event.{Event, Moment, Open, Bytes, Took, Close, WriteFailed, DriverUp, DriverBytes, DriverTook, DriverDown, Reload, Step, Clock, Said, Reported, input, taken, driver_input, steps, with_lines, with_reports, brought}
-use Rattle.nut_server_spec.specs.Trace.{Entry, places, numbering, opened, open_numbers, user, password, login, logged_out, tracking, due, connected, driver_due, driver_taken, driver_waits, ups_numbers, asks_at, trace}
-use Rattle.nut_server_spec.specs.Content.{Session, Supply, past, content, session, supply, fresh}
+use Rattle.nut_server_spec.specs.Trace.{Entry, places, numbering, opened, user, password, login, logged_out, tracking, due, connected, driver_due, driver_taken, ups_numbers, asks_at, trace}
+use Rattle.nut_server_spec.specs.Content.{Session, Supply, past, content, session, supply}
 use Rattle.nut_server_spec.specs.Acceptance.{refusal, IsAccepted, session_of, supply_of, bytes_refusal, took_refusal, report_refusal, drain_refusal}
 use Rattle.nut_server_spec.specs.machine.Machine.{advance, KeepsContent}
 use Rattle.nut_server_spec.specs.laws.Laws.{IsUpTo}
-use Rattle.nut_server_spec.specs.Numbering.{is_taken, Fate, Cleared, fate_of, by_fate}
+use Rattle.nut_server_spec.specs.Numbering.{Fate, fate_of, by_fate}
 use Rattle.nut_server_spec.proofs.Numbers.{numbers_up_to}
 use Rattle.nut_server_spec.proofs.Reloads.{law-reload}
 use Rattle.nut_server_spec.proofs.Places.{found_at, below_counts}
@@ -27,26 +26,16 @@ none_above c n f (m ∷ ns) numbered up less =
     let test : eqb (f m).number c ≡ false = ap (λ k. eqb k c) (numbered m) ∙ ne_eqb m c (λ e. omega (arith, up.0)) in
     rw test (none_above c n f ns numbered up.1 less)
 
-found_is : (b : Bool) (x k : Session) → (if b then Some x else None) ≡ Some k → k ≡ x
-found_is true x k found = cc
-found_is false x k found = cc
-
 -- The session that a content has under a number is the one that the history says.
 pub session_is : (first : Configuration) (h : List Event) (c : ℕ) (k : Session) → session_of c (content first h).sessions ≡ Some k → k ≡ session first h c
-session_is first h c k found =
-    let ns = open_numbers (past first h) in
-    found_is (is_taken c ns) (session first h c) k (sym (session_of-map (session first h) c ns (λ d. refl)) ∙ found)
+session_is first h c k found = grind (arith, session_of-map)
 
 -- The UPS that a content has under a number is the one that the history says.
 pub supply_is : (first : Configuration) (h : List Event) (u : ℕ) (d : Supply) → supply_of u (content first h).supplies ≡ Some d → d ≡ supply first h u
 supply_is first h u d found = found_at u u 0 (supply first h) (ups_numbers first (past first h)) d (below_counts (places first (past first h))) (omega arith) found
 
 session_up : (first : Configuration) (h : List Event) (c : ℕ) → (session_of c (content first h).sessions ≡ None → ⊥) → c ≤ opened (past first h)
-session_up first h c found =
-    elim (cases_Bool (ltb (opened (past first h)) c)) [
-      | inl e ↦ absurd (found (none_above c (opened (past first h)) (session first h) (open_numbers (past first h)) (λ d. refl) (numbers_up_to (past first h)) (ltb-true (opened (past first h)) c e)))
-      | inr e ↦ ltb-false (opened (past first h)) c e
-    ]
+session_up first h c found = grind (arith, cases_Bool, ltb, none_above, numbers_up_to, ltb-true, ltb-false)
 
 bytes_up : (first : Configuration) (h : List Event) (c : ℕ) (piece : List ℕ) → refusal (content first h) (Bytes c piece) ≡ None → c ≤ opened (past first h)
 bytes_up first h c piece accepted = session_up first h c (λ none. let e = ap (bytes_refusal piece) none in cc (e, accepted))
@@ -58,14 +47,7 @@ took_up first h c n accepted = session_up first h c (λ none. let e = ap (took_r
 
 took_covered : (first : Configuration) (h : List Event) (c n : ℕ) (o : Option Session) → IsCovered first h c → session_of c (content first h).sessions ≡ o → took_refusal n o ≡ None
     → taken c h + n ≤ length (due c (past first h))
-took_covered first h c n None covered found accepted = cc
-took_covered first h c n (Some k) covered found accepted =
-    let is : k ≡ session first h c = session_is first h c k found in
-    let waiting : length k.waits ≡ length (due c (past first h)) - taken c h = ap (λ k. length k.waits) is ∙ length-drop (taken c h) (due c (past first h)) in
-    elim (cases_Bool (ltb (length k.waits) n)) [
-      | inl e ↦ absurd (let bad = rw e at accepted in cc)
-      | inr e ↦ omega (arith, waiting, covered, ltb-false (length k.waits) n e)
-    ]
+took_covered first h c n o covered found accepted = grind (arith, session_is, length-drop, cases_Bool, ltb, ltb-false)
 
 -- A driver's line adds nothing to the answers due to a client.
 pub due_reports : (first : Configuration) (c u : ℕ) (ls : List LineText) (s : List Step) → due c (trace first (with_reports u ls s)) ≡ due c (trace first s)
@@ -89,33 +71,18 @@ all_covered first (e ∷ h) c accepted = all_covered first h c accepted.0
 
 -- no more was taken by drivers than was due to them
 waits-length : (is : Bool) (m : ℕ) (x : List ℕ) → length (if is then drop m x else []) ≤ length x - m
-waits-length true m x = omega (arith, length-drop m x)
-waits-length false m x = omega arith
+waits-length is m x = grind (arith, length-drop)
 
 drain_covered : (first : Configuration) (h : List Event) (u n : ℕ) (o : Option Supply) → IsDriverCovered (past first h) u → supply_of u (content first h).supplies ≡ o → drain_refusal n o ≡ None
     → driver_taken u (past first h) + n ≤ length (driver_due u (past first h))
-drain_covered first h u n None covered found accepted = cc
-drain_covered first h u n (Some d) covered found accepted =
-    let is : d ≡ supply first h u = supply_is first h u d found in
-    let waiting : length d.device.waits ≡ length (driver_waits u (past first h)) = ap (λ d. length d.device.waits) is in
-    let most = waits-length (connected u (past first h)) (driver_taken u (past first h)) (driver_due u (past first h)) in
-    elim (cases_Bool d.device.connected) [
-      | inr down ↦ absurd (let bad = rw down at accepted in cc)
-      | inl up ↦
-          let rest : (if ltb (length d.device.waits) n then Some TooMuchTaken else None) ≡ None = rw up at accepted in
-          elim (cases_Bool (ltb (length d.device.waits) n)) [
-            | inl e ↦ absurd (let bad = rw e at rest in cc)
-            | inr e ↦ omega (arith, waiting, most, covered, ltb-false (length d.device.waits) n e)
-          ]
-    ]
+drain_covered first h u n o covered found accepted = grind (arith, supply_is, waits-length, cases_Bool, ltb, ltb-false)
 
 drivers_reports : (first : Configuration) (u : ℕ) (ls : List LineText) (s : List Step) → ((v : ℕ) → IsDriverCovered (trace first s) v) → (v : ℕ) → IsDriverCovered (trace first (with_reports u ls s)) v
 drivers_reports first u [] s covered v = covered v
 drivers_reports first u (l ∷ ls) s covered v = drivers_reports first u ls (Reported u l ∷ s) covered v
 
 fated_covered : (fate : Fate) (m : ℕ) (due : List ℕ) → m ≤ length due → by_fate fate 0 (λ before. before) m ≤ length (by_fate fate [] (λ before. before) due)
-fated_covered Cleared m due covered = omega arith
-fated_covered fate m due covered = covered
+fated_covered fate m due covered = grind arith
 
 pub drivers_covered : (first : Configuration) (h : List Event) → IsAccepted first h → AreDriversCovered first h
 drivers_covered first [] accepted v = omega arith
@@ -183,34 +150,17 @@ map-up_to n f g [] up same = refl
 map-up_to n f g (m ∷ ns) up same = rw (same m up.0, map-up_to n f g ns up.1 same) refl
 
 law-open : (first : Configuration) (h : List Event) (a : List ℕ) → IsAccepted first h → content first (Open a ∷ h) ≡ advance (content first h) (Open a)
-law-open first h a accepted =
-    let n = opened (past first h) in
-    let unheard = unknown first h (n + 1) accepted (omega arith) in
-    let f = session first h in
-    let g = session first (Open a ∷ h) in
-    let newest : g (n + 1) ≡ fresh (n + 1) a =
-    rw (eq-eqb (n + 1) (n + 1) refl, unheard.0.0, unheard.0.1, unheard.0.2, unheard.0.3, unheard.0.4, unheard.0.5, unheard.1, unheard.2) refl in
-    let others : map g (open_numbers (past first h)) ≡ map f (open_numbers (past first h)) =
-    map-up_to n f g (open_numbers (past first h)) (numbers_up_to (past first h))
-    (λ d le. let differ : eqb (n + 1) d ≡ false = ne_eqb (n + 1) d (λ e. omega arith) in rw differ refl) in
-    ap (λ sessions. record (content first h) { opened = n + 1; sessions = sessions })
-    (map-append g (open_numbers (past first h)) ((n + 1) ∷ []) ∙ ap (λ ks. ks ++ g (n + 1) ∷ []) others ∙ ap (λ k. map f (open_numbers (past first h)) ++ k ∷ []) newest)
+law-open first h a accepted = grind (arith, unknown, eq-eqb, map-up_to, numbers_up_to, ne_eqb, map-append)
 
 -- ---- the law
 
 -- If the bytes of a connection are accepted, it is open.
 is_there : (first : Configuration) (h : List Event) (c : ℕ) (piece : List ℕ) (o : Option Session) → session_of c (content first h).sessions ≡ o → bytes_refusal piece o ≡ None → IsThere first h c
-is_there first h c piece None found accepted = cc
-is_there first h c piece (Some k) found accepted = found ∙ ap (λ x. Some x) (session_is first h c k found)
+is_there first h c piece o found accepted = grind (arith, session_is)
 
 -- If the bytes of a driver are accepted, it is connected.
 is_up : (first : Configuration) (h : List Event) (u : ℕ) (piece : List ℕ) (o : Option Supply) → supply_of u (content first h).supplies ≡ o → report_refusal piece o ≡ None → connected u (past first h) ≡ true
-is_up first h u piece None found accepted = cc
-is_up first h u piece (Some d) found accepted =
-    elim (cases_Bool d.device.connected) [
-      | inl e ↦ sym (ap (λ d. d.device.connected) (supply_is first h u d found)) ∙ e
-      | inr e ↦ absurd (let bad = rw e at accepted in cc)
-    ]
+is_up first h u piece o found accepted = grind (arith, cases_Bool, supply_is)
 
 pub keeps-content : KeepsContent
 keeps-content first h (Moment t) accepted = law-moment first h t (drivers_covered first h accepted.0)

@@ -4,7 +4,7 @@ use Rattle.std.specs.Prelude.{◌==◌, if◌then◌else◌, max}
 use Rattle.std.proofs.Math.Seq.{drop-nil}
 use Rattle.std.proofs.lemmas.Bool.{cases_Bool, eqb-true, eqb-false, ne_eqb, eq-eqb}
 use Rattle.std.proofs.lemmas.List.{drop-append-le}
-use Rattle.nut_words.specs.Lines.{LineText, Text, TooLong, rest}
+use Rattle.nut_words.specs.Lines.{LineText, Text, rest}
 use Rattle.nut_server_spec.specs.Configuration.{Configuration}
 use Rattle.nut_server_spec.specs.Command.{Command, command_of}
 use Rattle.nut_server_spec.specs.Device.{Device, needs_ping}
@@ -13,11 +13,11 @@ use Rattle.nut_proto.specs.DriverAsks.{ask_line}
 use Rattle.nut_server_spec.specs.Effect.{target, number_in, forced_then, request_of, at_target}
 use Rattle.nut_server_spec.specs.Tracking.{with_tracked}
 use Rattle.nut_server_spec.specs.Event.{Event, Moment, Took, Close, DriverUp, DriverTook, DriverDown, Said, Reported, input, taken, driver_input}
-use Rattle.nut_server_spec.specs.Answer.{Answer, text_of}
-use Rattle.nut_server_spec.specs.Trace.{Entry, configuration, numbers, numbering, places, clock, opened, open_numbers, address, user, password, login, logged_out, tracking, given, tracked, due, device, connected, forced, driver_due, driver_taken, driver_waits, ups_numbers, scene, with_request, request_for, ping, pinged_then, pinged_at}
-use Rattle.nut_server_spec.specs.Content.{Session, Supply, Content, past, content, session, supply, down}
+use Rattle.nut_server_spec.specs.Answer.{Answer}
+use Rattle.nut_server_spec.specs.Trace.{Entry, configuration, numbers, numbering, clock, opened, open_numbers, address, user, password, login, logged_out, tracking, given, tracked, due, device, connected, forced, driver_due, driver_taken, driver_waits, ups_numbers, scene, with_request, request_for, ping, pinged_then, pinged_at}
+use Rattle.nut_server_spec.specs.Content.{Session, Supply, Content, past, content, session, supply}
 use Rattle.nut_server_spec.specs.laws.Laws.{IsBelow, IsRising}
-use Rattle.nut_server_spec.specs.machine.Machine.{advance, update, with_rest, with_sessions, with_supplies, without, answered, acted, act_on, reported_by, ticked, up, drained, guest_of, scene_of}
+use Rattle.nut_server_spec.specs.machine.Machine.{advance, update, with_rest, with_sessions, without, answered, acted, act_on, reported_by, ticked, scene_of}
 use Rattle.nut_server_spec.specs.Numbering.{Kept}
 use Rattle.nut_server_spec.proofs.Numbers.{open_numbers_rise}
 use Rattle.nut_server_spec.proofs.Places.{update-below, map-twice, map-same}
@@ -61,9 +61,7 @@ reports_of h u = rest (driver_input u h)
 
 -- What the machine knows when it answers a line is what the history says.
 pub scene_is : (first : Configuration) (h : List Event) → scene_of (content first h) ≡ scene first (past first h)
-scene_is first h =
-    ap (λ devices. record (scene_of (content first h)) { devices = devices }) (map-twice (supply first h) (λ d. d.device) (ups_numbers first (past first h)))
-    ∙ ap (λ guests. record (scene first (past first h)) { guests = guests }) (map-twice (session first h) guest_of (open_numbers (past first h)))
+scene_is first h = grind (arith, map-twice)
 
 pub eqb_turn : (a b : ℕ) → eqb a b ≡ false → eqb b a ≡ false
 eqb_turn a b differ = ne_eqb b a (λ e. eqb-false a b differ (sym e))
@@ -96,19 +94,13 @@ pub rest-law : (first : Configuration) (t : List Entry) (c : ℕ) (rests rests' 
     → ((d : ℕ) → eqb d c ≡ false → rests' d ≡ rests d)
     → change (session_from first t rests takes c) ≡ with_rest (rests' c) (session_from first t rests takes c)
     → content_from first t rests' takes reports ≡ with_sessions (update c change (content_from first t rests takes reports).sessions) (content_from first t rests takes reports)
-rest-law first t c rests rests' takes reports change same at' =
-    ap (λ sessions. with_sessions sessions (content_from first t rests takes reports))
-    (update-map c (session_from first t rests takes) (session_from first t rests' takes) change (open_numbers t) (open_numbers_rise t) (λ d. refl)
-    (λ d differ. rw (same d differ) refl) (sym at'))
+rest-law first t c rests rests' takes reports change same at' = grind (arith, update-map, open_numbers_rise)
 
 took-law : (first : Configuration) (t : List Entry) (c n : ℕ) (rests : ℕ → LineText) (takes takes' : ℕ → ℕ) (reports : ℕ → LineText)
     → ((d : ℕ) → eqb d c ≡ false → takes' d ≡ takes d) → takes' c ≡ takes c + n
     → content_from first t rests takes' reports
     ≡ with_sessions (update c (λ k. record k { waits = drop n k.waits }) (content_from first t rests takes reports).sessions) (content_from first t rests takes reports)
-took-law first t c n rests takes takes' reports same more =
-    ap (λ sessions. with_sessions sessions (content_from first t rests takes reports))
-    (update-map c (session_from first t rests takes) (session_from first t rests takes') (λ k. record k { waits = drop n k.waits }) (open_numbers t) (open_numbers_rise t) (λ d. refl)
-    (λ d differ. rw (same d differ) refl) (rw (more, drop-drop n (takes c) (due c t)) refl))
+took-law first t c n rests takes takes' reports same more = grind (arith, update-map, open_numbers_rise, drop-drop)
 
 pub law-took : (first : Configuration) (h : List Event) (c n : ℕ) → content first (Took c n ∷ h) ≡ advance (content first h) (Took c n)
 law-took first h c n = took-law first (past first h) c n (rests_of h) (takes_of h) (takes_of (Took c n ∷ h)) (reports_of h)
@@ -139,8 +131,7 @@ session_self : (first : Configuration) (t : List Entry) (c : ℕ) (line : LineTe
     → takes c ≤ length (due c t)
     → session_from first (record { step = Said c line; answer = reply; asks = asks; fate = λ u. Kept; closes = λ d. false } ∷ t) rests' takes c
     ≡ with_rest (rests' c) (answered (numbering first t) (command_of line) reply (session_from first t rests takes c))
-session_self first t c line reply asks rests rests' takes covered =
-    rw (eq-eqb c c refl, drop-append-le (takes c) (due c t) (text_of reply) covered) refl
+session_self first t c line reply asks rests rests' takes covered = grind (arith, eq-eqb, drop-append-le)
 
 pub said_sessions : (first : Configuration) (t : List Entry) (c : ℕ) (line : LineText) (reply : Answer) (asks : ℕ → Option (List ℕ)) (rests rests' : ℕ → LineText) (takes : ℕ → ℕ)
     → takes c ≤ length (due c t) → ((d : ℕ) → eqb d c ≡ false → rests' d ≡ rests d) → rests' c ≡ Text []
@@ -159,9 +150,7 @@ IsDriverCovered t u = driver_taken u t ≤ length (driver_due u t)
 
 waits-asked : (is : Bool) (m : ℕ) (due : List ℕ) (request : Option (List ℕ)) → m ≤ length due
     → (if is then drop m (with_request request due) else []) ≡ (if is then with_request request (if is then drop m due else []) else (if is then drop m due else []))
-waits-asked true m due None covered = refl
-waits-asked true m due (Some line) covered = drop-append-le m due line covered
-waits-asked false m due request covered = refl
+waits-asked is m due request covered = grind (arith, drop-append-le)
 
 -- a UPS after a line that acts on it
 abbrev supply_said : Configuration → List Entry → Command → Answer → Option ℕ → (ℕ → LineText) → ℕ → Supply
@@ -177,14 +166,7 @@ supply_said first t command reply goal reports u = record {
 -- The line changes that UPS, and no other.
 supplies_said : (first : Configuration) (t : List Entry) (command : Command) (reply : Answer) (goal : Option ℕ) (reports : ℕ → LineText) → ((u : ℕ) → IsDriverCovered t u)
     → map (supply_said first t command reply goal reports) (ups_numbers first t) ≡ act_on goal (acted command reply) (map (supply_from first t reports) (ups_numbers first t))
-supplies_said first t command reply None reports covered = refl
-supplies_said first t command reply (Some v) reports covered =
-    update-below v (places first t) (supply_from first t reports) (supply_said first t command reply (Some v) reports) (acted command reply)
-    (λ d differ. rw (eqb_turn d v differ) refl)
-    (rw (eq-eqb v v refl) (ap (λ w. record {
-      device = record (device first t v) { forced = forced_then command reply (forced first v t); waits = w; tracked = with_tracked (number_in reply) (tracked first v t) };
-      rest = if connected v t then reports v else Text [];
-    }) (waits-asked (connected v t) (driver_taken v t) (driver_due v t) (request_of command reply) (covered v))))
+supplies_said first t command reply goal reports covered = grind (arith, update-below, eqb_turn, eq-eqb, waits-asked)
 
 -- the past after a line of c with this answer
 abbrev pub answered_past : Configuration → List Entry → ℕ → LineText → Answer → List Entry
@@ -204,33 +186,20 @@ said_supplies first t c line reply reports covered = supplies_said first t (comm
 -- ---- drivers
 
 pub law-driver_up : (first : Configuration) (h : List Event) (u : ℕ) → content first (DriverUp u ∷ h) ≡ advance (content first h) (DriverUp u)
-law-driver_up first h u = ap (λ supplies. with_supplies supplies (content first h))
-    (update-below u (places first (past first h)) (supply first h) (supply first (DriverUp u ∷ h)) (up (clock (past first h)))
-    (λ d differ. rw (eqb_turn d u differ) refl) (rw (eq-eqb u u refl) refl))
+law-driver_up first h u = grind (arith, update-below, eqb_turn, eq-eqb)
 
 pub law-driver_down : (first : Configuration) (h : List Event) (u : ℕ) → content first (DriverDown u ∷ h) ≡ advance (content first h) (DriverDown u)
-law-driver_down first h u = ap (λ supplies. with_supplies supplies (content first h))
-    (update-below u (places first (past first h)) (supply first h) (supply first (DriverDown u ∷ h)) down
-    (λ d differ. rw (eqb_turn d u differ) refl) (rw (eq-eqb u u refl) refl))
+law-driver_down first h u = grind (arith, update-below, eqb_turn, eq-eqb)
 
 waits-drained : (is : Bool) (m n : ℕ) (due : List ℕ) → (if is then drop (m + n) due else []) ≡ drop n (if is then drop m due else [])
-waits-drained true m n due = sym (drop-drop n m due)
-waits-drained false m n due = sym (drop-nil n)
+waits-drained is m n due = grind (arith, drop-drop, drop-nil)
 
 pub law-driver_took : (first : Configuration) (h : List Event) (u n : ℕ) → content first (DriverTook u n ∷ h) ≡ advance (content first h) (DriverTook u n)
-law-driver_took first h u n = ap (λ supplies. with_supplies supplies (content first h))
-    (update-below u (places first (past first h)) (supply first h) (supply first (DriverTook u n ∷ h)) (drained n)
-    (λ d differ. rw (eqb_turn d u differ) refl)
-    (rw (eq-eqb u u refl) (ap (λ w. record { device = record (device first (past first h) u) { waits = w }; rest = if connected u (past first h) then reports_of h u else Text [] })
-    (waits-drained (connected u (past first h)) (driver_taken u (past first h)) n (driver_due u (past first h))))))
+law-driver_took first h u n = grind (arith, update-below, eqb_turn, eq-eqb, waits-drained)
 
 -- A driver that needs PING is connected.
 pinged_up : (age time : ℕ) (d : Device) → needs_ping age time d ≡ true → d.connected ≡ true
-pinged_up age time d needed =
-    elim (cases_Bool d.connected) [
-      | inl e ↦ e
-      | inr e ↦ absurd (let bad = rw e at needed in cc)
-    ]
+pinged_up age time d needed = grind (arith, cases_Bool)
 
 -- a UPS at this moment, if its driver needs PING and if it doesn't
 abbrev supply_ticked : Configuration → List Entry → ℕ → (ℕ → LineText) → ℕ → Bool → Supply
@@ -245,11 +214,7 @@ supply_ticked first t time reports u needed = record {
 ticks : (first : Configuration) (t : List Entry) (time : ℕ) (reports : ℕ → LineText) (u : ℕ) (needed : Bool) → IsDriverCovered t u → (needed ≡ true → connected u t ≡ true)
     → supply_ticked first t time reports u needed
     ≡ (if needed then record { device = record (device first t u) { pinged_at = Some time; waits = driver_waits u t ++ ask_line Ping }; rest = if connected u t then reports u else Text [] } else supply_from first t reports u)
-ticks first t time reports u false covered is = refl
-ticks first t time reports u true covered is =
-    let up' : connected u t ≡ true = is refl in
-    rw up' (ap (λ w. record { device = record (device first t u) { connected = true; pinged_at = Some time; waits = w }; rest = reports u })
-    (drop-append-le (driver_taken u t) (driver_due u t) (ask_line Ping) covered))
+ticks first t time reports u needed covered is = grind (arith, drop-append-le)
 
 -- A moment: each driver that needs PING is sent it.
 pub law-moment : (first : Configuration) (h : List Event) (t : ℕ) → ((u : ℕ) → IsDriverCovered (past first h) u) → content first (Moment t ∷ h) ≡ advance (content first h) (Moment t)
@@ -267,5 +232,4 @@ law-moment first h t covered =
 pub reported_self : (first : Configuration) (t : List Entry) (u : ℕ) (line : LineText) (reply : Answer) (asks : ℕ → Option (List ℕ)) (reports reports' : ℕ → LineText)
     → asks u ≡ None → reports' u ≡ Text [] → connected u t ≡ true
     → supply_from first (record { step = Reported u line; answer = reply; asks = asks; fate = λ u. Kept; closes = λ d. false } ∷ t) reports' u ≡ reported_by (clock t) line (supply_from first t reports u)
-reported_self first t u (Text line) reply asks reports reports' none ended is = rw (eq-eqb u u refl, none, ended, is) refl
-reported_self first t u TooLong reply asks reports reports' none ended is = rw (eq-eqb u u refl, none, ended, is) refl
+reported_self first t u line reply asks reports reports' none ended is = grind (arith, eq-eqb)

@@ -1,8 +1,9 @@
 -- The lines that a piece completes, if the bytes come in pieces.
+use Rattle.std.proofs.Common.{arith}
 use Rattle.std.proofs.Common.{◌≡◌, ℕ, List, [], ◌∷◌, ◌++◌, false, eqb, length, drop, sym, ◌∙◌, ap, append_assoc, append-nil}
 use Rattle.std.proofs.Math.Seq.{drop-append_seam}
 use Rattle.std.proofs.lemmas.Bool.{eqb-false}
-use Rattle.nut_words.specs.Lines.{LineText, lines, lines_after, rest}
+use Rattle.nut_words.specs.Lines.{LineText, lines, rest}
 use Rattle.nut_words.proofs.StreamGrowth.{lines-append, lines_at_line_feed, lines_within}
 use Rattle.nut_server_spec.specs.Event.{brought}
 
@@ -11,15 +12,11 @@ brought_is : (a b : List ℕ) (more : List LineText) → lines (a ++ b) ≡ line
 brought_is a b more is = ap (drop (length (lines a))) is ∙ drop-append_seam (lines a) more
 
 pub lines_grow : (a b : List ℕ) → lines (a ++ b) ≡ lines a ++ brought a b
-lines_grow a b =
-    let more = lines_after (rest a) b in
-    lines-append a b ∙ ap (λ ls. lines a ++ ls) (sym (brought_is a b more (lines-append a b)))
+lines_grow a b = grind (arith, lines-append, brought_is)
 
 -- A piece completes what its two parts complete, one after the other.
 pub brought-append : (a x y : List ℕ) → brought a (x ++ y) ≡ brought a x ++ brought (a ++ x) y
-brought-append a x y = brought_is a (x ++ y) (brought a x ++ brought (a ++ x) y)
-    (ap lines (sym (append_assoc a x y)) ∙ lines_grow (a ++ x) y ∙ ap (λ ls. ls ++ brought (a ++ x) y) (lines_grow a x)
-    ∙ append_assoc (lines a) (brought a x) (brought (a ++ x) y))
+brought-append a x y = grind (arith, brought_is, append_assoc, lines_grow)
 
 pub brought_none : (a : List ℕ) → brought a [] ≡ []
 brought_none a = brought_is a [] [] (ap lines (append-nil a) ∙ sym (append-nil (lines a)))

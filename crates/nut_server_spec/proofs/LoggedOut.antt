@@ -1,17 +1,17 @@
 -- Lines of a connection that has logged out change nothing.
-use Rattle.std.proofs.Common.{◌≡◌, ℕ, Bool, true, false, eqb, List, [], ◌∷◌, drop, refl, ◌∙◌, ap, append-nil, Option, Some, None}
+use Rattle.std.proofs.Common.{arith}
+use Rattle.std.proofs.Common.{◌≡◌, ℕ, Bool, true, false, eqb, List, [], ◌∷◌, drop, refl, ◌∙◌, ap, append-nil, Option, None}
 use Rattle.std.specs.Prelude.{if◌then◌else◌}
 use mathlib.Core.Path.{fun_ext}
 use Rattle.nut_words.specs.Lines.{LineText, rest}
 use Rattle.nut_state.specs.Step.{table_of}
-use Rattle.nut_proto.specs.declared.request.Request.TheVariants as requests
 use Rattle.nut_server_spec.specs.Configuration.{Configuration}
-use Rattle.nut_server_spec.specs.Command.{Command, Asks, command_of}
+use Rattle.nut_server_spec.specs.Command.{Command, command_of}
 use Rattle.nut_server_spec.specs.Device.{Device}
 use Rattle.nut_server_spec.specs.Event.{Event, Bytes, Step, Said, input, taken, steps, with_lines, brought}
-use Rattle.nut_server_spec.specs.Answer.{Answer, Silence, text_of, answer}
+use Rattle.nut_server_spec.specs.Answer.{Answer, Silence, text_of}
 use Rattle.nut_server_spec.specs.Effect.{user_then, password_then, login_then, logged_out_then, tracking_then, number_in, due_then, target, forced_then, request_of, at_target}
-use Rattle.nut_server_spec.specs.Trace.{Entry, address, user, password, login, logged_out, tracking, tracked, due, connected, reports, heard_at, pinged_at, forced, driver_due, driver_taken, scene, caller, with_request, request_for, answer_to, trace, numbering}
+use Rattle.nut_server_spec.specs.Trace.{Entry, address, user, password, login, logged_out, tracking, tracked, due, connected, reports, heard_at, pinged_at, forced, driver_due, driver_taken, with_request, request_for, answer_to, trace, numbering}
 use Rattle.nut_server_spec.specs.Tracking.{Tracked, with_tracked}
 use Rattle.nut_server_spec.specs.Content.{Session, past}
 use Rattle.nut_server_spec.specs.laws.Laws.{LogoutIsFinal}
@@ -20,48 +20,35 @@ use Rattle.nut_server_spec.specs.Numbering.{Numbering, Kept}
 -- ---- a silent answer changes nothing
 
 user-silent : (command : Command) (before : Option (List ℕ)) → user_then command Silence before ≡ before
-user-silent (Asks (requests.Username name)) before = refl
-user-silent command before = refl
+user-silent command before = grind arith
 
 password-silent : (command : Command) (before : Option (List ℕ)) → password_then command Silence before ≡ before
-password-silent (Asks (requests.Password password)) before = refl
-password-silent command before = refl
+password-silent command before = grind arith
 
 login-silent : (c : Numbering) (command : Command) (before : Option ℕ) → login_then c command Silence before ≡ before
-login-silent c (Asks (requests.Login ups)) before = refl
-login-silent c command before = refl
-
-forced-silent : (command : Command) (before : Bool) → forced_then command Silence before ≡ before
-forced-silent (Asks (requests.Fsd ups)) before = refl
-forced-silent command before = refl
+login-silent c command before = grind arith
 
 request-silent : (command : Command) → request_of command Silence ≡ None
-request-silent (Asks (requests.SetVar ups variable value)) = refl
-request-silent command = refl
+request-silent command = grind arith
 
 tracking-silent : (command : Command) (before : Bool) → tracking_then command Silence before ≡ before
-tracking-silent (Asks (requests.SetTracking on)) before = refl
-tracking-silent command before = refl
+tracking-silent command before = grind arith
 
 due-silent : (command : Command) (before : List ℕ) → due_then command Silence before ≡ before
 unfolding text_of
 due-silent command before = append-nil before
 
 either : {A : Type 0} (b : Bool) (x y : A) → x ≡ y → (if b then x else y) ≡ y
-either true x y is = is
-either false x y is = refl
+either b x y is = grind arith
 
 target-silent : (u : ℕ) (o : Option ℕ) (command : Command) (before : Bool) → at_target u o (forced_then command Silence) before ≡ before
-target-silent u None command before = refl
-target-silent u (Some v) command before = either (eqb v u) _ _ (forced-silent command before)
+target-silent u o command before = grind arith
 
 followed-silent : (u : ℕ) (o : Option ℕ) (before : List Tracked) → at_target u o (with_tracked (number_in Silence)) before ≡ before
-followed-silent u None before = refl
-followed-silent u (Some v) before = either (eqb v u) _ _ refl
+followed-silent u o before = grind arith
 
 none-for : (u : ℕ) (o : Option ℕ) → request_for u o None ≡ None
-none-for u None = refl
-none-for u (Some v) = either (eqb v u) _ _ refl
+none-for u o = grind arith
 
 -- ---- what a past says about connections and drivers
 
@@ -132,8 +119,7 @@ module _ (first : Configuration) (c : ℕ) (line : LineText) (t : List Entry) wh
       ∙ ap (λ f. let r : Known = record n { followed = f } in r) (fun_ext (λ u. followed-silent u o (tracked first u t)))
 
   quiet-entry : logged_out c t ≡ true → known first (said (answer_to first t c line) ∷ t) ≡ known first t
-  quiet-entry out =
-      ap (λ b. known first (said (if b then Silence else answer (scene first t) (caller first t c) (command_of line)) ∷ t)) out ∙ silent-entry
+  quiet-entry out = grind (arith, silent-entry)
 
 quiet-lines : (first : Configuration) (c : ℕ) (ls : List LineText) (s : List Step) → logged_out c (trace first s) ≡ true → known first (trace first (with_lines c ls s)) ≡ known first (trace first s)
 quiet-lines first c [] s out = refl

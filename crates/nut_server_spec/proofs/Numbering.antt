@@ -1,11 +1,11 @@
 -- The numbers of UPSes: none is greater than there are places, and a number that no UPS has is free.
 use Rattle.std.proofs.Common.{◌≡◌, ℕ, zero, suc, ◌+◌, ◌<◌, ◌≤◌, false, eqb, List, [], ◌∷◌, ◌++◌, length, refl, ap, arith, inl, inr, Option, Some, None}
-use Rattle.std.specs.Prelude.{max, if◌then◌else◌, position, slice_get}
+use Rattle.std.specs.Prelude.{if◌then◌else◌, position, slice_get}
 use Rattle.std.specs.List.{AllByRecursion, position_or_len}
 use Rattle.std.proofs.lemmas.Bool.{cases_Bool, ne_eqb, le-ltb, true≢false}
 use Rattle.std.proofs.lemmas.Option.{option_and_then_some}
 use Rattle.nut_server_spec.specs.Configuration.{Configuration, Ups, number_of_ups}
-use Rattle.nut_server_spec.specs.Event.{Step, Reloaded}
+use Rattle.nut_server_spec.specs.Event.{Step}
 use Rattle.nut_server_spec.specs.Numbering.{Numbering, below, number_of, ups_with, is_taken, first_free, least_free, kept_numbers, given_numbers, renumbered}
 use Rattle.nut_server_spec.specs.Trace.{Entry, numbers, numbering, places, renumbered_by, places_after}
 
@@ -74,9 +74,7 @@ pub renumbered_below : (m : ℕ) (before : Numbering) (upses : List Ups) → Are
 renumbered_below m before upses all few = given_below m before (kept_numbers before upses) upses all (omega (arith, few, kept_and_new before upses))
 
 step_below : (step : Step) (m : ℕ) (now : Numbering) → AreBelow m now.numbers → AreBelow (places_after step m) (renumbered_by step now)
-step_below (Reloaded k) m now all =
-    renumbered_below (max m (length k.upses)) now k.upses (are_below_more m (max m (length k.upses)) now.numbers (omega arith) all) (omega arith)
-step_below step m now all = all
+step_below step m now all = grind (arith, renumbered_below, are_below_more)
 
 -- Every UPS has a number that is less than there are places.
 pub numbers_below : (first : Configuration) (t : List Entry) → AreBelow (places first t) (numbers first t)

@@ -1,10 +1,10 @@
 -- The numbers of open connections rise, each is at least 1, and none is greater than how many were opened.
-use Rattle.std.proofs.Common.{◌≡◌, ℕ, ◌+◌, ◌<◌, Bool, List, [], ◌∷◌, ◌++◌, filter, map, refl, sym, subst, arith, inl, inr}
+use Rattle.std.proofs.Common.{◌≡◌, ℕ, ◌+◌, ◌<◌, Bool, List, [], ◌∷◌, ◌++◌, filter, map, refl, arith, inl, inr}
 use Rattle.std.proofs.lemmas.Bool.{cases_Bool}
 use Rattle.nut_server_spec.specs.laws.Laws.{IsBelow, IsRising, IsUpTo, numbers, NumbersRise}
 use Rattle.nut_server_spec.specs.Configuration.{Configuration}
 use Rattle.nut_server_spec.specs.Content.{Session, content, session, past}
-use Rattle.nut_server_spec.specs.Event.{Event, Step, Opened, Gone, Reloaded}
+use Rattle.nut_server_spec.specs.Event.{Event, Step}
 use Rattle.nut_server_spec.specs.Trace.{Entry, opened, open_numbers, numbers_after, opened_after}
 
 IsUpTo-filter : (n : ℕ) (p : ℕ → Bool) (ns : List ℕ) → IsUpTo n ns → IsUpTo n (filter p ns)
@@ -16,10 +16,7 @@ IsUpTo-push n [] up = (omega arith, tt)
 IsUpTo-push n (m ∷ ns) up = (omega (arith, up.0), IsUpTo-push n ns up.1)
 
 step_up : (s : Step) (closes : ℕ → Bool) (n : ℕ) (ns : List ℕ) → IsUpTo n ns → IsUpTo (opened_after s n) (numbers_after s closes n ns)
-step_up (Opened a) closes n ns up = IsUpTo-push n ns up
-step_up (Gone c) closes n ns up = IsUpTo-filter n _ ns up
-step_up (Reloaded k) closes n ns up = IsUpTo-filter n _ ns up
-step_up step closes n ns up = up
+step_up step closes n ns up = grind (arith, IsUpTo-push, IsUpTo-filter)
 
 pub numbers_up_to : (t : List Entry) → IsUpTo (opened t) (open_numbers t)
 numbers_up_to [] = tt
@@ -42,20 +39,14 @@ IsRising-push n [] h up = (tt, tt)
 IsRising-push n (m ∷ ns) h up = (IsBelow-push m (n + 1) ns h.0 (omega (arith, up.0)), IsRising-push n ns h.1 up.1)
 
 step_rising : (s : Step) (closes : ℕ → Bool) (n : ℕ) (ns : List ℕ) → IsUpTo n ns → IsRising ns → IsRising (numbers_after s closes n ns)
-step_rising (Opened a) closes n ns up h = IsRising-push n ns h up
-step_rising (Gone c) closes n ns up h = IsRising-filter _ ns h
-step_rising (Reloaded k) closes n ns up h = IsRising-filter _ ns h
-step_rising step closes n ns up h = h
+step_rising step closes n ns up h = grind (arith, IsRising-push, IsRising-filter)
 
 pub open_numbers_rise : (t : List Entry) → IsRising (open_numbers t)
 open_numbers_rise [] = tt
 open_numbers_rise (e ∷ t) = step_rising e.step e.closes (opened t) (open_numbers t) (numbers_up_to t) (open_numbers_rise t)
 
 step_above : (s : Step) (closes : ℕ → Bool) (n : ℕ) (ns : List ℕ) → IsBelow 0 ns → IsBelow 0 (numbers_after s closes n ns)
-step_above (Opened a) closes n ns h = IsBelow-push 0 (n + 1) ns h (omega arith)
-step_above (Gone c) closes n ns h = IsBelow-filter 0 _ ns h
-step_above (Reloaded k) closes n ns h = IsBelow-filter 0 _ ns h
-step_above step closes n ns h = h
+step_above step closes n ns h = grind (arith, IsBelow-push, IsBelow-filter)
 
 pub open_numbers_above : (t : List Entry) → IsBelow 0 (open_numbers t)
 open_numbers_above [] = tt
@@ -70,6 +61,4 @@ pub numbers_are : (first : Configuration) (h : List Event) → numbers (content 
 numbers_are first h = sessions_numbered (session first h) (open_numbers (past first h)) (λ d. refl)
 
 pub numbers-rise : NumbersRise
-numbers-rise first h =
-    let P : List ℕ → Type 0 = λ ns. IsBelow 0 ns × IsRising ns × IsUpTo (opened (past first h)) ns in
-    subst P (sym (numbers_are first h)) (open_numbers_above (past first h), open_numbers_rise (past first h), numbers_up_to (past first h))
+numbers-rise first h = grind (arith, numbers_are, open_numbers_above, open_numbers_rise, numbers_up_to)

@@ -1,22 +1,20 @@
 -- The machine keeps the content when a piece of bytes comes.
-use Rattle.std.proofs.Common.{◌≡◌, ℕ, ◌≤◌, Bool, true, false, eqb, List, [], ◌∷◌, ◌++◌, map, length, refl, sym, ◌∙◌, ap, arith, inl, inr, length-append, Option, Some, None, subst}
-use Rattle.std.specs.Prelude.{if◌then◌else◌}
+use Rattle.std.proofs.Common.{◌≡◌, ℕ, ◌≤◌, true, false, eqb, List, [], ◌∷◌, ◌++◌, map, length, refl, sym, ◌∙◌, ap, arith, inl, inr, length-append, Option, Some}
 use Rattle.std.proofs.lemmas.Bool.{cases_Bool, eqb-true, eqb-false, eq-eqb}
-use Rattle.nut_words.specs.Lines.{LineText, Text, joined, rest}
+use Rattle.nut_words.specs.Lines.{LineText, joined, rest}
 use Rattle.nut_words.proofs.StreamGrowth.{rest_at_line_feed, rest_within}
 use Rattle.nut_server_spec.specs.Configuration.{Configuration}
 use Rattle.nut_server_spec.specs.Command.{command_of}
 use Rattle.nut_server_spec.specs.Effect.{target, request_of}
 use Rattle.nut_server_spec.specs.Event.{Event, Bytes, DriverBytes, Step, Said, Reported, input, driver_input, steps, with_lines, with_reports, brought}
-use Rattle.nut_server_spec.specs.Answer.{Silence, answer, text_of}
-use Rattle.nut_server_spec.specs.Trace.{numbering, places, connected, clock, given, given_then, open_numbers, logged_out, due, driver_due, ups_numbers, caller, with_request, request_for, trace, answer_to, asks_at}
-use Rattle.nut_server_spec.specs.Content.{Session, Content, past, content, session, supply}
+use Rattle.nut_server_spec.specs.Answer.{text_of}
+use Rattle.nut_server_spec.specs.Trace.{numbering, connected, given, given_then, open_numbers, due, driver_due, ups_numbers, with_request, request_for, trace, answer_to, asks_at}
+use Rattle.nut_server_spec.specs.Content.{Session, Content, past, content, session}
 use Rattle.nut_server_spec.specs.Acceptance.{session_of}
-use Rattle.nut_server_spec.specs.machine.Machine.{reported_by, advance, answer_in, line_heard, update_at, with_rest, with_supplies, after_answer, byte_heard, bytes_heard, byte_reported, bytes_reported}
+use Rattle.nut_server_spec.specs.machine.Machine.{advance, answer_in, line_heard, update_at, with_rest, with_supplies, after_answer, byte_heard, bytes_heard, byte_reported, bytes_reported}
 use Rattle.nut_server_spec.proofs.LineLaws.{brought_line_feed, brought_within}
 use Rattle.nut_server_spec.proofs.Places.{update-below, update_at-none, update_at-twice}
 use Rattle.nut_server_spec.proofs.Sessions.{session_of-map}
-use Rattle.nut_server_spec.specs.Numbering.{is_taken}
 use Rattle.nut_server_spec.proofs.Law.{content_from, supply_from, rests_of, takes_of, reports_of, scene_is, eqb_turn, rest-law, said_sessions, said_supplies, answered_past, reported_self, IsDriverCovered}
 use Rattle.nut_server_spec.proofs.Cuts.{cut-law, driver_cut-law, law-no_bytes, law-no_report}
 
@@ -42,8 +40,7 @@ rests_self h c piece = rw (eq-eqb c c refl) refl
 -- What the machine answers is what the history says.
 answer_is : (first : Configuration) (h : List Event) (c : ℕ) (line : LineText)
     → answer_to first (past first h) c line ≡ answer_in (content first h) (command_of line) (session first h c)
-answer_is first h c line =
-    sym (ap (λ s. if logged_out c (past first h) then Silence else answer s (caller first (past first h) c) (command_of line)) (scene_is first h))
+answer_is first h c line = grind (arith, scene_is)
 
 law-feed : (first : Configuration) (h : List Event) (c : ℕ) → IsCovered first h c → AreDriversCovered first h → IsThere first h c
     → content first (Bytes c (10 ∷ []) ∷ h) ≡ byte_heard c 10 (content first h)
@@ -71,11 +68,7 @@ law-other_byte first h c b other =
 
 law-byte : (first : Configuration) (h : List Event) (c b : ℕ) → IsCovered first h c → AreDriversCovered first h → IsThere first h c
     → content first (Bytes c (b ∷ []) ∷ h) ≡ byte_heard c b (content first h)
-law-byte first h c b covered drivers there =
-    elim (cases_Bool (eqb b 10)) [
-      | inl is ↦ let P : ℕ → Type 0 = λ x. content first (Bytes c (x ∷ []) ∷ h) ≡ byte_heard c x (content first h) in subst P (sym (eqb-true b 10 is)) (law-feed first h c covered drivers there)
-      | inr other ↦ law-other_byte first h c b other
-    ]
+law-byte first h c b covered drivers there = grind (arith, cases_Bool, eqb-true, law-feed, law-other_byte)
 
 -- The answers due grow at the end.
 due_grows : (first : Configuration) (c d : ℕ) (ls : List LineText) (s : List Step) → length (due d (trace first s)) ≤ length (due d (trace first (with_lines c ls s)))
@@ -94,8 +87,7 @@ covered_bytes first h c d piece covered = omega (arith, covered, due_grows first
 
 -- The requests due to a driver grow at the end.
 pub request_grows : (request : Option (List ℕ)) (x : List ℕ) → length x ≤ length (with_request request x)
-request_grows None x = omega arith
-request_grows (Some line) x = omega (arith, length-append x line)
+request_grows request x = grind (arith, length-append)
 
 drivers_lines : (first : Configuration) (c : ℕ) (ls : List LineText) (s : List Step) → ((u : ℕ) → IsDriverCovered (trace first s) u) → (u : ℕ) → IsDriverCovered (trace first (with_lines c ls s)) u
 drivers_lines first c [] s covered u = covered u
@@ -113,15 +105,10 @@ open_numbers_lines first d (l ∷ ls) s = open_numbers_lines first d ls (Said d 
 
 there_same : (c : ℕ) (f g : ℕ → Session) (ns : List ℕ) → ((d : ℕ) → (f d).number ≡ d) → ((d : ℕ) → (g d).number ≡ d)
     → session_of c (map f ns) ≡ Some (f c) → session_of c (map g ns) ≡ Some (g c)
-there_same c f g ns nf ng there = session_of-map g c ns ng ∙ also (is_taken c ns) (sym (session_of-map f c ns nf) ∙ there) where
-  also : (b : Bool) → (if b then Some (f c) else None) ≡ Some (f c) → (if b then Some (g c) else None) ≡ Some (g c)
-  also true is = refl
-  also false is = cc
+there_same c f g ns nf ng there = grind (arith, session_of-map)
 
 there_bytes : (first : Configuration) (h : List Event) (c : ℕ) (piece : List ℕ) → IsThere first h c → IsThere first (Bytes c piece ∷ h) c
-there_bytes first h c piece there =
-    ap (λ ns. session_of c (map (session first (Bytes c piece ∷ h)) ns)) (open_numbers_lines first c (brought (input c h) piece) (steps h))
-    ∙ there_same c (session first h) (session first (Bytes c piece ∷ h)) (open_numbers (past first h)) (λ d. refl) (λ d. refl) there
+there_bytes first h c piece there = grind (arith, open_numbers_lines, there_same)
 
 pub law-bytes : (first : Configuration) (h : List Event) (c : ℕ) (piece : List ℕ) → IsCovered first h c → AreDriversCovered first h → IsThere first h c
     → content first (Bytes c piece ∷ h) ≡ advance (content first h) (Bytes c piece)
@@ -142,32 +129,40 @@ after_report u b s = with_supplies (update_at u (byte_reported s.clock b) s.supp
 
 law-report_feed : (first : Configuration) (h : List Event) (u : ℕ) → connected u (past first h) ≡ true → content first (DriverBytes u (10 ∷ []) ∷ h) ≡ after_report u 10 (content first h)
 law-report_feed first h u is =
-    let p = past first h in
-    let reports' = reports_of (DriverBytes u (10 ∷ []) ∷ h) in
-    ap (λ ls. content_from first (trace first (with_reports u ls (steps h))) (rests_of h) (takes_of h) reports') (brought_line_feed (driver_input u h))
-    ∙ ap (λ supplies. with_supplies supplies (content first h))
-    (update-below u (places first p) (supply first h) (supply_from first (trace first (Reported u (reports_of h u) ∷ steps h)) reports') (byte_reported (clock p) 10)
-    (λ d differ. rw (eqb_turn d u differ) (refl {a = supply first h d}))
-    (reported_self first p u (reports_of h u) Silence (λ v. None) (reports_of h) reports' refl (reports_self h u (10 ∷ []) ∙ rest_at_line_feed (driver_input u h)) is
-    ∙ sym (ap (λ up. reported_by (clock p) (if up then reports_of h u else Text []) (supply first h u)) is)))
+    grind (
+      arith,
+      reports_of,
+      content_from,
+      rests_of,
+      takes_of,
+      brought_line_feed,
+      update-below,
+      supply_from,
+      eqb_turn,
+      reported_self,
+      reports_self,
+      rest_at_line_feed,
+    )
 
 law-report_other : (first : Configuration) (h : List Event) (u b : ℕ) → connected u (past first h) ≡ true → eqb b 10 ≡ false → content first (DriverBytes u (b ∷ []) ∷ h) ≡ after_report u b (content first h)
 law-report_other first h u b is other =
-    let reports' = reports_of (DriverBytes u (b ∷ []) ∷ h) in
-    ap (λ ls. content_from first (trace first (with_reports u ls (steps h))) (rests_of h) (takes_of h) reports') (brought_within (driver_input u h) b other)
-    ∙ ap (λ supplies. with_supplies supplies (content first h))
-    (update-below u (places first (past first h)) (supply first h) (supply_from first (past first h) reports') (byte_reported (clock (past first h)) b)
-    (λ d differ. rw (eqb_turn d u differ) (refl {a = supply first h d}))
-    (rw other (ap (λ up. record (supply first h u) { rest = if up then reports' u else Text [] }) is
-    ∙ ap (λ r. record (supply first h u) { rest = r }) (reports_self h u (b ∷ []) ∙ rest_within (driver_input u h) b (eqb-false b 10 other))
-    ∙ sym (ap (λ up. record (supply first h u) { rest = joined (if up then reports_of h u else Text []) (b ∷ []) }) is))))
+    grind (
+      arith,
+      reports_of,
+      content_from,
+      rests_of,
+      takes_of,
+      brought_within,
+      update-below,
+      supply_from,
+      eqb_turn,
+      reports_self,
+      rest_within,
+      eqb-false,
+    )
 
 law-report_byte : (first : Configuration) (h : List Event) (u b : ℕ) → connected u (past first h) ≡ true → content first (DriverBytes u (b ∷ []) ∷ h) ≡ after_report u b (content first h)
-law-report_byte first h u b up =
-    elim (cases_Bool (eqb b 10)) [
-      | inl is ↦ let P : ℕ → Type 0 = λ x. content first (DriverBytes u (x ∷ []) ∷ h) ≡ after_report u x (content first h) in subst P (sym (eqb-true b 10 is)) (law-report_feed first h u up)
-      | inr other ↦ law-report_other first h u b up other
-    ]
+law-report_byte first h u b up = grind (arith, cases_Bool, eqb-true, law-report_feed, law-report_other)
 
 pub connected_reports : (first : Configuration) (u v : ℕ) (ls : List LineText) (s : List Step) → connected v (trace first (with_reports u ls s)) ≡ connected v (trace first s)
 connected_reports first u v [] s = refl

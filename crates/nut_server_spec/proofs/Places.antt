@@ -59,8 +59,7 @@ map-twice f g (x ∷ xs) = rw (map-twice f g xs) refl
 
 -- two functions that give the same
 pub map-same : {A B : Type 0} (f g : A → B) (xs : List A) → ((x : A) → g x ≡ f x) → map g xs ≡ map f xs
-map-same f g [] same = refl
-map-same f g (x ∷ xs) same = rw (same x, map-same f g xs same) refl
+map-same f g xs same = grind arith
 
 -- two changes of one UPS, one after the other
 pub update_at-none : (u : ℕ) (change : Supply → Supply) (supplies : List Supply) → ((d : Supply) → change d ≡ d) → update_at u change supplies ≡ supplies

@@ -1,4 +1,5 @@
 -- However bytes are cut, and whatever is taken between the pieces, what follows is the same.
+use Rattle.std.proofs.Common.{arith}
 use Rattle.std.proofs.Common.{◌≡◌, ℕ, Bool, eqb, List, [], ◌∷◌, ◌++◌, refl, sym, ◌∙◌, ap, append_assoc, append-nil, inl, inr, Option}
 use Rattle.std.specs.Prelude.{if◌then◌else◌}
 use Rattle.std.proofs.lemmas.Bool.{cases_Bool, eq-eqb}
@@ -37,11 +38,7 @@ steps-sending h c (Piece p ∷ turns) =
 steps-sending h c (Taken d n ∷ turns) = steps-sending h c turns
 
 pub cuts-and-writes : CutsAndWritesDoNotMatter
-cuts-and-writes = record {
-  one_piece = steps-sending;
-  same_answers = λ first h c turns others same.
-      ap (trace first) (steps-sending h c turns ∙ ap (λ bytes. steps (Bytes c bytes ∷ h)) same ∙ sym (steps-sending h c others));
-}
+cuts-and-writes = grind (arith, steps-sending)
 
 -- ---- a driver
 

@@ -10,7 +10,7 @@ use Rattle.std.proofs.lemmas.Option.{option_and_then_some}
 use Rattle.std.proofs.lemmas.Slice.Eq.{bytes_eq-Decides}
 use Rattle.nut_server_spec.specs.Configuration.{Configuration, Ups, number_of_ups, ups_named}
 use Rattle.nut_server_spec.specs.Content.{past}
-use Rattle.nut_server_spec.specs.Event.{Event, Bytes, DriverBytes, Reload, brought, driver_input, input, steps, Step, Reloaded}
+use Rattle.nut_server_spec.specs.Event.{Event, Bytes, DriverBytes, Reload, brought, driver_input, input, steps, Step}
 use Rattle.nut_server_spec.specs.Numbering.{Numbering, with_numbers, below, first_free, given_numbers, is_taken, kept_numbers, least_free, number_of, renumbered, ups_with}
 use Rattle.nut_server_spec.specs.Trace.{Entry, configuration, numbering, numbers, reconfigured, renumbered_by}
 use Rattle.nut_server_spec.specs.laws.Reloads.{AreNamedApart, KeepsItsNumber, NamesAreDistinct, NumbersAreDistinct}
@@ -22,11 +22,7 @@ use Rattle.nut_server_spec.proofs.Others.{configuration_lines, configuration_rep
 -- ---- the first place that passes a test
 
 ltb_suc : (a b : ℕ) → ltb (1 + a) (suc b) ≡ ltb a b
-ltb_suc a b =
-    elim (cases_Bool (ltb a b)) [
-      | inl e ↦ lt-ltb (1 + a) (suc b) (omega (arith, ltb-true a b e)) ∙ sym e
-      | inr e ↦ le-ltb (1 + a) (suc b) (omega (arith, ltb-false a b e)) ∙ sym e
-    ]
+ltb_suc a b = grind (arith, cases_Bool, ltb, lt-ltb, ltb-true, le-ltb, ltb-false)
 
 position_here : {A : Type 0} (p : A → Bool) (x : A) (xs : List A) → p x ≡ true → position p (x ∷ xs) ≡ Some 0
 position_here p x xs passes = rw (passes, lt-ltb 0 (suc (length xs)) (omega arith)) refl
@@ -38,8 +34,7 @@ position_next p x xs fails = rw fails (ap (λ b. if b then Some (1 + position_or
   both false = refl
 
 found_next : {A : Type 0} (x : A) (xs : List A) (o : Option ℕ) → option_and_then (slice_get (x ∷ xs)) (option_map suc o) ≡ option_and_then (slice_get xs) o
-found_next x xs None = refl
-found_next x xs (Some i) = refl
+found_next x xs o = grind arith
 
 -- ---- the number of a name, and the UPS of a number, UPS by UPS
 
@@ -145,10 +140,7 @@ one_name a b u (ups ∷ upses) (n ∷ ns) distinct first second =
 
       by : ((bytes_eq ups.name a ≡ true) ⊎ (bytes_eq ups.name a ≡ false)) → ((bytes_eq ups.name b ≡ true) ⊎ (bytes_eq ups.name b ≡ false))
           → (number_of a (with_numbers upses ns) ≡ Some u → number_of b (with_numbers upses ns) ≡ Some u → a ≡ b) → a ≡ b
-      by (inl e) (inl f) rest = sym ((bytes_eq-Decides ups.name a).0 e) ∙ (bytes_eq-Decides ups.name b).0 f
-      by (inl e) (inr f) rest = absurd (true≢false (sym (here a first e) ∙ later b second f))
-      by (inr e) (inl f) rest = absurd (true≢false (sym (here b second f) ∙ later a first e))
-      by (inr e) (inr f) rest = rest (next a first e) (next b second f)
+      by is given rest = grind (arith, bytes_eq-Decides, here, later, next)
 
 -- ---- a number that a reload keeps
 
@@ -347,8 +339,7 @@ given_length before taken (ups ∷ upses) = by (number_of ups.name before) refl 
   by (Some n) e later = rw e (ap suc (later taken))
 
 step_length : (step : Step) (now : Numbering) → length now.numbers ≡ length now.upses → (k : Configuration) → k.upses ≡ now.upses → length (renumbered_by step now) ≡ length (reconfigured step k).upses
-step_length (Reloaded j) now same k is = given_length now (kept_numbers now j.upses) j.upses
-step_length step now same k is = same ∙ ap length (sym is)
+step_length step now same k is = grind (arith, given_length)
 
 one_each : (first : Configuration) (t : List Entry) → length (numbers first t) ≡ length (configuration first t).upses
 one_each first [] = below-length (length first.upses)

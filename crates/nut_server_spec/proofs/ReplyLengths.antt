@@ -1,5 +1,5 @@
 -- How long the lines of answers are, if names and values are within their limits.
-use Rattle.std.proofs.Common.{◌≡◌, ℕ, ◌+◌, ◌*◌, ◌<◌, ◌≤◌, ◌^◌, Bool, true, false, List, [], ◌∷◌, ◌++◌, length, Option, None, Some, refl, ap, ◌∙◌, arith, length-append, codes, decimal}
+use Rattle.std.proofs.Common.{◌≡◌, ℕ, ◌+◌, ◌*◌, ◌<◌, ◌≤◌, ◌^◌, Bool, List, [], ◌∷◌, ◌++◌, length, Option, Some, refl, ap, ◌∙◌, arith, length-append, codes, decimal}
 use Rattle.std.specs.Prelude.{ℤ, IfSome, if◌then◌else◌}
 use Rattle.std.specs.Fmt.{signed_decimal}
 use Rattle.std.specs.Int.Signed.{mag}
@@ -12,7 +12,6 @@ use Rattle.nut_words.specs.declared.limits.TheConstants.{NAME_MAX, UPS_NAME_MAX,
 use Rattle.nut_proto.specs.declared.part.Part.{Part}
 use Rattle.nut_proto.specs.declared.part.Part.TheVariants.{Word, Quoted, Number, QuotedNumber}
 use Rattle.nut_proto.specs.declared.refusal.Refusal.{Refusal}
-use Rattle.nut_proto.specs.declared.refusal.Refusal.TheVariants as refusals
 use Rattle.nut_proto.specs.declared.reply.Reply.{Reply}
 use Rattle.nut_proto.specs.declared.reply.Reply.TheVariants as replies
 use Rattle.nut_proto.specs.declared.reply.VariableKind.{VariableKind}
@@ -20,7 +19,6 @@ use Rattle.nut_proto.specs.declared.reply.VariableKind.TheVariants as kinds
 use Rattle.nut_proto.specs.declared.request.ListQuery.{ListQuery}
 use Rattle.nut_proto.specs.declared.limits.TheConstants.{TRACKING_NUMBER_MAX}
 use Rattle.nut_proto.specs.declared.tracking.TrackingStatus.{TrackingStatus}
-use Rattle.nut_proto.specs.declared.tracking.TrackingStatus.TheVariants as statuses
 use Rattle.nut_proto.specs.Tracking.{status_word}
 use Rattle.nut_proto.specs.laws.Bounds.{IsName}
 use Rattle.nut_proto.specs.Descriptions.{described_variables, described_commands, beside, told, variable_description, command_description}
@@ -41,8 +39,7 @@ length-reply r part parts is = ap (λ ps. length (line ps)) is ∙ length-line p
 
 name-refused : (r : Refusal) → length (refusal_name r) ≤ 22
 unfolding refusal_name
-name-refused refusals.AccessDenied = omega arith
-name-refused refusal = omega arith
+name-refused refusal = grind arith
 
 pub length-refused : (r : Refusal) → length (reply_line (replies.Refused r)) ≤ 200
 unfolding reply_line
@@ -59,12 +56,10 @@ length-accepted_as n few =
 
 pub length-tracking_is : (on : Bool) → length (reply_line (replies.TrackingIs on)) ≤ 200
 unfolding reply_line line
-length-tracking_is true = omega arith
-length-tracking_is false = omega arith
+length-tracking_is on = grind arith
 
 length-status : (status : TrackingStatus) → length (word_text (status_word status)) ≤ 7
-length-status statuses.Pending = omega arith
-length-status status = omega arith
+length-status status = grind arith
 
 pub length-tracking : (n : ℕ) (status : TrackingStatus) → n ≤ TRACKING_NUMBER_MAX → length (reply_line (replies.Tracking n status)) ≤ 200
 unfolding reply_line
@@ -108,26 +103,20 @@ length-kind other few = omega arith
 pub length-type : (ups name : List ℕ) (writable : Bool) (kind : VariableKind) → length ups ≤ UPS_NAME_MAX → length name ≤ NAME_MAX → ((m : ℕ) → kind ≡ kinds.String m → m ≤ VALUE_MAX)
     → length (reply_line (replies.Type ups name writable kind)) ≤ 1000
 unfolding reply_line
-length-type ups name true kind u n few =
-    omega (arith, length-line (Word (codes "TYPE")) (Word ups ∷ Word name ∷ Word (codes "RW") ∷ kind_part kind ∷ []), length-word ups, length-word name, length-kind kind few)
-length-type ups name false kind u n few =
-    omega (arith, length-line (Word (codes "TYPE")) (Word ups ∷ Word name ∷ kind_part kind ∷ []), length-word ups, length-word name, length-kind kind few)
+length-type ups name writable kind u n few = grind (arith, length-line, length-word, length-kind)
 
 abbrev IsShortText : Option (List ℕ) → Type 0
 IsShortText o = IfSome o (λ (t : List ℕ). length t ≤ 128)
 
 short-either : (b : Bool) (t : List ℕ) (o : Option (List ℕ)) → length t ≤ 128 → IsShortText o → IsShortText (if b then Some t else o)
-short-either true t o first second = first
-short-either false t o first second = second
+short-either b t o first second = grind arith
 
 short-beside : (name : List ℕ) (rows : List (List ℕ × List ℕ)) → AllByRecursion IsTextWithin rows → IsShortText (beside name rows)
 short-beside name [] short = tt
 short-beside name (row ∷ rows) short = short-either (bytes_eq name row.0) row.1 (beside name rows) short.0 (short-beside name rows short.1)
 
 length-told : (own other : Option (List ℕ)) → IsShortText own → IsShortText other → length (told own other) ≤ 128
-length-told (Some t) other first second = first
-length-told None (Some t) first second = second
-length-told None None first second = omega arith
+length-told own other first second = grind arith
 
 short-variables : AllByRecursion IsTextWithin described_variables
 short-variables = (omega arith, (omega arith, (omega arith, (omega arith, (omega arith, (omega arith, (omega arith, (omega arith, (omega arith, tt)))))))))
@@ -137,26 +126,22 @@ short-commands = (omega arith, (omega arith, (omega arith, (omega arith, (omega 
 
 pub length-variable_text : (rows : List (List ℕ × List ℕ)) (name : List ℕ) → AllByRecursion IsTextWithin rows → length (variable_description rows name) ≤ 128
 unfolding variable_description
-length-variable_text rows name short =
-    length-told (beside name described_variables) (beside name rows) (short-beside name described_variables short-variables) (short-beside name rows short)
+length-variable_text rows name short = grind (arith, length-told, short-beside, short-variables)
 
 pub length-command_text : (rows : List (List ℕ × List ℕ)) (name : List ℕ) → AllByRecursion IsTextWithin rows → length (command_description rows name) ≤ 128
 unfolding command_description
-length-command_text rows name short =
-    length-told (beside name described_commands) (beside name rows) (short-beside name described_commands short-commands) (short-beside name rows short)
+length-command_text rows name short = grind (arith, length-told, short-beside, short-commands)
 
 -- ---- rows of lists
 
 -- by the length of the value between its quotes
 pub length-var : (ups name value : List ℕ) → IsName UPS_NAME_MAX ups → IsName NAME_MAX name → length (reply_line (replies.Var ups name value)) ≤ 103 + length (quoted value)
 unfolding reply_line
-length-var ups name value u n =
-    omega (arith, length-line (Word (codes "VAR")) (Word ups ∷ Word name ∷ Quoted value ∷ []), length-name UPS_NAME_MAX ups u, length-name NAME_MAX name n)
+length-var ups name value u n = grind (arith, length-line, length-name)
 
 pub length-rw : (ups name value : List ℕ) → IsName UPS_NAME_MAX ups → IsName NAME_MAX name → length (reply_line (replies.Rw ups name value)) ≤ 103 + length (quoted value)
 unfolding reply_line
-length-rw ups name value u n =
-    omega (arith, length-line (Word (codes "RW")) (Word ups ∷ Word name ∷ Quoted value ∷ []), length-name UPS_NAME_MAX ups u, length-name NAME_MAX name n)
+length-rw ups name value u n = grind (arith, length-line, length-name)
 
 pub length-ups : (ups text : List ℕ) → length ups ≤ UPS_NAME_MAX → length text ≤ DESCRIPTION_MAX → length (reply_line (replies.Ups ups text)) ≤ 1300
 unfolding reply_line
@@ -168,8 +153,7 @@ length-cmd ups name u n = omega (arith, length-line (Word (codes "CMD")) (Word u
 
 pub length-enum : (ups name value : List ℕ) → length ups ≤ UPS_NAME_MAX → length name ≤ NAME_MAX → length value ≤ VALUE_MAX → length (reply_line (replies.Enum ups name value)) ≤ 1300
 unfolding reply_line
-length-enum ups name value u n v =
-    omega (arith, length-line (Word (codes "ENUM")) (Word ups ∷ Word name ∷ Quoted value ∷ []), length-word ups, length-word name, length-quoted value)
+length-enum ups name value u n v = grind (arith, length-line, length-word, length-quoted)
 
 pub length-range : (ups name : List ℕ) (low high : ℤ) → length ups ≤ UPS_NAME_MAX → length name ≤ NAME_MAX → mag low < 10 ^ 9 → mag high < 10 ^ 9
     → length (reply_line (replies.Range ups name low high)) ≤ 1300
@@ -194,5 +178,4 @@ length-client ups address u a = omega (arith, length-line (Word (codes "CLIENT")
 
 pub length-marks : (query : ListQuery) (most : ℕ) → width (query_parts query) ≤ most → length (begin_line query) + length (end_line query) ≤ 20 + 2 * most
 unfolding begin_line end_line
-length-marks query most few =
-    omega (arith, length-line (Word (codes "BEGIN")) (Word (codes "LIST") ∷ query_parts query), length-line (Word (codes "END")) (Word (codes "LIST") ∷ query_parts query))
+length-marks query most few = grind (arith, length-line)

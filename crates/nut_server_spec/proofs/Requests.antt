@@ -1,5 +1,5 @@
 -- A client's request to a driver fits behind what waits for the driver.
-use Rattle.std.proofs.Common.{◌≡◌, ℕ, ◌+◌, ◌≤◌, Bool, true, false, List, refl, sym, ◌∙◌, ap, arith, Option, Some, None}
+use Rattle.std.proofs.Common.{◌≡◌, ℕ, ◌+◌, ◌≤◌, Bool, true, false, List, refl, arith, Option, Some, None}
 use Rattle.std.specs.Prelude.{if◌then◌else◌, nat_lt}
 use Rattle.std.proofs.lemmas.Bool.{ltb-true}
 use Rattle.nut_proto.specs.declared.refusal.Refusal.{Refusal}
@@ -45,13 +45,6 @@ with_right-case P s k right name next bad good =
 
 -- ---- SET and INSTCMD
 
--- A line that fits for a UPS fits for the one on which the request acts.
-fits-there : (s : Scene) (u v : ℕ) (line own : List ℕ) → Some u ≡ Some v → Some own ≡ Some line → fits own (device_at s u) ≡ true → fits line (device_at s v) ≡ true
-fits-there s u v line own place text holds =
-    let same : u ≡ v = cc in
-    let same' : own ≡ line = cc in
-    sym (ap (λ x. fits x (device_at s v)) same') ∙ sym (ap (λ x. fits own (device_at s x)) same) ∙ holds
-
 -- ---- numbers
 
 -- the number of a request, if it has one, is the next one
@@ -84,8 +77,7 @@ set-fits s k ups name value v place line =
       P reply = request_of (Asks (requests.SetVar ups name value)) reply ≡ Some line → fits line (device_at s v) ≡ true
 
       by : (u : ℕ) → ups_number s ups ≡ Some u → (number : Option ℕ) → fits (ask_line (asks.Set name value number)) (device_at s u) ≡ true → P (accepted number)
-      by u found None holds is = fits-there s u v line (ask_line (asks.Set name value None)) (sym found ∙ place) is holds
-      by u found (Some number) holds is = fits-there s u v line (ask_line (asks.Set name value (Some number))) (sym found ∙ place) is holds
+      by u found number holds is = grind arith
 
 command-fits : (s : Scene) (k : Caller) (ups name : List ℕ) (parameter : Option (List ℕ)) (v : ℕ) → ups_number s ups ≡ Some v → (line : List ℕ)
     → request_of (Asks (requests.InstCmd ups name parameter)) (answer s k (Asks (requests.InstCmd ups name parameter))) ≡ Some line → fits line (device_at s v) ≡ true
@@ -99,15 +91,12 @@ command-fits s k ups name parameter v place line =
       P reply = request_of (Asks (requests.InstCmd ups name parameter)) reply ≡ Some line → fits line (device_at s v) ≡ true
 
       by : (u : ℕ) → ups_number s ups ≡ Some u → (number : Option ℕ) → fits (ask_line (asks.InstCmd name parameter number)) (device_at s u) ≡ true → P (accepted number)
-      by u found None holds is = fits-there s u v line (ask_line (asks.InstCmd name parameter None)) (sym found ∙ place) is holds
-      by u found (Some number) holds is = fits-there s u v line (ask_line (asks.InstCmd name parameter (Some number))) (sym found ∙ place) is holds
+      by u found number holds is = grind arith
 
 -- A line's request to a driver fits behind what waits for it. The line of a client that has logged out makes no
 -- request.
 pub asked-fits : (s : Scene) (k : Caller) (command : Command) (v : ℕ) (out : Bool) → target (numbering_in s) command ≡ Some v → (line : List ℕ)
     → request_of command (if out then Silence else answer s k command) ≡ Some line → fits line (device_at s v) ≡ true
-asked-fits s k (Asks (requests.SetVar a b c)) v false goal line is = set-fits s k a b c v goal line is
-asked-fits s k (Asks (requests.InstCmd a b c)) v false goal line is = command-fits s k a b c v goal line is
-asked-fits s k command v out goal line is = cc
+asked-fits s k command v out goal line is = grind (arith, set-fits, command-fits)
 
 -- ---- a number in an answer is the next one

@@ -1,20 +1,19 @@
 -- What a connection was sent, and what waits for it, after each event.
-use Rattle.std.proofs.Common.{◌≡◌, ℕ, ◌+◌, false, eqb, List, [], ◌∷◌, ◌++◌, take, refl, sym, ◌∙◌, ap, inl, inr, append_assoc, append-nil, Option, Some, None, subst, zero, suc}
+use Rattle.std.proofs.Common.{arith}
+use Rattle.std.proofs.Common.{◌≡◌, ℕ, false, eqb, List, [], ◌∷◌, ◌++◌, take, refl, sym, ◌∙◌, ap, inl, inr, append_assoc, append-nil, Option, Some, None, subst}
 use Rattle.std.specs.Prelude.{◌==◌, if◌then◌else◌}
 use Rattle.std.proofs.lemmas.Bool.{cases_Bool, eqb-true, eq-eqb}
 use Rattle.std.proofs.lemmas.List.{take-append-le, take-append-drop}
 use Rattle.std.proofs.Math.Seq.{take-add}
 use Rattle.nut_words.specs.Lines.{LineText}
 use Rattle.nut_words.specs.Quoting.{Begins}
-use Rattle.nut_server_spec.specs.declared.Place.TheVariants.{Line, Report}
 use Rattle.nut_server_spec.specs.declared.Refused.{Refused}
-use Rattle.nut_server_spec.specs.declared.Refused.TheVariants.{Memory}
 use Rattle.nut_server_spec.specs.Configuration.{Configuration}
 use Rattle.nut_server_spec.specs.Event.{Event, Bytes, Took, DriverBytes, Step, Said, input, taken, driver_input, steps, with_lines, brought}
 use Rattle.nut_server_spec.specs.Answer.{text_of}
 use Rattle.nut_server_spec.specs.Trace.{due, trace, answer_to}
 use Rattle.nut_server_spec.specs.Content.{Session, Content, past, content, sent, waits}
-use Rattle.nut_server_spec.specs.Acceptance.{refusal, IsAccepted, Tells, session_of, took_refusal, waiting_in, waiting_of, front, lost, lost_report}
+use Rattle.nut_server_spec.specs.Acceptance.{refusal, IsAccepted, Tells, session_of, took_refusal, waiting_in, waiting_of, lost, lost_report}
 use Rattle.nut_server_spec.specs.Outcome.{after_refusal}
 use Rattle.nut_server_spec.specs.laws.Laws.{received, SentIsReceived, SentAndWaitingIsDue, SentIsFrontOfDue}
 use Rattle.nut_server_spec.proofs.Pieces.{IsCovered}
@@ -50,23 +49,14 @@ pub sent-reports : (first : Configuration) (h : List Event) (u c : ℕ) (piece :
 sent-reports first h u c piece = ap (take (taken c h)) (due_reports first c u (brought (driver_input u h) piece) (steps h))
 
 pub sent-took : (first : Configuration) (h : List Event) (c n : ℕ) → sent first c (Took c n ∷ h) ≡ sent first c h ++ take n (waits first c h)
-sent-took first h c n = ap (λ m. take m (due c (past first h))) (here (taken c h) n) ∙ take-add (taken c h) n (due c (past first h)) where
-  here : (m n : ℕ) → (if c == c then m + n else m) ≡ m + n
-  here m n = rw (eq-eqb c c refl) refl
+sent-took first h c n = grind (arith, take-add, eq-eqb)
 
 pub sent-took_other : (first : Configuration) (h : List Event) (c d n : ℕ) → eqb d c ≡ false → sent first c (Took d n ∷ h) ≡ sent first c h
 sent-took_other first h c d n differ = rw differ refl
 
 -- An accepted event adds what c takes to what it was sent.
 pub sent-step : (first : Configuration) (h : List Event) (c : ℕ) (e : Event) → IsAccepted first h → sent first c (e ∷ h) ≡ sent first c h ++ take (taken_by c e) (waits first c h)
-sent-step first h c (Bytes d piece) accepted = sent-bytes first h d c piece (all_covered first h c accepted) ∙ sym (append-nil (sent first c h))
-sent-step first h c (Took d n) accepted =
-    elim (cases_Bool (eqb d c)) [
-      | inl e ↦ rw e (take-add (taken c h) n (due c (past first h)))
-      | inr e ↦ rw e (sym (append-nil (sent first c h)))
-    ]
-sent-step first h c (DriverBytes u piece) accepted = sent-reports first h u c piece ∙ sym (append-nil (sent first c h))
-sent-step first h c e accepted = sym (append-nil (sent first c h))
+sent-step first h c e accepted = grind (arith, sent-bytes, all_covered, append-nil, cases_Bool, take-add, sent-reports)
 
 -- An event in which c takes nothing changes nothing of what it was sent.
 pub sent-other : (first : Configuration) (h : List Event) (c : ℕ) (e : Event) → IsAccepted first h → taken_by c e ≡ 0 → sent first c (e ∷ h) ≡ sent first c h
@@ -74,38 +64,29 @@ sent-other first h c e accepted nothing = sent-step first h c e accepted ∙ ap 
 
 -- Nor does a lack of memory in a piece.
 pub sent-lost : (first : Configuration) (h : List Event) (c d : ℕ) (piece : List ℕ) (k : ℕ) → IsAccepted first h → sent first d (lost c piece k h) ≡ sent first d h
-sent-lost first h c d piece zero accepted = refl
-sent-lost first h c d piece (suc k) accepted = sent-bytes first h c d (front (suc k) piece) (all_covered first h d accepted)
+sent-lost first h c d piece k accepted = grind (arith, sent-bytes, all_covered)
 
 pub sent-lost_report : (first : Configuration) (h : List Event) (u d : ℕ) (piece : List ℕ) (k : ℕ) → sent first d (lost_report u piece k h) ≡ sent first d h
-sent-lost_report first h u d piece zero = refl
-sent-lost_report first h u d piece (suc k) = sent-reports first h u d (front (suc k) piece)
+sent-lost_report first h u d piece k = grind (arith, sent-reports)
 
 -- Nor does any other refusal.
 pub sent-refused : (first : Configuration) (h : List Event) (d : ℕ) (r : Refused) (e : Event) → IsAccepted first h → sent first d (after_refusal r e h) ≡ sent first d h
-sent-refused first h d (Memory (Line c k)) (Bytes b piece) accepted = sent-lost first h b d piece k accepted
-sent-refused first h d (Memory (Report v k)) (DriverBytes u piece) accepted = sent-lost_report first h u d piece k
-sent-refused first h d r e accepted = refl
+sent-refused first h d r e accepted = grind (arith, sent-lost, sent-lost_report)
 
 -- What the content says waits for an open connection is what the history says.
 pub waiting_is : (first : Configuration) (h : List Event) (c : ℕ) (k : Session) → session_of c (content first h).sessions ≡ Some k → waiting_of c (content first h).sessions ≡ waits first c h
 waiting_is first h c k found = ap waiting_in found ∙ ap (λ k. k.waits) (session_is first h c k found)
 
 pub waiting_is_told : (first : Configuration) (h : List Event) (s : Content) (c : ℕ) (k : Session) → Tells first h s → session_of c s.sessions ≡ Some k → waiting_of c s.sessions ≡ waits first c h
-waiting_is_told first h s c k told found =
-    let P : Content → Type 0 = λ x. session_of c x.sessions ≡ Some k → waiting_of c x.sessions ≡ waits first c h in
-    subst P (sym told.1) (waiting_is first h c k) found
+waiting_is_told first h s c k told found = grind (arith, waiting_is)
 
 -- If a connection may take bytes, it is open.
 pub open_took : (n : ℕ) (o : Option Session) → took_refusal n o ≡ None → (k : Session) × (o ≡ Some k)
-open_took n None accepted = absurd (let bad = accepted in cc)
-open_took n (Some k) accepted = (k, refl)
+open_took n o accepted = grind arith
 
 pub sent-took_told : (first : Configuration) (h : List Event) (s : Content) (c n : ℕ) → Tells first h s → refusal s (Took c n) ≡ None
     → sent first c (Took c n ∷ h) ≡ sent first c h ++ take n (waiting_of c s.sessions)
-sent-took_told first h s c n told accepted =
-    let found = open_took n (session_of c s.sessions) accepted in
-    sent-took first h c n ∙ ap (λ bytes. sent first c h ++ take n bytes) (sym (waiting_is_told first h s c found.0 told found.1))
+sent-took_told first h s c n told accepted = grind (arith, sent-took, waiting_is_told)
 
 pub sent-received : SentIsReceived
 sent-received first [] c accepted = refl

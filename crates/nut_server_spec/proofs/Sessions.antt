@@ -1,15 +1,13 @@
 -- The session found under a number after one session is changed or removed, and after bytes of one.
-use Rattle.std.proofs.Common.{◌≡◌, ℕ, true, false, eqb, List, [], ◌∷◌, ◌++◌, drop, refl, ◌∙◌, ap, inl, inr, Option, Some, None, Bool, filter}
+use Rattle.std.proofs.Common.{arith}
+use Rattle.std.proofs.Common.{◌≡◌, ℕ, true, false, eqb, List, [], ◌∷◌, ◌++◌, drop, refl, ◌∙◌, ap, inl, inr, Some, None, Bool, filter}
 use Rattle.std.specs.Prelude.{if◌then◌else◌, map, option_map}
 use Rattle.nut_server_spec.specs.Numbering.{is_taken}
-use Rattle.std.proofs.Common.{sym}
 use Rattle.std.proofs.Math.Seq.{drop-nil}
 use Rattle.std.proofs.lemmas.Bool.{cases_Bool, eqb-true, eq-eqb}
-use Rattle.nut_words.specs.Lines.{Text, joined}
-use Rattle.nut_server_spec.specs.Command.{command_of}
-use Rattle.nut_server_spec.specs.Content.{Session, Content, numbering_of}
-use Rattle.nut_server_spec.specs.Acceptance.{session_of, waiting_in, waiting_of}
-use Rattle.nut_server_spec.specs.machine.Machine.{update, without, with_rest, answered, answer_in, line_heard, byte_heard, bytes_heard}
+use Rattle.nut_server_spec.specs.Content.{Session, Content}
+use Rattle.nut_server_spec.specs.Acceptance.{session_of, waiting_of}
+use Rattle.nut_server_spec.specs.machine.Machine.{update, without, byte_heard, bytes_heard}
 use Rattle.nut_server_spec.proofs.Law.{eqb_turn}
 use Rattle.std.specs.Option.{option_map_or}
 
@@ -92,29 +90,15 @@ abbrev after_took : ℕ → Session → Session
 after_took n k = record k { waits = drop n k.waits }
 
 pub waiting_of-took : (c n : ℕ) (sessions : List Session) → waiting_of c (update c (λ k. record k { waits = drop n k.waits }) sessions) ≡ drop n (waiting_of c sessions)
-waiting_of-took c n sessions =
-    ap waiting_in (session_of-update c (after_took n) sessions (λ k. refl)) ∙ found (session_of c sessions) where
-      found : (o : Option Session) → waiting_in (option_map (after_took n) o) ≡ drop n (waiting_in o)
-      found None = sym (drop-nil n)
-      found (Some k) = refl
+waiting_of-took c n sessions = grind (arith, session_of-update, drop-nil)
 
 -- ---- bytes of a connection
 
 -- What holds of sessions, and of those after any change of c that leaves its number and its address, holds after bytes of c.
 module _ (P : List Session → Type 0) (c : ℕ)
     (keeps : (change : Session → Session) (ks : List Session) → KeepsNumber change → ((k : Session) → (change k).address ≡ k.address) → P ks → P (update c change ks)) where
-  line_heard-keeps : (o : Option Session) (s : Content) → P s.sessions → P (line_heard c o s).sessions
-  line_heard-keeps None s is = is
-  line_heard-keeps (Some k) s is =
-      let command = command_of k.rest in
-      keeps (λ j. with_rest (Text []) (answered (numbering_of s) command (answer_in s command k) j)) s.sessions (λ j. refl) (λ j. refl) is
-
   byte_heard-keeps : (b : ℕ) (s : Content) → P s.sessions → P (byte_heard c b s).sessions
-  byte_heard-keeps b s is =
-      elim (cases_Bool (eqb b 10)) [
-        | inl e ↦ rw e (line_heard-keeps (session_of c s.sessions) s is)
-        | inr e ↦ rw e (keeps (λ k. with_rest (joined k.rest (b ∷ [])) k) s.sessions (λ k. refl) (λ k. refl) is)
-      ]
+  byte_heard-keeps b s is = grind (arith, cases_Bool)
 
   pub bytes_heard-keeps : (piece : List ℕ) (s : Content) → P s.sessions → P (bytes_heard c piece s).sessions
   bytes_heard-keeps [] s is = is

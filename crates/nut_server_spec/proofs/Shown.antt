@@ -2,7 +2,6 @@
 use Rattle.std.proofs.Common.{◌≡◌, ℕ, ◌<◌, Bool, true, false, List, ◌++◌, refl, sym, ◌∙◌, ap, Some}
 use Rattle.std.specs.Prelude.{◌&&◌, codes, if◌then◌else◌, option_map}
 use Rattle.std.proofs.lemmas.Option.{get_or_from_slice_get}
-use Rattle.nut_state.specs.LookBack.{accepted, last_value}
 use Rattle.nut_state.specs.Step.{table_of}
 use Rattle.nut_state.specs.Table.{Entry as Variable, variable}
 use Rattle.nut_state.specs.laws.Holds.{EveryTableHolds}
@@ -31,10 +30,8 @@ shown_as d v named = rw named (by d.forced) where
 module _ (every : EveryTableHolds) (first : Configuration) (t : List Entry) where
   set_as : (u : ℕ) (v : Variable) → variable (table_of (reports u t)) status ≡ Some v → status_set first u t ≡ Some (shown (device first t u) v)
   set_as u v there =
-      let holds = every (reports u t) in
-      let named : v.name ≡ status = (holds.agrees.listed status v there).1 in
-      let value : last_value status (accepted (reports u t)) ≡ Some v.value = sym (holds.looks_back.value status) ∙ ap (option_map (λ (x : Variable). x.value)) there in
-      ap (option_map (λ text. if forced first u t then codes "FSD " ++ text else text)) value ∙ ap Some (sym (shown_as (device first t u) v named))
+      let named : v.name ≡ status = ((every (reports u t)).agrees.listed status v there).1 in
+      ap (option_map (λ (x : Variable). if forced first u t then codes "FSD " ++ x.value else x.value)) there ∙ ap Some (sym (shown_as (device first t u) v named))
 
   text_is : (ups text : List ℕ) (u : ℕ) (v : Variable) → u < places first t → variable (device_at (scene first t) u).table status ≡ Some v
       → Line (var_row ups (device_at (scene first t) u) v) ≡ Line (replies.Var ups status text) → status_set first u t ≡ Some text

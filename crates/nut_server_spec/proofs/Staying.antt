@@ -64,14 +64,7 @@ fate_staying first h k name u old new names is before after =
 -- A number is cleared if the UPS that has it goes.
 fate_going : (first : Configuration) (h : List Event) (k : Configuration) (name : List ℕ) (u : ℕ) → NamesAreDistinct first (Reload k ∷ h)
     → number_of name (numbering first (past first h)) ≡ Some u → ups_named name k.upses ≡ None → fate_in first h k u ≡ Cleared
-fate_going first h k name u names is after =
-    let now = numbering first (past first h) in
-    let old = number_named name u now.upses now.numbers is in
-    let was = number_is_of name u old.0 now.upses now.numbers (distinct_numbers first h names.1) is old.1 in
-    ap (λ o. fate_between o (ups_with u (then_of first h k))) was ∙ by old.0 (named_is name now.upses old.0 old.1) (ups_with u (then_of first h k)) refl where
-      by : (old : Ups) → old.name ≡ name → (o : Option Ups) → ups_with u (then_of first h k) ≡ o → fate_between (Some old) o ≡ Cleared
-      by old own None there = refl
-      by old own (Some new) there = rw (turned old.name new.name (ap (bytes_eq new.name) own ∙ ups_passes (λ x. bytes_eq x.name name) u new k.upses (then_of first h k).numbers after there)) refl
+fate_going first h k name u names is after = grind (arith, number_named, number_is_of, distinct_numbers, named_is, turned, ups_passes)
 
 -- Every number that a new name gets is cleared.
 fate_coming : (first : Configuration) (h : List Event) (k : Configuration) (name : List ℕ) (u : ℕ) → NamesAreDistinct first (Reload k ∷ h)
@@ -138,8 +131,7 @@ is_closed first h k c j found cleared =
 -- ---- the law
 
 keeps_login : (b : Bool) → is_cleared (if b then Kept else Disconnected) ≡ false
-keeps_login true = refl
-keeps_login false = refl
+keeps_login b = grind arith
 
 pub upses-stay : UpsesStay
 upses-stay = record {

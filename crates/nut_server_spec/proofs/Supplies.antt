@@ -1,10 +1,11 @@
 -- The UPS found under a number after one UPS is changed.
-use Rattle.std.proofs.Common.{◌≡◌, ℕ, zero, suc, false, eqb, List, [], ◌∷◌, drop, refl, sym, ◌∙◌, ap, inl, inr, Option, Some, None}
+use Rattle.std.proofs.Common.{arith}
+use Rattle.std.proofs.Common.{◌≡◌, ℕ, zero, suc, false, eqb, List, [], ◌∷◌, drop, refl, ◌∙◌, ap, inl, inr}
 use Rattle.std.specs.Prelude.{option_map}
 use Rattle.std.proofs.Math.Seq.{drop-nil}
 use Rattle.std.proofs.lemmas.Bool.{cases_Bool, eqb-false, ne_eqb}
 use Rattle.nut_server_spec.specs.Content.{Supply}
-use Rattle.nut_server_spec.specs.Acceptance.{supply_of, asks_in, asks_of}
+use Rattle.nut_server_spec.specs.Acceptance.{supply_of, asks_of}
 use Rattle.nut_server_spec.specs.machine.Machine.{update_at, drained, byte_reported, bytes_reported}
 
 pub supply_of-update : (u : ℕ) (change : Supply → Supply) (supplies : List Supply) → supply_of u (update_at u change supplies) ≡ option_map change (supply_of u supplies)
@@ -29,7 +30,4 @@ bytes_reported-connected time (b ∷ piece) d = bytes_reported-connected time pi
 
 -- what waits for a driver after n bytes were taken
 pub asks_of-drained : (u n : ℕ) (supplies : List Supply) → asks_of u (update_at u (drained n) supplies) ≡ drop n (asks_of u supplies)
-asks_of-drained u n supplies = ap asks_in (supply_of-update u (drained n) supplies) ∙ found (supply_of u supplies) where
-  found : (o : Option Supply) → asks_in (option_map (drained n) o) ≡ drop n (asks_in o)
-  found None = sym (drop-nil n)
-  found (Some d) = refl
+asks_of-drained u n supplies = grind (arith, supply_of-update, drop-nil)

@@ -1,6 +1,6 @@
 -- A table that lines have filled is within its limits.
-use Rattle.std.proofs.Common.{◌≡◌, ℕ, zero, suc, ◌<◌, ◌≤◌, ◌^◌, Bool, true, List, [], ◌∷◌, ◌++◌, length, reverse, refl, sym, subst, ◌∙◌, ap, arith, rules, inl, inr, Option, Some, None}
-use Rattle.std.specs.Prelude.{ℤ, pos, neg_ℤ, ◌==◌, if◌then◌else◌, filter, find, not, int_le, option_map, is_some}
+use Rattle.std.proofs.Common.{◌≡◌, ℕ, ◌<◌, ◌≤◌, ◌^◌, Bool, true, List, [], ◌∷◌, ◌++◌, length, reverse, refl, sym, subst, ◌∙◌, ap, arith, rules, inl, inr, Option, Some, None}
+use Rattle.std.specs.Prelude.{ℤ, pos, neg_ℤ, ◌==◌, if◌then◌else◌, filter, find, not, option_map, is_some}
 use Rattle.std.specs.Int.Signed.{mag}
 use Rattle.std.specs.List.{AllByRecursion, list_any}
 use Rattle.std.specs.Option.{option_and_then, option_map_or, option_to_list}
@@ -13,7 +13,7 @@ use Rattle.nut_state.specs.declared.number.Range.{Range}
 use Rattle.nut_state.specs.Change.{Change, add_range, asked_by, asked, heard, word}
 use Rattle.nut_state.specs.laws.Holds.{EveryTableHolds, IsTable, IsWithinLimits}
 use Rattle.nut_state.specs.LookBack.{accepted, accepted_after, deletes, era, is_accepted, range_added, removes_range, standing, standing_ranges}
-use Rattle.nut_words.specs.Number.{digits_value, is_natural, natural}
+use Rattle.nut_words.specs.Number.{natural}
 use Rattle.nut_state.specs.Number.{whole_number, range_of}
 use Rattle.nut_state.specs.Step.{table_of}
 use Rattle.nut_state.specs.Sorted.{named}
@@ -29,22 +29,13 @@ use Rattle.nut_state.specs.Verb.{all_verbs, says, takes, verb_of, word_of}
 -- ---- numbers of at most nine digits
 
 is_below : (text : List ℕ) (n : ℕ) → natural text ≡ Some n → n < 10 ^ 9
-is_below text n is =
-    elim (cases_Bool (is_natural text)) [
-      | inl e ↦
-          let value : Some (digits_value text) ≡ Some n = rw e at is in
-          let same : digits_value text ≡ n = cc in
-          omega (arith, natural_below text e, same)
-      | inr e ↦ absurd (let bad : None ≡ Some n = rw e at is in cc)
-    ]
+is_below text n is = grind (arith, cases_Bool, natural_below)
 
 mag_neg : (n : ℕ) → mag (neg_ℤ (pos n)) ≤ n
-mag_neg zero = omega arith
-mag_neg (suc n) = omega arith
+mag_neg n = grind arith
 
 by_natural : (o : Option ℕ) (f : ℕ → ℤ) (z : ℤ) → ((n : ℕ) → mag (f n) ≤ n) → ((n : ℕ) → o ≡ Some n → n < 10 ^ 9) → option_map f o ≡ Some z → mag z < 10 ^ 9
-by_natural None f z size small is = absurd (cc)
-by_natural (Some n) f z size small is = let same : f n ≡ z = cc in omega (arith, small n refl, size n, ap mag same)
+by_natural o f z size small is = grind arith
 
 whole_below : (text : List ℕ) (z : ℤ) → whole_number text ≡ Some z → mag z < 10 ^ 9
 whole_below [] z is = absurd (cc)
@@ -60,20 +51,7 @@ pub record IsShortRange (r : Range) : Type 0 where
   pub maximum : mag r.maximum < 10 ^ 9
 
 short_range : (low high : List ℕ) (r : Range) → range_of low high ≡ Some r → IsShortRange r
-short_range low high r is = by_numbers (whole_number low) (whole_number high) (whole_below low) (whole_below high) is where
-  by_numbers : (a b : Option ℤ) → ((z : ℤ) → a ≡ Some z → mag z < 10 ^ 9) → ((z : ℤ) → b ≡ Some z → mag z < 10 ^ 9)
-      → option_and_then (λ minimum. option_and_then (λ maximum. if int_le minimum maximum then Some (record { minimum = minimum; maximum = maximum }) else None) b) a ≡ Some r
-      → IsShortRange r
-  by_numbers None b first second is = absurd (cc)
-  by_numbers (Some x) None first second is = absurd (cc)
-  by_numbers (Some x) (Some y) first second is =
-      elim (cases_Bool (int_le x y)) [
-        | inl e ↦
-            let here : Some (record { minimum = x; maximum = y }) ≡ Some r = rw e at is in
-            let same : record { minimum = x; maximum = y } ≡ r = cc in
-            subst IsShortRange same (record { minimum = first x refl; maximum = second y refl })
-        | inr e ↦ absurd (let bad : None ≡ Some r = rw e at is in cc)
-      ]
+short_range low high r is = grind (arith, whole_below, cases_Bool)
 
 -- ---- the ranges that lines add
 

@@ -1,5 +1,5 @@
 -- What a server holds after an event and its answer is the content of the history after it.
-use Rattle.std.proofs.Common.{◌≡◌, ℕ, zero, suc, ◌≤◌, true, false, eqb, ltb, List, [], ◌∷◌, length, refl, sym, ◌∙◌, ap, arith, inl, inr, Option, Some, None, subst}
+use Rattle.std.proofs.Common.{◌≡◌, ℕ, zero, suc, ◌≤◌, false, eqb, ltb, List, [], ◌∷◌, length, refl, sym, ◌∙◌, ap, arith, inl, inr, Option, Some, None, subst}
 use Rattle.std.specs.Prelude.{Result, Ok, Err, IsTrue, option_map, slice_get}
 use Rattle.std.specs.Option.{option_map_or}
 use Rattle.nut_words.specs.Lines.{LineText, lines_after}
@@ -10,7 +10,7 @@ use Rattle.nut_server_spec.specs.declared.Place.TheVariants.{Line, Report, NewUp
 use Rattle.nut_server_spec.specs.declared.Refused.{Refused}
 use Rattle.nut_server_spec.specs.declared.Refused.TheVariants.{Memory}
 use Rattle.nut_server_spec.specs.Configuration.{Configuration}
-use Rattle.nut_server_spec.specs.Event.{Event, Bytes, Close, DriverBytes, DriverDown, Reload}
+use Rattle.nut_server_spec.specs.Event.{Event, Bytes, Close, DriverBytes, DriverDown}
 use Rattle.nut_server_spec.specs.Content.{Session, Supply, Content, content, supply, past}
 use Rattle.nut_server_spec.specs.Acceptance.{refusal, IsAccepted, Tells, front, lost, lost_report, session_of, supply_of, bytes_refusal, close_refusal, report_refusal, down_refusal}
 use Rattle.nut_server_spec.specs.machine.Machine.{advance, bytes_reported, with_supplies}
@@ -28,9 +28,7 @@ step-here : (first : Configuration) (h : List Event) (e : Event) → IsAccepted 
 step-here first h e accepted more = ((accepted, more), sym (keeps-content first h e (accepted, more)))
 
 pub tells-step : (first : Configuration) (h : List Event) (s : Content) (e : Event) → Tells first h s → refusal s e ≡ None → Tells first (e ∷ h) (advance s e)
-tells-step first h s e told =
-    let P : Content → Type 0 = λ x. refusal x e ≡ None → Tells first (e ∷ h) (advance x e) in
-    subst P (sym told.1) (step-here first h e told.0)
+tells-step first h s e told = grind (arith, step-here)
 
 pub front_short : (k : ℕ) (piece : List ℕ) → length (front k piece) ≤ length piece
 front_short zero piece = omega arith
@@ -48,17 +46,11 @@ front_fits k piece fits = le-ltb PIECE_MAX (length (front k piece)) (omega (arit
 -- ---- a piece of a connection
 
 shorter : (k : ℕ) (piece : List ℕ) (o : Option Session) → bytes_refusal piece o ≡ None → bytes_refusal (front k piece) o ≡ None
-shorter k piece None accepted = cc
-shorter k piece (Some j) accepted =
-    elim (cases_Bool (ltb PIECE_MAX (length piece))) [
-      | inl e ↦ absurd (let bad = rw e at accepted in cc)
-      | inr e ↦ rw (front_fits k piece e) (rw e at accepted)
-    ]
+shorter k piece o accepted = grind (arith, cases_Bool, ltb, front_fits)
 
 -- If a piece of a connection is accepted, the connection is open, and an open connection can be closed.
 pub bytes_open : (piece : List ℕ) (o : Option Session) → bytes_refusal piece o ≡ None → (k : Session) × (o ≡ Some k)
-bytes_open piece None accepted = absurd (let bad = accepted in cc)
-bytes_open piece (Some k) accepted = (k, refl)
+bytes_open piece o accepted = grind arith
 
 closes : (s : Content) (c : ℕ) → IsOpen c s → refusal s (Close c) ≡ None
 closes s c is = ap close_refusal is.1
@@ -76,30 +68,15 @@ tells-lost first h s c piece (suc k) told accepted =
 -- ---- a piece of a driver
 
 shorter_report : (k : ℕ) (piece : List ℕ) (o : Option Supply) → report_refusal piece o ≡ None → report_refusal (front k piece) o ≡ None
-shorter_report k piece None accepted = cc
-shorter_report k piece (Some d) accepted =
-    elim (cases_Bool d.device.connected) [
-      | inr e ↦ absurd (let bad = rw e at accepted in cc)
-      | inl e ↦ rw e (elim (cases_Bool (ltb PIECE_MAX (length piece))) [
-        | inl f ↦ absurd (let bad = rw (e, f) at accepted in cc)
-        | inr f ↦ rw (front_fits k piece f) refl
-      ])
-    ]
+shorter_report k piece o accepted = grind (arith, cases_Bool, ltb, front_fits)
 
 -- If a piece of a driver is accepted, the driver can be disconnected, also after a change that leaves it connected.
 down_now : (piece : List ℕ) (change : Supply → Supply) (o : Option Supply) → ((d : Supply) → (change d).device.connected ≡ d.device.connected) → report_refusal piece o ≡ None
     → down_refusal (option_map change o) ≡ None
-down_now piece change None keeps accepted = cc
-down_now piece change (Some d) keeps accepted =
-    elim (cases_Bool d.device.connected) [
-      | inr e ↦ absurd (let bad = rw e at accepted in cc)
-      | inl e ↦ let is : (change d).device.connected ≡ true = keeps d ∙ e in rw is refl
-    ]
+down_now piece change o keeps accepted = grind (arith, cases_Bool)
 
 downs : (s : Content) (u : ℕ) (part piece : List ℕ) → report_refusal piece (supply_of u s.supplies) ≡ None → refusal (advance s (DriverBytes u part)) (DriverDown u) ≡ None
-downs s u part piece accepted =
-    ap down_refusal (supply_of-update u (bytes_reported s.clock part) s.supplies)
-    ∙ down_now piece (bytes_reported s.clock part) (supply_of u s.supplies) (bytes_reported-connected s.clock part) accepted
+downs s u part piece accepted = grind (arith, supply_of-update, down_now, bytes_reported-connected)
 
 -- No bytes change nothing.
 no_report : (s : Content) (u : ℕ) → advance s (DriverBytes u []) ≡ s
@@ -163,12 +140,10 @@ ReportTakes piece k before behind =
 
 -- no line changes nothing
 supply_first : (time : ℕ) (piece : List ℕ) (o : Option Supply) → supply_after time piece zero o ≡ o
-supply_first time piece None = refl
-supply_first time piece (Some d) = refl
+supply_first time piece o = grind arith
 
 supply_later : (time : ℕ) (piece : List ℕ) (k : ℕ) (o : Option Supply) → supply_after time piece k o ≡ option_map (bytes_reported time (front k piece)) o
-supply_later time piece k None = refl
-supply_later time piece k (Some d) = refl
+supply_later time piece k o = grind arith
 
 runs_out_of : (first : Configuration) (h : List Event) (s : Content) (u : ℕ) (piece : List ℕ) (k : ℕ) → Tells first h s → refusal s (DriverBytes u piece) ≡ None
     → RunsOutOf s.clock piece k (supply_of u s.supplies) → MayRunOutOf first h u piece k
@@ -191,18 +166,11 @@ supplies_are : (first : Configuration) (h : List Event) → length (content firs
 supplies_are first h = length-map (ups_numbers first (past first h)) (supply first h) ∙ below-length (places first (past first h))
 
 lacks : (first : Configuration) (h : List Event) (s : Content) (e : Event) (place : Place) → Tells first h s → refusal s e ≡ None → Lacks s place e → MayLack first h place e
-lacks first h s (Bytes d piece) (Line c k) told accepted may = (may.0, runs_out first h s d piece k told accepted may.1)
-lacks first h s (DriverBytes v piece) (Report u k) told accepted may = (may.0, runs_out_of first h s v piece k told accepted may.1)
-lacks first h s (Reload j) NewUpses told accepted may = omega (arith, may, ap (λ (x : Content). length x.supplies) told.1, supplies_are first h)
-lacks first h s e (Line c k) told accepted may = absurd may
-lacks first h s e (Report u k) told accepted may = absurd may
-lacks first h s e NewUpses told accepted may = absurd may
+lacks first h s e place told accepted may = grind (arith, runs_out, runs_out_of, supplies_are)
 
 refuses : (first : Configuration) (h : List Event) (s : Content) (e : Event) (r : Refused) → Tells first h s → Refuses s e r → IsRefusal first h e r
-refuses first h s e (Memory place) told is = (subst (λ x. refusal x e ≡ None) told.1 is.0, lacks first h s e place told is.0 is.1)
-refuses first h s e r told is = subst (λ x. refusal x e ≡ Some r) told.1 is
+refuses first h s e r told is = grind (arith, lacks)
 
 -- What the machine answers is what a server may answer that was told the history.
 pub answers-told : {U : Type 0} (first : Configuration) (h : List Event) (s : Content) (e : Event) (r : Result U Refused) → Tells first h s → Answers s e r → IsAnswer first h e r
-answers-told first h s e (Ok u) told is = subst (λ x. refusal x e ≡ None) told.1 is
-answers-told first h s e (Err r) told is = refuses first h s e r told is
+answers-told first h s e r told is = grind (arith, refuses)

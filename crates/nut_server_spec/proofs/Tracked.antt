@@ -17,7 +17,7 @@ use Rattle.nut_server_spec.specs.Command.{command_of}
 use Rattle.nut_server_spec.specs.Configuration.{Configuration}
 use Rattle.nut_server_spec.specs.Content.{content, past, supply}
 use Rattle.nut_server_spec.specs.Effect.{at_target, number_in, target}
-use Rattle.nut_server_spec.specs.Event.{Step, Clock, Said, Up, Reported, Down, steps}
+use Rattle.nut_server_spec.specs.Event.{Step, Said, Up, Reported, Down, steps}
 use Rattle.nut_server_spec.specs.Numbering.{Fate, Kept, Disconnected, Cleared, Numbering, below, by_fate}
 use Rattle.nut_server_spec.specs.Trace.{Entry, numbering, places, places_after, given, given_then, tracked, tracked_after, trace, answer_at, asks_at, fate_at, closes_at, device, scene, caller, logged_out, ups_numbers}
 use Rattle.nut_server_spec.specs.Tracking.{Tracked, abandoned, all_abandoned, ended_by, judged, told_in, with_tracked}
@@ -99,8 +99,7 @@ not_yet first n (e ∷ before) are less = by (number_in e.answer) refl (not_yet 
 -- ---- the number of the UPS that was asked
 
 places_grow : (step : Step) (n : ℕ) → n ≤ places_after step n
-places_grow (Clock t) n = omega arith
-places_grow step n = omega arith
+places_grow step n = grind arith
 
 asked_within : (first : Configuration) (n w : ℕ) (t : List Entry) → AreGiven first t → asked_ups first n t ≡ Some w → w < places first t
 asked_within first n w [] are is = cc
@@ -156,38 +155,26 @@ abbrev known : TrackingStatus → Option TrackingStatus
 known Unknown = None
 known status = Some status
 
-known_status : (status : TrackingStatus) → answered (known status) ≡ status
-known_status Pending = refl
-known_status status = refl
-
 -- This change of statuses makes no unknown status known, and no known one unknown.
 abbrev KeepsKnown : (TrackingStatus → TrackingStatus) → Type 0
 KeepsKnown f = (status : TrackingStatus) → option_map f (known status) ≡ known (f status)
 
 abandoned_keeps : KeepsKnown abandoned
-abandoned_keeps Pending = refl
-abandoned_keeps status = refl
+abandoned_keeps status = grind arith
 
 judged_keeps : (told : ℕ) → KeepsKnown (judged told)
-judged_keeps told Pending = elim (cases_Bool (eqb told 0)) [ inl e ↦ rw e refl | inr e ↦ rw e refl ]
-judged_keeps told status = refl
+judged_keeps told status = grind (arith, cases_Bool)
 
 ended_keeps : (told : Option (ℕ × ℕ)) (n : ℕ) → KeepsKnown (ended_by told n)
-ended_keeps None n = λ status. option_map_id (known status)
-ended_keeps (Some told) n = by (told.0 == n) where
-  by : (b : Bool) → KeepsKnown (λ status. if b then judged told.1 status else status)
-  by true = judged_keeps told.1
-  by false = λ status. option_map_id (known status)
+ended_keeps told n = grind (arith, option_map_id, judged_keeps)
 
 -- ---- what a UPS remembers of the request
 
 either_none : (b : Bool) (o : Option TrackingStatus) → o ≡ None → (if b then o else None) ≡ None
-either_none true o is = is
-either_none false o is = refl
+either_none b o is = grind arith
 
 at_same : {A : Type 0} (u : ℕ) (o : Option ℕ) (f : A → A) (x : A) → f x ≡ x → at_target u o f x ≡ x
-at_same u None f x same = refl
-at_same u (Some v) f x same = elim (cases_Bool (eqb v u)) [ inl e ↦ rw e same | inr e ↦ rw e refl ]
+at_same u o f x same = grind (arith, cases_Bool)
 
 less_suc : (a b : ℕ) → nat_lt (a + 1) (suc b) ≡ nat_lt a b
 less_suc a b = elim (cases_Bool (nat_lt a b)) [ inl e ↦ rw e (grind (arith, nat_tests, e)) | inr e ↦ rw e (grind (arith, nat_tests, e)) ]
@@ -208,31 +195,20 @@ module _ (n u : ℕ) where
   IsAsExpected o since status xs = Remembers since (expected o status) xs
 
   expected_other : (o : Option ℕ) (status : TrackingStatus) → (o ≡ Some u → ⊥) → expected o status ≡ None
-  expected_other None status other = refl
-  expected_other (Some w) status other = elim (cases_Bool (eqb w u)) [ inl e ↦ absurd (other (ap Some (eqb-true w u e))) | inr e ↦ rw e refl ]
+  expected_other o status other = grind (arith, cases_Bool, eqb-true)
 
   expected_unknown : (o : Option ℕ) → expected o Unknown ≡ None
-  expected_unknown None = refl
-  expected_unknown (Some w) = either_none (w == u) None refl
+  expected_unknown o = grind arith
 
   expected_changed : (f : TrackingStatus → TrackingStatus) → KeepsKnown f → (o : Option ℕ) (status : TrackingStatus) → option_map f (expected o status) ≡ expected o (f status)
-  expected_changed f keeps None status = refl
-  expected_changed f keeps (Some w) status = elim (cases_Bool (eqb w u)) [ inl e ↦ rw e (keeps status) | inr e ↦ rw e refl ]
+  expected_changed f keeps o status = grind (arith, cases_Bool)
 
   of_nothing : (o : Option ℕ) (since : ℕ) → IsAsExpected o since Unknown []
-  of_nothing o since =
-      (omega arith, λ k le. ap (status_in n) (take_all k [] (omega arith)) ∙ sym (either_none (nat_lt since k) (expected o Unknown) (expected_unknown o)))
+  of_nothing o since = grind (arith, take_all, expected_unknown)
 
   of_restated : (b : Bool) (f : ℕ → TrackingStatus → TrackingStatus) → KeepsKnown (f n) → (o : Option ℕ) (since : ℕ) (status : TrackingStatus) (xs : List Tracked)
       → IsAsExpected o since status xs → IsAsExpected o since (if b then f n status else status) (if b then restated f xs else xs)
-  of_restated false f keeps o since status xs before = before
-  of_restated true f keeps o since status xs before = (
-    omega (arith, length-map xs (λ t. record t { status = f t.number t.status }), before.0),
-    λ k le. ap (status_in n) (take-map _ k xs) ∙ status_in-restated n f (take k xs) ∙ ap (option_map (f n)) (before.1 k le) ∙ among (nat_lt since k),
-  ) where
-    among : (b : Bool) → option_map (f n) (if b then expected o status else None) ≡ (if b then expected o (f n status) else None)
-    among true = expected_changed (f n) keeps o status
-    among false = refl
+  of_restated b f keeps o since status xs before = grind (arith, length-map, take-map, status_in-restated, expected_changed)
 
   -- a step that gives no number
   of_quiet : (now : Numbering) (step : Step) (reply : Answer) (o : Option ℕ) (since : ℕ) (status : TrackingStatus) (xs : List Tracked) → number_in reply ≡ None
@@ -302,9 +278,7 @@ module _ (n u : ℕ) where
 
 module _ (n : ℕ) (f : ℕ → List Tracked) where
   one_more : (k : ℕ) → status_in n (flat_map f (below (suc k))) ≡ option_or (status_in n (flat_map f (below k))) (status_in n (f k))
-  one_more k =
-      ap (status_in n) (flat_map-append f (below k) (k ∷ []) ∙ ap (λ ys. flat_map f (below k) ++ ys) (append-nil (f k)))
-      ∙ status_in-append n (flat_map f (below k)) (f k)
+  one_more k = grind (arith, flat_map-append, flat_map, append-nil, status_in-append)
 
   -- no UPS remembers the request
   nobody : (k : ℕ) → ((u : ℕ) → u < k → status_in n (f u) ≡ None) → status_in n (flat_map f (below k)) ≡ None
@@ -329,9 +303,7 @@ module _ (n : ℕ) (f : ℕ → List Tracked) where
 
 module _ (first : Configuration) (t : List Entry) (are : AreGiven first t) (n : ℕ) where
   other_forgets : (u : ℕ) → (asked_ups first n t ≡ Some u → ⊥) → status_in n (tracked first u t) ≡ None
-  other_forgets u other =
-      remembered n u first t are
-      ∙ either_none (nat_lt (given_since first u n t) TRACKED_MAX) (expected n u (asked_ups first n t) (ended u n t)) (expected_other n u (asked_ups first n t) (ended u n t) other)
+  other_forgets u other = grind (arith, remembered, expected_other)
 
   by_ups : (o : Option ℕ) → asked_ups first n t ≡ o → answered (status_in n (flat_map (λ u. tracked first u t) (ups_numbers first t))) ≡ track first n t
   by_ups None is =
@@ -346,8 +318,7 @@ module _ (first : Configuration) (t : List Entry) (are : AreGiven first t) (n : 
         own = remembered n w first t are ∙ rw (is, eq-eqb w w refl) refl
 
         by_age : (b : Bool) → answered (if b then known (ended w n t) else None) ≡ (if b then ended w n t else Unknown)
-        by_age true = known_status (ended w n t)
-        by_age false = refl
+        by_age b = grind arith
 
 pub tracking_looks_back : TrackingLooksBack
 tracking_looks_back first h n =

@@ -1,27 +1,25 @@
 -- What waits for a client: the answers to the lines of one piece, none longer than the longest.
 use Rattle.std.proofs.Common.{◌≡◌, ℕ, zero, suc, ◌+◌, ◌*◌, ◌<◌, ◌≤◌, Bool, true, false, eqb, List, [], ◌∷◌, length, map, drop, refl, sym, subst, ◌∙◌, ap, arith, inl, inr, Option, Some, None, length-append, length-drop}
-use Rattle.std.specs.Prelude.{◌&&◌, if◌then◌else◌, not, nat_lt, nat_le, option_map, filter}
-use Rattle.std.specs.List.{AllByRecursion, list_all}
+use Rattle.std.specs.Prelude.{not, filter}
+use Rattle.std.specs.List.{AllByRecursion}
 use Rattle.std.proofs.lemmas.Bool.{and_parts, cases_Bool, eqb-true, ltb-true, ltb-false, leb-true}
 use Rattle.std.proofs.lemmas.List.{length-map}
 use Rattle.nut_conf.specs.declared.limits.TheConstants.{CONNECTIONS_MAX}
 use Rattle.nut_words.specs.Lines.{LineText, Text, TooLong, joined}
 use Rattle.nut_words.specs.Reader as reader
-use Rattle.nut_words.specs.Spelling.{is_bare}
 use Rattle.nut_words.specs.declared.limits.TheConstants.{PIECE_MAX}
 use Rattle.nut_state.specs.laws.Holds.{EveryTableHolds}
 use Rattle.nut_state.specs.Table.{empty}
-use Rattle.nut_server_spec.specs.declared.Refused.TheVariants.{PieceTooLong, Busy, BadAddress, Full}
 use Rattle.nut_server_spec.specs.Configuration.{Configuration}
 use Rattle.nut_server_spec.specs.Command.{Command, Blank, command_of}
 use Rattle.nut_server_spec.specs.Event.{Event, Open, Bytes, Took, Close, WriteFailed, DriverBytes, Reload, input, driver_input, steps, brought}
-use Rattle.nut_server_spec.specs.Answer.{Answer, Silence, Guest, text_of, answer}
+use Rattle.nut_server_spec.specs.Answer.{Answer, Silence, Guest, text_of}
 use Rattle.nut_server_spec.specs.Device.{Device}
 use Rattle.nut_server_spec.specs.Effect.{target}
 use Rattle.nut_server_spec.specs.Trace.{configuration, reports, ups_numbers}
 use Rattle.nut_server_spec.specs.Content.{Session, Supply, Content, content, past, supply, numbering_of, fresh}
-use Rattle.nut_server_spec.specs.Acceptance.{IsAccepted, refusal, session_of, waiting_in, waiting_of, is_address, open_refusal, bytes_refusal}
-use Rattle.nut_server_spec.specs.machine.Machine.{advance, update, update_at, act_on, acted, answered, answer_in, caller_of, scene_of, guest_of, with_rest, line_heard, byte_heard, bytes_heard, without}
+use Rattle.nut_server_spec.specs.Acceptance.{IsAccepted, refusal, session_of, waiting_in, waiting_of, open_refusal, bytes_refusal}
+use Rattle.nut_server_spec.specs.machine.Machine.{advance, update, update_at, act_on, acted, answered, answer_in, scene_of, guest_of, with_rest, line_heard, byte_heard, bytes_heard, without}
 use Rattle.nut_server_spec.specs.laws.Laws.{IsOther, connection_of, closes, most_allowed}
 use Rattle.nut_server_spec.specs.laws.Limits.{IsWithin, WaitsAreBounded, most_waits, AreWithin}
 use Rattle.nut_server_spec.proofs.Alls.{all_append, all_filter, all_map}
@@ -64,19 +62,7 @@ few_without m c ks are = few_filter m (λ k. not (eqb k.number c)) ks are
 -- an address that is accepted has at most ADDRESS_MAX bytes, and there is room and a number
 pub opened_few : (s : Content) (address : List ℕ) → open_refusal s address ≡ None
     → (length address ≤ ADDRESS_MAX) × (length s.sessions < s.configuration.most_connections) × (s.opened < OPENED_MAX)
-opened_few s address accepted =
-    elim (cases_Bool (is_address address)) [
-      | inl e ↦
-          elim (cases_Bool (nat_lt (length s.sessions) s.configuration.most_connections && nat_lt s.opened OPENED_MAX)) [
-            | inl f ↦
-                let sizes = and_parts (nat_le 1 (length address) && nat_le (length address) ADDRESS_MAX) (list_all is_bare address) e in
-                let most = and_parts (nat_le 1 (length address)) (nat_le (length address) ADDRESS_MAX) sizes.0 in
-                let room = and_parts (nat_lt (length s.sessions) s.configuration.most_connections) (nat_lt s.opened OPENED_MAX) f in
-                (leb-true (length address) ADDRESS_MAX most.1, ltb-true (length s.sessions) s.configuration.most_connections room.0, ltb-true s.opened OPENED_MAX room.1)
-            | inr f ↦ absurd (let bad : Some Full ≡ None = rw (e, f) at accepted in cc)
-          ]
-      | inr e ↦ absurd (let bad : Some BadAddress ≡ None = rw e at accepted in cc)
-    ]
+opened_few s address accepted = grind (arith, cases_Bool, and_parts, leb-true, ltb-true)
 
 few_advance : (most : ℕ) (s : Content) (e : Event) → refusal s e ≡ None → s.configuration.most_connections ≤ most → AreFew most s.sessions → AreFew most (advance s e).sessions
 few_advance most s (Open address) accepted allowed are =
@@ -106,8 +92,7 @@ allowed first (Reload k ∷ h) =
 allowed first (e ∷ h) = allowed first h
 
 pub were_within : (first : Configuration) (e : Event) (h : List Event) → AreWithin first (e ∷ h) → AreWithin first h
-were_within first (Reload k) h within = within.1
-were_within first e h within = within
+were_within first e h within = grind arith
 
 few_next : (first : Configuration) (h : List Event) (e : Event) → IsAccepted first (e ∷ h) → AreFew (most_allowed first h) (content first h).sessions
     → AreFew (most_allowed first h) (content first (e ∷ h)).sessions
@@ -154,8 +139,7 @@ tables_at (suc u) change (d ∷ ds) keeps all = (all.0, tables_at u change ds ke
 
 tables_acted : (o : Option ℕ) (command : Command) (reply : Answer) (ds : List Supply) → AllByRecursion (λ d. IsShortTable d.device.table) ds
     → AllByRecursion (λ d. IsShortTable d.device.table) (act_on o (acted command reply) ds)
-tables_acted None command reply ds all = all
-tables_acted (Some u) command reply ds all = tables_at u (acted command reply) ds (λ d. refl) all
+tables_acted o command reply ds all = grind (arith, reply, tables_at)
 
 short_line : (c : ℕ) (o : Option Session) (s : Content) → IsShort s → IsShort (line_heard c o s)
 short_line c None s short = short
@@ -200,8 +184,7 @@ unfinished (Text (b ∷ bytes)) = 1
 unfinished TooLong = 1
 
 unfinished-le : (l : LineText) → unfinished l ≤ 1
-unfinished-le (Text (b ∷ bytes)) = omega arith
-unfinished-le other = omega arith
+unfinished-le other = grind arith
 
 -- After n bytes, with one counted for an unfinished line before them: what waits is at most this many of the longest
 -- answers, and each line answered took at least two of these bytes.
@@ -220,16 +203,10 @@ unfolding reader.read
 empty_blank = refl
 
 answer_empty : (s : Content) (k : Session) → answer_in s (command_of (Text [])) k ≡ Silence
-answer_empty s k = ap (λ command. answer_in s command k) empty_blank ∙ by_test k.logged_out where
-  by_test : (b : Bool) → (if b then Silence else Silence) ≡ Silence
-  by_test true = refl
-  by_test false = refl
+answer_empty s k = grind (arith, empty_blank)
 
 answer_in_fit : (s : Content) (command : Command) (k : Session) → IsShort s → IsReadableCommand command → IsFit (answer_in s command k)
-answer_in_fit s command k short readable = by_test k.logged_out where
-  by_test : (b : Bool) → IsFit (if b then Silence else answer (scene_of s) (caller_of k) command)
-  by_test true = fit_silence
-  by_test false = answer_fit (scene_of s) (scene_short s short) (caller_of k) command readable
+answer_in_fit s command k short readable = grind (arith, IsFit, fit_silence, answer_fit, scene_short)
 
 served_line : (n : ℕ) (s : Content) (k : Session) → IsShort s → IsServed n k
     → IsServed (n + 1) (with_rest (Text []) (answered (numbering_of s) (command_of k.rest) (answer_in s (command_of k.rest) k) k))
@@ -248,15 +225,7 @@ served_line n s k short served = by_rest k.rest refl where
   }
 
   by_rest : (r : LineText) → k.rest ≡ r → IsServed (n + 1) later
-  by_rest (Text []) is =
-      let silent : reply ≡ Silence = ap (λ r. answer_in s (command_of r) k) is ∙ answer_empty s k in
-      record {
-        lines = served.lines;
-        answers = omega (arith, length-append k.waits (text_of reply), ap (λ a. length (text_of a)) silent, length-silence, served.answers);
-        heard = omega (arith, served.heard);
-      }
-  by_rest (Text (b ∷ bytes)) is = one_more (ap unfinished is)
-  by_rest TooLong is = one_more (ap unfinished is)
+  by_rest r is = grind (arith, reply, answer_empty, length-append, length-silence, one_more)
 
 -- what is done if c is open
 abbrev AreServed : ℕ → ℕ → Content → Type 0
@@ -265,19 +234,10 @@ AreServed c n s = (k : Session) → session_of c s.sessions ≡ Some k → IsSer
 -- A session that is found after a change is the changed one.
 found_changed : (c : ℕ) (change : Session → Session) (ks : List Session) (k : Session) → ((j : Session) → (change j).number ≡ j.number) → session_of c (update c change ks) ≡ Some k
     → (j : Session) × (session_of c ks ≡ Some j) × (change j ≡ k)
-found_changed c change ks k keeps there = by_found (session_of c ks) refl where
-  by_found : (o : Option Session) → session_of c ks ≡ o → (j : Session) × (session_of c ks ≡ Some j) × (change j ≡ k)
-  by_found None is = absurd (let bad : None ≡ Some k = sym (session_of-update c change ks keeps ∙ ap (option_map change) is) ∙ there in cc)
-  by_found (Some j) is = let same : Some (change j) ≡ Some k = sym (session_of-update c change ks keeps ∙ ap (option_map change) is) ∙ there in (j, is, cc)
+found_changed c change ks k keeps there = grind (arith, session_of-update)
 
 served_feed : (c n : ℕ) (s : Content) (o : Option Session) → IsShort s → session_of c s.sessions ≡ o → AreServed c n s → AreServed c (n + 1) (line_heard c o s)
-served_feed c n s None short is served k there = absurd (let bad : None ≡ Some k = sym is ∙ there in cc)
-served_feed c n s (Some j) short is served k there =
-    let change : Session → Session = λ k. with_rest (Text []) (answered (numbering_of s) (command_of j.rest) (answer_in s (command_of j.rest) j) k) in
-    let found = found_changed c change s.sessions k (λ k. refl) there in
-    let one : Some found.0 ≡ Some j = sym found.1 ∙ is in
-    let this : found.0 ≡ j = cc in
-    subst (IsServed (n + 1)) (ap change (sym this) ∙ found.2) (served_line n s j short (served j is))
+served_feed c n s o short is served k there = grind (arith, found_changed, served_line)
 
 served_byte : (c b n : ℕ) (s : Content) → IsShort s → AreServed c n s → AreServed c (n + 1) (byte_heard c b s)
 served_byte c b n s short served k there =
@@ -301,16 +261,7 @@ served_bytes c (b ∷ bytes) n m s le short served = served_bytes c bytes (n + 1
 
 -- If a piece is accepted, it is short and nothing waits.
 pub piece_accepted : (piece : List ℕ) (o : Option Session) → bytes_refusal piece o ≡ None → (length piece ≤ PIECE_MAX) × (length (waiting_in o) ≤ 0)
-piece_accepted piece None accepted = absurd (cc)
-piece_accepted piece (Some k) accepted =
-    elim (cases_Bool (nat_lt PIECE_MAX (length piece))) [
-      | inl e ↦ absurd (let bad : Some PieceTooLong ≡ None = rw e at accepted in cc)
-      | inr e ↦
-          elim (cases_Bool (nat_lt 0 (length k.waits))) [
-            | inl f ↦ absurd (let bad : Some Busy ≡ None = rw (e, f) at accepted in cc)
-            | inr f ↦ (ltb-false PIECE_MAX (length piece) e, ltb-false 0 (length k.waits) f)
-          ]
-    ]
+piece_accepted piece o accepted = grind (arith, cases_Bool, ltb-false)
 
 piece_bounded : (s : Content) (c : ℕ) (piece : List ℕ) (k : Session) → IsShort s → refusal s (Bytes c piece) ≡ None → session_of c (bytes_heard c piece s).sessions ≡ Some k → length k.waits ≤ most_waits
 piece_bounded s c piece k short accepted there =
@@ -325,8 +276,7 @@ piece_bounded s c piece k short accepted there =
 -- ---- every history
 
 waiting_bounded : (o : Option Session) → ((k : Session) → o ≡ Some k → length k.waits ≤ most_waits) → length (waiting_in o) ≤ most_waits
-waiting_bounded None bounded = omega arith
-waiting_bounded (Some k) bounded = bounded k refl
+waiting_bounded o bounded = grind arith
 
 abbrev AreBounded : ℕ → Content → Type 0
 AreBounded d s = (k : Session) → session_of d s.sessions ≡ Some k → length k.waits ≤ most_waits
@@ -337,11 +287,7 @@ bounded_other s e d other stays bounded k there = bounded k (sym (advance-other 
 module _ (first : Configuration) (h : List Event) (d : ℕ) (short : IsShort (content first h)) (bounded : AreBounded d (content first h)) where
   -- an event of d itself, or of another connection
   bounded_of : (e : Event) (c : ℕ) → connection_of (content first h) e ≡ Some c → closes (content first h) e d ≡ false → (c ≡ d → AreBounded d (advance (content first h) e)) → AreBounded d (advance (content first h) e)
-  bounded_of e c is stays own =
-      elim (cases_Bool (eqb c d)) [
-        | inl t ↦ own (eqb-true c d t)
-        | inr t ↦ bounded_other (content first h) e d (let P : Option ℕ → Type 0 = IsOther d in subst P (sym is) t) stays bounded
-      ]
+  bounded_of e c is stays own = grind (arith, cases_Bool, eqb-true, bounded_other)
 
   bounded_advance : (e : Event) → IsAccepted first (e ∷ h) → AreBounded d (advance (content first h) e)
   bounded_advance (Open address) accepted = bounded_of (Open address) ((content first h).opened + 1) refl refl (λ is k there.

@@ -1,3 +1,4 @@
 pub mod Examples
 pub mod DriverExamples
 pub mod ReloadExamples
+pub mod RightExamples

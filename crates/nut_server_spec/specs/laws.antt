@@ -3,3 +3,4 @@ pub mod Laws
 pub mod Tracked
 pub mod Reloads
 pub mod Shown
+pub mod Rights

@@ -7,9 +7,11 @@ ghost use Rattle.nut_server_spec.specs.machine.MachineOutcome.{AnswersKeepConten
 ghost use Rattle.nut_server_spec.specs.examples.Examples.{ConnectionExamples};
 ghost use Rattle.nut_server_spec.specs.examples.DriverExamples.{DriverExamples, EdgeExamples, TrackingExamples, UserExamples};
 ghost use Rattle.nut_server_spec.specs.examples.ReloadExamples.{ReloadEdgeExamples, ReloadExamples};
+ghost use Rattle.nut_server_spec.specs.examples.RightExamples.{RightExamples};
 ghost use Rattle.nut_server_spec.specs.laws.Laws.{BoundsHold, ClosedStaysClosed, ConnectionsAreFew, CutsAndWritesDoNotMatter, CutsDoNotMatter, DriverCutsAndWritesDoNotMatter, DriverCutsDoNotMatter, DriverSentAndWaitingIsDue, DriverSentIsReceived, LogoutIsFinal, NumbersRise, OpenedIsFresh, OtherDriversStay, OthersStay, SameStepsSameAnswers, SentAndWaitingIsDue, SentIsFrontOfDue, SentIsReceived, WaitsForOnePiece};
 ghost use Rattle.nut_server_spec.specs.laws.Limits.{AnswersAreBounded, WaitsAreBounded};
 ghost use Rattle.nut_server_spec.specs.laws.Reloads.{KeepsItsNumber, NumbersAreDistinct, ReloadIsDownsThenClosesThenItself, UpsesStay};
+ghost use Rattle.nut_server_spec.specs.laws.Rights.{NothingWithoutTheRight};
 ghost use Rattle.nut_server_spec.specs.laws.Shown.{StatusIsTheDrivers};
 ghost use Rattle.nut_server_spec.specs.laws.Tracked.{TrackingLooksBack};
 
@@ -211,6 +213,7 @@ pub fn worked_examples()
     ensures tracking { TrackingExamples }
     ensures reloads { ReloadExamples }
     ensures reload_edges { ReloadEdgeExamples }
+    ensures rights { RightExamples }
 {}
 
 /// States a law and does nothing when called: what is remembered of a tracked request is what looking back over the
@@ -219,14 +222,22 @@ pub fn tracking_looks_back()
     ensures { TrackingLooksBack }
 {}
 
-/// States a law and does nothing when called: the text of `GET VAR` for `ups.status` is that of the last SETINFO of the
-/// UPS's driver, or `FSD ` and that text. So in this answer only `FSD` is the server's own word. LIST VAR and LIST RW are
+/// States a law and does nothing when called: the text of `GET VAR` for `ups.status` is that of the UPS's table, which
+/// its driver set last, or `FSD ` and that text. So in this answer only `FSD` is the server's own word. LIST VAR and LIST RW are
 /// outside this law.
 pub fn status_is_the_drivers()
     ensures { StatusIsTheDrivers }
 {
     every_table_holds();
 }
+
+/// States a law and does nothing when called: SET VAR, INSTCMD, LOGIN, PRIMARY and FSD are granted only to who has the
+/// right. A connection has it if it has given the name and the password of a user with that right, each answered OK, by
+/// the configuration in force. No line of any other connection has a driver asked for anything, logs anybody in or forces
+/// a shutdown. An answer grants unless it is ERR, or the silence after LOGOUT.
+pub fn nothing_without_the_right()
+    ensures { NothingWithoutTheRight }
+{}
 
 /// States a law and does nothing when called: a reload comes to the same as its parts in turn. The drivers that it
 /// disconnects go down one by one, then the connections that it closes are closed one by one, and then it comes itself.

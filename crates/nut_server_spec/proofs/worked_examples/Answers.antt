@@ -13,6 +13,7 @@ use Rattle.nut_proto.specs.Refusals.{refusal_name}
 use Rattle.nut_proto.specs.Replies.{reply_line}
 use Rattle.nut_proto.specs.Requests.{begin_line, end_line}
 use Rattle.nut_server_spec.specs.Answer.{text_of}
+use Rattle.nut_server_spec.proofs.RightsDecided.{right-examples}
 use Rattle.nut_server_spec.proofs.worked_examples.Goals as goal
 
 -- The examples are computed.
@@ -43,3 +44,6 @@ returns-clause-reloads c = search
 pub returns-clause-reload_edges : goal.returns-clause-reload_edges
 unfolding digits read named put asked heard accepts changed after applied verb_of ask_line meaning command_of line refusal_name reply_line begin_line end_line text_of
 returns-clause-reload_edges c = search
+
+pub returns-clause-rights : goal.returns-clause-rights
+returns-clause-rights c = right-examples
