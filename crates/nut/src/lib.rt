@@ -28,7 +28,7 @@ pub use nut_io::{Fault, Piece, ServeFault, Written};
 pub use nut_server_loop::{Next, World, serve};
 
 /// A server's world over memory, and its loop.
-pub use nut_server_loop::{Given, MemoryWorld, Note, serve_memory};
+pub use nut_server_loop::{Given, MemoryWorld, Note, Peer, serve_memory};
 
 /// A server's world of one client over a reader and a writer.
 pub use nut_server_loop::{Stream, StreamWorld};

@@ -5,7 +5,7 @@ ghost use Rattle.nut_conf.specs.Memory.{MayRunOut};
 ghost use Rattle.nut_conf.specs.Descriptions.{DescriptionsHold, descriptions_fault, descriptions_grow, rows_of};
 
 use crate::directives::Directives;
-use crate::fault::{ConfFault, FaultKind};
+use crate::fault::{ConfFault, FaultKind, Misread};
 use crate::file::read_draft;
 use crate::line::Line;
 use crate::texts::Texts;
@@ -50,10 +50,18 @@ pub enum DescriptionDirective {
     Command,
 }
 
-/// Each directive, with its word.
-const DIRECTIVES: [(&[u8], DescriptionDirective); 2] = [
-    (b"VARDESC", DescriptionDirective::Variable),
-    (b"CMDDESC", DescriptionDirective::Command),
+/// Each directive, with its word and what its lines look like.
+const DIRECTIVES: [(&[u8], DescriptionDirective, &str); 2] = [
+    (
+        b"VARDESC",
+        DescriptionDirective::Variable,
+        "VARDESC NAME \"TEXT\"",
+    ),
+    (
+        b"CMDDESC",
+        DescriptionDirective::Command,
+        "CMDDESC NAME \"TEXT\"",
+    ),
 ];
 
 impl Directives for Descriptions {
@@ -68,7 +76,7 @@ impl Directives for Descriptions {
 
     ghost found = { description_found };
 
-    fn rows() -> &'static [(&'static [u8], DescriptionDirective)] {
+    fn rows() -> &'static [(&'static [u8], DescriptionDirective, &'static str)] {
         &DIRECTIVES
     }
 
@@ -76,7 +84,7 @@ impl Directives for Descriptions {
         Descriptions::new(alloc)
     }
 
-    fn set(&mut self, directive: DescriptionDirective, line: &Line<'_>) -> Result<(), FaultKind> {
+    fn set(&mut self, directive: DescriptionDirective, line: &Line<'_>) -> Result<(), Misread> {
         match directive {
             DescriptionDirective::Variable => self.variables.put(line),
             DescriptionDirective::Command => self.commands.put(line),

@@ -7,11 +7,18 @@ ghost use Rattle.nut_conf.specs.Settings.{Puts, line_fault};
 ghost use Rattle.nut_conf.specs.Rows.{Row, row_of, line_grows, directives_of, RowsHold};
 ghost use Rattle.nut_conf.specs.inside.Apart.{set_apart};
 ghost use Rattle.nut_conf.specs.inside.Drafts.{Takes};
+ghost use Rattle.nut_conf.specs.inside.Misreads.{bare};
 ghost use Rattle.nut_conf.specs.declared.fault.FaultKind.{FaultKind};
 
+use crate::descriptions::Descriptions;
 use crate::draft::Draft;
-use crate::fault::FaultKind;
+use crate::fault::{FaultKind, Misread};
+use crate::hint::{Expected, Hint};
 use crate::line::Line;
+use crate::ups::Ups;
+use crate::upsd::UpsdConf;
+use crate::upsmon::MonConfig;
+use crate::users::User;
 use std::alloc::Global;
 
 /// A configuration with a field for each directive of a table.
@@ -25,8 +32,8 @@ pub trait Directives: Drop + Sized {
     /// The row of a directive.
     ghost table: { Self.Directive → Row Self };
 
-    /// Returns each directive with its word.
-    fn rows() -> &'static [(&'static [u8], Self::Directive)]
+    /// Returns each directive with its word, and what its lines look like.
+    fn rows() -> &'static [(&'static [u8], Self::Directive, &'static str)]
         ensures { map {B = List ℕ × Self.Directive} (λ r. (r.0.now, r.1)) result.now ≡ map (λ d. ((table d).directive.word, d)) all };
 
     /// Returns the configuration of a file without lines.
@@ -34,51 +41,57 @@ pub trait Directives: Drop + Sized {
         ensures { RowsHold table result [] };
 
     /// Adds what a line of this directive sets, or returns the line's first fault. Changes nothing else.
-    fn set(&mut self, directive: Self::Directive, line: &Line<'_>) -> Result<(), FaultKind>
+    fn set(&mut self, directive: Self::Directive, line: &Line<'_>) -> Result<(), Misread>
         ensures puts { Puts (table directive).directive.rule ((table directive).set self.old)
-            line.now.words result ((table directive).set self.new) }
+            line.now.words (bare result) ((table directive).set self.new) }
         ensures apart { set_apart table all (table directive).directive.word self.new
             ≡ set_apart table all (table directive).directive.word self.old }
-        ensures memory { result ≡ Err FaultKind.Memory → IsTrue (table directive).grows };
+        ensures memory { bare result ≡ Err FaultKind.Memory → IsTrue (table directive).grows };
 
     /// The table has each directive under its word.
     ghost found: { (d : Self.Directive) → row_of table all (table d).directive.word ≡ Some d };
 }
 
 /// Returns the row with this word, if there is one.
-fn row_with<'a, D>(rows: &'a [(&'static [u8], D)], word: &[u8]) -> Option<&'a (&'static [u8], D)>
+fn row_with<'a, D>(
+    rows: &'a [(&'static [u8], D, &'static str)],
+    word: &[u8],
+) -> Option<&'a (&'static [u8], D, &'static str)>
     ensures { option_copied result ≡ find (λ r. bytes_eq word.now r.0.now) rows.now }
 {
     rows.iter().find(|row| word == row.0)
 }
 
-/// Returns the directive of the row with this word, if there is one.
-fn directive_with<'a, D>(rows: &'a [(&'static [u8], D)], word: &[u8]) -> Option<&'a D>
-    ensures { option_copied result ≡ option_map (λ r. r.1) (find (λ r. bytes_eq word.now r.0.now) rows.now) }
+/// Returns the directive with this word, if there is one, and what its lines look like.
+fn named<T: Directives>(word: &[u8]) -> Option<(T::Directive, &'static str)>
+    ensures { option_map (λ r. r.0) result ≡ row_of T.table T.all word.now }
 {
-    match row_with(rows, word) {
-        Some(row) => Some(&row.1),
+    match row_with(T::rows(), word) {
+        Some(row) => Some((row.1, row.2)),
         None => None,
     }
 }
 
-/// Returns the directive with this word, if there is one.
-fn named<T: Directives>(word: &[u8]) -> Option<T::Directive>
-    ensures { result ≡ row_of T.table T.all word.now }
-{
-    directive_with(T::rows(), word).copied()
-}
-
 /// Adds what a line sets to the configuration, or returns the line's first fault.
-fn put_line<T: Directives>(conf: &mut T, line: &Line<'_>) -> Result<(), FaultKind>
-    ensures memory { result ≡ Err FaultKind.Memory → IsTrue (line_grows T.table T.all line.now.words) }
+fn put_line<T: Directives>(conf: &mut T, line: &Line<'_>) -> Result<(), Misread>
+    ensures memory { bare result ≡ Err FaultKind.Memory → IsTrue (line_grows T.table T.all line.now.words) }
     ensures takes { (before : List (List (List ℕ))) → RowsHold T.table conf.old before
-        → Takes (line_fault (directives_of T.table T.all) before line.now.words) result
+        → Takes (line_fault (directives_of T.table T.all) before line.now.words) (bare result)
         (RowsHold T.table conf.new (before ++ line.now.words ∷ [])) }
 {
-    match named::<T>(line.directive()) {
-        Some(directive) => conf.set(directive, line),
-        None => Err(FaultKind::UnknownDirective),
+    let Some(named) = named::<T>(line.directive()) else {
+        let expected = Expected::Directive;
+        return Err(Misread::of_word(0, FaultKind::UnknownDirective, expected));
+    };
+    match conf.set(named.0, line) {
+        Ok(()) => Ok(()),
+        Err(fault) => Err(Misread {
+            kind: fault.kind,
+            hint: Hint {
+                form: named.1,
+                ..fault.hint
+            },
+        }),
     }
 }
 
@@ -96,7 +109,25 @@ impl<T: Directives> Draft for T {
         T::unset(alloc)
     }
 
-    fn put(&mut self, line: &Line<'_>) -> Result<(), FaultKind> {
+    fn knows(word: &[u8]) -> bool {
+        named::<T>(word).is_some()
+    }
+
+    fn put(&mut self, line: &Line<'_>) -> Result<(), Misread> {
         put_line(self, line)
     }
+}
+
+/// Whether there is a directive with this word, of whatever file, in small or in capital letters.
+pub fn is_directive(word: &[u8]) -> bool {
+    is_in::<Ups>(word)
+        || is_in::<User>(word)
+        || is_in::<UpsdConf>(word)
+        || is_in::<MonConfig>(word)
+        || is_in::<Descriptions>(word)
+}
+
+/// Whether the table has a directive with this word, in small or in capital letters.
+fn is_in<T: Directives>(word: &[u8]) -> bool {
+    T::rows().iter().any(|row| row.0.eq_ignore_ascii_case(word))
 }

@@ -1,9 +1,10 @@
 //! Configurations that are built up line by line.
 ghost use Rattle.std.specs.Prelude.{◌≡◌, ◌∷◌, ◌++◌, ℕ, Bool, List, [], Option, Err, IsTrue};
 ghost use Rattle.nut_conf.specs.inside.Drafts.{Takes};
+ghost use Rattle.nut_conf.specs.inside.Misreads.{bare};
 ghost use Rattle.nut_conf.specs.declared.fault.FaultKind.{FaultKind};
 
-use crate::fault::FaultKind;
+use crate::fault::{FaultKind, Misread};
 use crate::line::Line;
 use std::alloc::Global;
 
@@ -22,9 +23,12 @@ pub trait Draft: Drop + Sized {
     fn new(alloc: Global) -> Self
         ensures { Holds result [] };
 
+    /// Whether a line of the file may begin with this word, at least in a section.
+    fn knows(word: &[u8]) -> bool;
+
     /// Adds what a line sets, or returns the line's first fault.
-    fn put(&mut self, line: &Line<'_>) -> Result<(), FaultKind>
-        ensures memory { result ≡ Err FaultKind.Memory → IsTrue (grows line.now.words) }
+    fn put(&mut self, line: &Line<'_>) -> Result<(), Misread>
+        ensures memory { bare result ≡ Err FaultKind.Memory → IsTrue (grows line.now.words) }
         ensures takes { (before : List (List (List ℕ))) → Holds self.old before
-            → Takes (fault before line.now.words) result (Holds self.new (before ++ line.now.words ∷ [])) };
+            → Takes (fault before line.now.words) (bare result) (Holds self.new (before ++ line.now.words ∷ [])) };
 }

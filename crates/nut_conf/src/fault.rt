@@ -2,6 +2,7 @@
 ghost use Rattle.std.specs.Prelude.{◌≡◌, codes};
 ghost use Rattle.nut_conf.specs.declared.fault.FaultKind.TheVariants.{Memory};
 
+use crate::hint::{Expected, Hint};
 use std::alloc::{AllocError, AllocFailed};
 use thiserror::Error;
 
@@ -59,6 +60,44 @@ impl<T: Drop> From<AllocFailed<T>> for FaultKind {
     }
 }
 
+/// Why a line can't be read: what is wrong with it, and where.
+#[derive(Clone, Copy)]
+pub struct Misread {
+    pub kind: FaultKind,
+    pub hint: Hint,
+}
+
+impl Misread {
+    /// Returns a fault of the line as a whole.
+    pub fn of_line(kind: FaultKind, expected: Expected) -> Self
+        ensures { result.kind ≡ kind }
+    {
+        Misread {
+            kind,
+            hint: Hint::of_line(expected),
+        }
+    }
+
+    /// Returns a fault at the word in this place, counted from 0.
+    pub fn of_word(word: usize, kind: FaultKind, expected: Expected) -> Self
+        ensures { result.kind ≡ kind }
+    {
+        let hint = Hint {
+            word: Some(word),
+            ..Hint::of_line(expected)
+        };
+        Misread { kind, hint }
+    }
+}
+
+impl<T: Drop> From<AllocFailed<T>> for Misread {
+    ghost from_gives = { λ _ m. m.kind ≡ Memory };
+
+    fn from(_error: AllocFailed<T>) -> Misread {
+        Misread::of_line(FaultKind::Memory, Expected::Nothing)
+    }
+}
+
 /// The first fault of a file, and its line. Its text is, for example, `2: Repeated`.
 #[derive(Clone, Copy, Debug, PartialEq, Eq, Error)]
 #[error("{line}: {kind}")]
@@ -67,4 +106,12 @@ pub struct ConfFault {
     pub line: u32,
     /// What is wrong with the line.
     pub kind: FaultKind,
+    pub(crate) hint: Hint,
+}
+
+impl ConfFault {
+    /// Returns where in the line the fault lies, and what is expected there.
+    pub fn hint(&self) -> Hint {
+        self.hint
+    }
 }

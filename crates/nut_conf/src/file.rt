@@ -4,19 +4,21 @@ ghost use Rattle.nut_conf.specs.Faults.{Fails};
 ghost use Rattle.nut_conf.specs.Values.{Words as LineWords};
 ghost use Rattle.nut_conf.specs.Files.{Means, read_file, with_line};
 ghost use Rattle.nut_conf.specs.Memory.{MayRunOut, MayTake};
+ghost use Rattle.nut_conf.specs.inside.Misreads.{bare};
 
 use crate::draft::Draft;
-use crate::fault::{ConfFault, FaultKind};
+use crate::fault::{ConfFault, FaultKind, Misread};
+use crate::hint::{Expected, Hint};
 use crate::limits::FILE_MAX;
 use crate::line::Line;
 use nut_words::cut;
 use std::alloc::Global;
 
 /// Adds what a line of the file sets to the draft. A blank line changes nothing.
-fn take_line<D: Draft>(alloc: Global, draft: &mut D, bytes: &[u8]) -> Result<(), FaultKind>
-    ensures memory { (before : List LineWords) → D.Holds draft.old before → result ≡ Err FaultKind.Memory → MayTake D.fault D.grows before bytes.now }
+fn take_line<D: Draft>(alloc: Global, draft: &mut D, bytes: &[u8]) -> Result<(), Misread>
+    ensures memory { (before : List LineWords) → D.Holds draft.old before → bare result ≡ Err FaultKind.Memory → MayTake D.fault D.grows before bytes.now }
     ensures takes { (before : List LineWords) → D.Holds draft.old before
-        → MatchResult result (λ _. (after : List LineWords) × (with_line D.fault before bytes.now ≡ Ok after) × D.Holds draft.new after) (λ k. Fails k (with_line D.fault before bytes.now)) }
+        → MatchResult (bare result) (λ _. (after : List LineWords) × (with_line D.fault before bytes.now ≡ Ok after) × D.Holds draft.new after) (λ k. Fails k (with_line D.fault before bytes.now)) }
 {
     match Line::read(alloc, bytes)? {
         Some(line) => draft.put(&line),
@@ -33,6 +35,7 @@ pub fn read_draft<D: Draft>(alloc: Global, bytes: &[u8]) -> Result<D, ConfFault>
         return Err(ConfFault {
             line: 0,
             kind: FaultKind::PastLimit,
+            hint: Hint::of_line(Expected::ShorterFile),
         });
     }
     let mut draft = D::new(alloc);
@@ -42,8 +45,12 @@ pub fn read_draft<D: Draft>(alloc: Global, bytes: &[u8]) -> Result<D, ConfFault>
         let (line, behind) = cut(b'\n', text);
         rest = behind;
         number += 1;
-        if let Err(kind) = take_line(alloc, &mut draft, line) {
-            return Err(ConfFault { line: number, kind });
+        if let Err(fault) = take_line(alloc, &mut draft, line) {
+            return Err(ConfFault {
+                line: number,
+                kind: fault.kind,
+                hint: fault.hint,
+            });
         }
     }
     Ok(draft)

@@ -9,6 +9,7 @@ mod directives;
 mod draft;
 mod fault;
 mod file;
+mod hint;
 mod host;
 mod laws;
 mod limits;
@@ -29,7 +30,9 @@ mod users;
 mod values;
 
 pub use descriptions::{DescriptionDirective, Descriptions, read_descriptions};
+pub use directives::is_directive;
 pub use fault::{ConfFault, FaultKind};
+pub use hint::{Expected, Hint};
 pub use host::{Address, Host};
 pub use laws::{blank_lines_change_nothing, first_fault, names_are_distinct, rules_are_kept};
 pub use limits::{

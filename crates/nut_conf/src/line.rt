@@ -6,8 +6,10 @@ ghost use Rattle.nut_words.specs.Reader.{has_backslash};
 ghost use Rattle.nut_words.specs.Spelling.{is_printing};
 ghost use Rattle.nut_conf.specs.Faults.{Gives};
 ghost use Rattle.nut_conf.specs.Files.{words_of};
+ghost use Rattle.nut_conf.specs.inside.Misreads.{bare};
 
-use crate::fault::FaultKind;
+use crate::fault::{FaultKind, Misread};
+use crate::hint::Expected;
 use crate::limits::FILE_LINE_MAX;
 use nut_words::{WordFault, Words, split};
 use std::alloc::Global;
@@ -21,25 +23,25 @@ pub struct Line<'a> {
 }
 
 /// Reads the words of a line of at most [`FILE_LINE_MAX`] bytes.
-fn words(alloc: Global, bytes: &[u8]) -> Result<Words<'_>, FaultKind>
-    ensures words { Gives (λ words. words) result (words_of bytes.now) }
-    ensures memory { result ≡ Err FaultKind.Memory → (length bytes.now ≤ FILE_LINE_MAX) × IsTrue (has_backslash bytes.now) }
+fn words(alloc: Global, bytes: &[u8]) -> Result<Words<'_>, Misread>
+    ensures words { Gives (λ words. words) (bare result) (words_of bytes.now) }
+    ensures memory { bare result ≡ Err FaultKind.Memory → (length bytes.now ≤ FILE_LINE_MAX) × IsTrue (has_backslash bytes.now) }
 {
     if bytes.len() > FILE_LINE_MAX {
-        return Err(FaultKind::PastLimit);
+        return Err(Misread::of_line(FaultKind::PastLimit, Expected::ShorterLine));
     }
     match split(alloc, bytes) {
         Ok(words) => Ok(words),
-        Err(WordFault::Memory) => Err(FaultKind::Memory),
-        Err(_) => Err(FaultKind::Unreadable),
+        Err(WordFault::Memory) => Err(Misread::of_line(FaultKind::Memory, Expected::Nothing)),
+        Err(fault) => Err(Misread::of_line(FaultKind::Unreadable, Expected::Readable(fault))),
     }
 }
 
 impl<'a> Line<'a> {
     /// Reads a line. Returns `None` for a blank line.
-    pub fn read(alloc: Global, bytes: &'a [u8]) -> Result<Option<Self>, FaultKind>
-        ensures line { Gives (λ line. option_map_or (λ l. l.words) line []) result (words_of bytes.now) }
-        ensures memory { result ≡ Err FaultKind.Memory → (length bytes.now ≤ FILE_LINE_MAX) × IsTrue (has_backslash bytes.now) }
+    pub fn read(alloc: Global, bytes: &'a [u8]) -> Result<Option<Self>, Misread>
+        ensures line { Gives (λ line. option_map_or (λ l. l.words) line []) (bare result) (words_of bytes.now) }
+        ensures memory { bare result ≡ Err FaultKind.Memory → (length bytes.now ≤ FILE_LINE_MAX) × IsTrue (has_backslash bytes.now) }
     {
         if bytes.is_empty() {
             return Ok(None);

@@ -1,7 +1,7 @@
 //! What the lines of a directive set that is allowed more than once.
 ghost use Rattle.std.specs.Prelude.{◌≤◌, length};
 
-use crate::fault::FaultKind;
+use crate::fault::Misread;
 use crate::line::Line;
 use crate::slot::{Clashes, FromValues, listed, listed_apart};
 use crate::values::Form;
@@ -17,6 +17,7 @@ pub struct Lines<T, const MOST: usize> {
 impl<T: FromValues, const MOST: usize> Lines<T, MOST> {
     ghost use Rattle.std.specs.Prelude.{◌≡◌, [], Some, map};
     ghost use Rattle.nut_conf.specs.Settings.{Puts, listed as listed_rule};
+    ghost use Rattle.nut_conf.specs.inside.Misreads.{bare};
     ghost use Rattle.nut_conf.specs.declared.values.Form.TheVariants.{Plain};
 
     /// Returns an empty list.
@@ -29,9 +30,9 @@ impl<T: FromValues, const MOST: usize> Lines<T, MOST> {
     }
 
     /// Adds what a line sets at the end.
-    pub(crate) fn put(&mut self, line: &Line<'_>) -> Result<(), FaultKind>
+    pub(crate) fn put(&mut self, line: &Line<'_>) -> Result<(), Misread>
         ensures { Puts (listed_rule (Some MOST) Plain T.reads) (map T.setting self.old.lines.items)
-            line.now.words result (map T.setting self.new.lines.items) }
+            line.now.words (bare result) (map T.setting self.new.lines.items) }
     {
         listed(&mut self.lines, Form::Plain, line, Some(MOST))
     }
@@ -40,12 +41,13 @@ impl<T: FromValues, const MOST: usize> Lines<T, MOST> {
 impl<T: Clashes, const MOST: usize> Lines<T, MOST> {
     ghost use Rattle.std.specs.Prelude.{Some, map};
     ghost use Rattle.nut_conf.specs.Settings.{Puts, distinct};
+    ghost use Rattle.nut_conf.specs.inside.Misreads.{bare};
     ghost use Rattle.nut_conf.specs.declared.values.Form.TheVariants.{Plain};
 
     /// Adds what a line sets at the end. Returns `Repeated` if it clashes with one in the list.
-    pub(crate) fn put_apart(&mut self, line: &Line<'_>) -> Result<(), FaultKind>
+    pub(crate) fn put_apart(&mut self, line: &Line<'_>) -> Result<(), Misread>
         ensures { Puts (distinct T.clashes (Some MOST) Plain T.reads) (map T.setting self.old.lines.items)
-            line.now.words result (map T.setting self.new.lines.items) }
+            line.now.words (bare result) (map T.setting self.new.lines.items) }
     {
         listed_apart(&mut self.lines, Form::Plain, line, Some(MOST))
     }

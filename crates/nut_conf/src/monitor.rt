@@ -6,7 +6,8 @@ ghost use Rattle.nut_conf.specs.Faults.{Reads, Spares};
 ghost use Rattle.nut_conf.specs.Target.{target_view};
 ghost use Rattle.nut_conf.specs.Upsmon.{monitored_target, written_target};
 
-use crate::fault::FaultKind;
+use crate::fault::{FaultKind, Misread};
+use crate::hint::{Expected, Expects};
 use crate::limits::{PASSWORD_MAX, TARGET_MAX, USER_NAME_MAX};
 use crate::slot::{Clashes, FromValues};
 use crate::target::Target;
@@ -64,6 +65,10 @@ fn read_written(bytes: &[u8]) -> Result<(ArrayVec<u8, TARGET_MAX>, Target), Faul
     }
 }
 
+impl Expects for (ArrayVec<u8, TARGET_MAX>, Target) {
+    const EXPECTED: Expected = Expected::Target;
+}
+
 impl FromValues for Monitored {
     ghost use Rattle.nut_conf.specs.Upsmon.{monitor_setting, monitor_value};
 
@@ -71,15 +76,15 @@ impl FromValues for Monitored {
 
     ghost reads = { monitor_value };
 
-    fn from_values(values: &Values<'_, '_>) -> Result<Self, FaultKind> {
+    fn from_values(values: &Values<'_, '_>) -> Result<Self, Misread> {
         if values.len() != 5 {
-            return Err(FaultKind::BadForm);
+            return Err(Misread::of_line(FaultKind::BadForm, Expected::Form));
         }
-        let (written, target) = read_written(values.get(0))?;
-        let power = Number::read(values.get(1))?;
-        let user = Name::read(values.get(2))?;
-        let password = Text::read(values.get(3))?;
-        let role = Role::read(values.get(4))?;
+        let (written, target) = values.told(0, read_written(values.get(0)))?;
+        let power = values.told(1, Number::read(values.get(1)))?;
+        let user = values.told(2, Name::read(values.get(2)))?;
+        let password = values.told(3, Text::read(values.get(3)))?;
+        let role = values.told(4, Role::read(values.get(4)))?;
         Ok(Monitored {
             written,
             target,

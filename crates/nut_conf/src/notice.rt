@@ -7,7 +7,8 @@ ghost use Rattle.nut_conf.specs.Faults.{Reads, Spares};
 ghost use Rattle.nut_conf.specs.Values.{one_of};
 ghost use Rattle.nut_conf.specs.Notices.{all_notices, notice_word, notice_words, default_text as usual_text, flags, flags_in, with_flag, is_flag as flag_word, default_flags as usual_flags, is_text_of, is_handling_of};
 
-use crate::fault::FaultKind;
+use crate::fault::{FaultKind, Misread};
+use crate::hint::{Expected, Expects};
 use crate::limits::MESSAGE_MAX;
 use crate::slot::{Clashes, FromValues};
 use crate::text::Text;
@@ -98,6 +99,10 @@ impl Notice {
     }
 }
 
+impl Expects for Notice {
+    const EXPECTED: Expected = Expected::Notice;
+}
+
 /// The text of a type of notice.
 #[derive(PartialEq, Eq, Drop)]
 pub struct NoticeText {
@@ -128,12 +133,12 @@ impl FromValues for NoticeText {
 
     ghost reads = { message_value };
 
-    fn from_values(values: &Values<'_, '_>) -> Result<Self, FaultKind> {
+    fn from_values(values: &Values<'_, '_>) -> Result<Self, Misread> {
         if values.len() != 2 {
-            return Err(FaultKind::BadForm);
+            return Err(Misread::of_line(FaultKind::BadForm, Expected::Form));
         }
-        let notice = Notice::read(values.get(0))?;
-        let text = Text::read(values.get(1))?;
+        let notice = values.told(0, Notice::read(values.get(0)))?;
+        let text = values.told(1, Text::read(values.get(1)))?;
         Ok(NoticeText { notice, text })
     }
 }
@@ -229,6 +234,10 @@ impl NoticeFlags {
     }
 }
 
+impl Expects for NoticeFlags {
+    const EXPECTED: Expected = Expected::Flags;
+}
+
 /// The flags of a type of notice.
 #[derive(Clone, Copy, PartialEq, Eq)]
 pub struct NoticeHandling {
@@ -259,12 +268,12 @@ impl FromValues for NoticeHandling {
 
     ghost reads = { flags_value };
 
-    fn from_values(values: &Values<'_, '_>) -> Result<Self, FaultKind> {
+    fn from_values(values: &Values<'_, '_>) -> Result<Self, Misread> {
         if values.len() != 2 {
-            return Err(FaultKind::BadForm);
+            return Err(Misread::of_line(FaultKind::BadForm, Expected::Form));
         }
-        let notice = Notice::read(values.get(0))?;
-        let flags = NoticeFlags::read(values.get(1))?;
+        let notice = values.told(0, Notice::read(values.get(0)))?;
+        let flags = values.told(1, NoticeFlags::read(values.get(1)))?;
         Ok(NoticeHandling { notice, flags })
     }
 }

@@ -4,7 +4,8 @@ ghost use Rattle.std.specs.Option.{option_map};
 ghost use Rattle.nut_conf.specs.Sections.{section_name as name_in};
 
 use crate::draft::Draft;
-use crate::fault::FaultKind;
+use crate::fault::{FaultKind, Misread};
+use crate::hint::Expected;
 use crate::line::Line;
 use crate::tables::check_new;
 use crate::text::Name;
@@ -36,19 +37,35 @@ fn section_name<'a>(line: &'a Line<'_>) -> Option<&'a [u8]>
     }
 }
 
+/// Returns the fault of a line before the first section.
+fn outside<S: Draft>(line: &Line<'_>) -> Misread
+    ensures { result.kind ≡ FaultKind.OutsideSection }
+{
+    let expected = if S::knows(line.directive()) {
+        Expected::Section
+    } else {
+        Expected::Directive
+    };
+    Misread::of_word(0, FaultKind::OutsideSection, expected)
+}
+
 impl<S: Draft, const MOST: usize> Sections<S, MOST> {
     ghost use Rattle.nut_conf.specs.inside.Drafts.{Takes};
+    ghost use Rattle.nut_conf.specs.inside.Misreads.{bare};
     ghost use Rattle.std.specs.Result.{result_err};
     ghost use Rattle.nut_conf.specs.Sections.{AllHold, Section, opens};
     ghost use Rattle.std.specs.Prelude.{List};
 
     /// Begins a section with this name.
-    fn open(&mut self, bytes: &[u8]) -> Result<(), FaultKind>
+    fn open(&mut self, bytes: &[u8]) -> Result<(), Misread>
         ensures { (earlier : List Section) → AllHold S.Holds self.old.by_name.entries earlier
-            → Takes (result_err (opens MOST earlier bytes.now)) result (AllHold S.Holds self.new.by_name.entries (earlier ++ (bytes.now, []) ∷ [])) }
+            → Takes (result_err (opens MOST earlier bytes.now)) (bare result) (AllHold S.Holds self.new.by_name.entries (earlier ++ (bytes.now, []) ∷ [])) }
     {
-        let name = Name::read(bytes)?;
-        check_new(&self.by_name, &name, MOST)?;
+        let name = match Name::read(bytes) {
+            Ok(name) => name,
+            Err(kind) => return Err(Misread::of_word(0, kind, Expected::Name(UPS_NAME_MAX))),
+        };
+        check_new(&self.by_name, &name, 0, MOST)?;
         self.by_name.insert(name, S::new(self.alloc))?;
         Ok(())
     }
@@ -70,16 +87,20 @@ impl<S: Draft, const MOST: usize> Draft for Sections<S, MOST> {
         }
     }
 
-    fn put(&mut self, line: &Line<'_>) -> Result<(), FaultKind> {
+    fn knows(word: &[u8]) -> bool {
+        S::knows(word)
+    }
+
+    fn put(&mut self, line: &Line<'_>) -> Result<(), Misread> {
         if let Some(name) = section_name(line) {
             return self.open(name);
         }
         let Some(last) = self.by_name.len().checked_sub(1) else {
-            return Err(FaultKind::OutsideSection);
+            return Err(outside::<S>(line));
         };
         match self.by_name.get_index_mut(last) {
             Some(section) => section.put(line),
-            None => Err(FaultKind::OutsideSection),
+            None => Err(outside::<S>(line)),
         }
     }
 }

@@ -7,7 +7,8 @@ ghost use Rattle.nut_conf.specs.Faults.{Reads, Spares};
 ghost use Rattle.nut_words.specs.Name.{is_name};
 ghost use Rattle.nut_conf.specs.Values.{is_text, name, number, text as bounded_text};
 
-use crate::fault::FaultKind;
+use crate::fault::{FaultKind, Misread};
+use crate::hint::{Expected, Expects};
 use crate::line::Line;
 use crate::slot::{FromValues, setting_of};
 use crate::values::{Form, Values};
@@ -138,6 +139,7 @@ impl<const LEAST: u32, const MOST: u32> Number<LEAST, MOST> {
 impl<const LEAST: u32, const MOST: u32, const DEFAULT: u32> NumberOr<LEAST, MOST, DEFAULT> {
     ghost use Rattle.std.specs.Prelude.{[]};
     ghost use Rattle.nut_conf.specs.Rows.{number_set};
+    ghost use Rattle.nut_conf.specs.inside.Misreads.{bare};
     ghost use Rattle.nut_conf.specs.Settings.{Puts, once, number_value};
     ghost use Rattle.nut_conf.specs.declared.values.Form.TheVariants.{Plain};
 
@@ -154,13 +156,14 @@ impl<const LEAST: u32, const MOST: u32, const DEFAULT: u32> NumberOr<LEAST, MOST
     }
 
     /// Takes the number on a line. Returns `Repeated` if one is set. Allocates no memory.
-    pub(crate) fn put(&mut self, line: &Line<'_>) -> Result<(), FaultKind>
-        ensures puts { Puts (once Plain (number_value LEAST MOST)) (number_set self.old) line.now.words result (number_set self.new) }
-        ensures spares { Spares result }
+    pub(crate) fn put(&mut self, line: &Line<'_>) -> Result<(), Misread>
+        ensures puts { Puts (once Plain (number_value LEAST MOST)) (number_set self.old)
+            line.now.words (bare result) (number_set self.new) }
+        ensures spares { Spares (bare result) }
     {
         let number: Number<LEAST, MOST> = setting_of(Form::Plain, line)?;
         if self.is_set {
-            return Err(FaultKind::Repeated);
+            return Err(Misread::of_word(0, FaultKind::Repeated, Expected::Another));
         }
         *self = NumberOr {
             value: number.value,
@@ -187,6 +190,22 @@ impl Port {
     }
 }
 
+impl<const MOST: usize> Expects for Name<MOST> {
+    const EXPECTED: Expected = Expected::Name(MOST);
+}
+
+impl<const LEAST: usize, const MOST: usize> Expects for Text<LEAST, MOST> {
+    const EXPECTED: Expected = Expected::Text(LEAST, MOST);
+}
+
+impl<const LEAST: u32, const MOST: u32> Expects for Number<LEAST, MOST> {
+    const EXPECTED: Expected = Expected::Number(LEAST, MOST);
+}
+
+impl Expects for Port {
+    const EXPECTED: Expected = Expected::Number(1, 65_535);
+}
+
 impl<const MOST: usize> FromValues for Name<MOST> {
     ghost use Rattle.nut_conf.specs.Settings.{Text, name_value};
 
@@ -194,8 +213,8 @@ impl<const MOST: usize> FromValues for Name<MOST> {
 
     ghost reads = { name_value MOST };
 
-    fn from_values(values: &Values<'_, '_>) -> Result<Self, FaultKind> {
-        Name::read(values.one()?)
+    fn from_values(values: &Values<'_, '_>) -> Result<Self, Misread> {
+        values.told(0, Name::read(values.one()?))
     }
 }
 
@@ -206,8 +225,8 @@ impl<const LEAST: usize, const MOST: usize> FromValues for Text<LEAST, MOST> {
 
     ghost reads = { text_value LEAST MOST };
 
-    fn from_values(values: &Values<'_, '_>) -> Result<Self, FaultKind> {
-        Text::read(values.one()?)
+    fn from_values(values: &Values<'_, '_>) -> Result<Self, Misread> {
+        values.told(0, Text::read(values.one()?))
     }
 }
 
@@ -218,7 +237,7 @@ impl<const LEAST: u32, const MOST: u32> FromValues for Number<LEAST, MOST> {
 
     ghost reads = { number_value LEAST MOST };
 
-    fn from_values(values: &Values<'_, '_>) -> Result<Self, FaultKind> {
-        Number::read(values.one()?)
+    fn from_values(values: &Values<'_, '_>) -> Result<Self, Misread> {
+        values.told(0, Number::read(values.one()?))
     }
 }

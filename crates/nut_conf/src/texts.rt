@@ -2,7 +2,8 @@
 ghost use Rattle.std.specs.Prelude.{◌≤◌, length};
 ghost use Rattle.nut_conf.specs.declared.limits.TheConstants.{DESCRIPTIONS_MAX};
 
-use crate::fault::FaultKind;
+use crate::fault::{FaultKind, Misread};
+use crate::hint::Expected;
 use crate::limits::{DESCRIPTION_MAX, DESCRIPTIONS_MAX};
 use crate::line::Line;
 use crate::slot::{FromValues, setting_of};
@@ -35,12 +36,12 @@ impl FromValues for Described {
 
     ghost reads = { description_value };
 
-    fn from_values(values: &Values<'_, '_>) -> Result<Self, FaultKind> {
+    fn from_values(values: &Values<'_, '_>) -> Result<Self, Misread> {
         if values.len() != 2 {
-            return Err(FaultKind::BadForm);
+            return Err(Misread::of_line(FaultKind::BadForm, Expected::Form));
         }
-        let name = Name::read(values.get(0))?;
-        let text = Text::read(values.get(1))?;
+        let name = values.told(0, Name::read(values.get(0)))?;
+        let text = values.told(1, Text::read(values.get(1)))?;
         Ok(Described { name, text })
     }
 }
@@ -52,6 +53,7 @@ impl Texts {
     ghost use Rattle.std.specs.Str.{bytes_eq};
     ghost use Rattle.nut_words.specs.Quoting.{IsPrintable};
     ghost use Rattle.nut_conf.specs.Settings.{Puts};
+    ghost use Rattle.nut_conf.specs.inside.Misreads.{bare};
     ghost use Rattle.nut_conf.specs.Values.{is_text};
     ghost use Rattle.nut_conf.specs.Descriptions.{described, description_rule, rows_of};
 
@@ -65,12 +67,12 @@ impl Texts {
     }
 
     /// Adds a line's name and text at the end. Returns the line's first fault.
-    pub(crate) fn put(&mut self, line: &Line<'_>) -> Result<(), FaultKind>
-        ensures { Puts description_rule (map described (rows_of self.old)) line.now.words result (map described (rows_of self.new)) }
+    pub(crate) fn put(&mut self, line: &Line<'_>) -> Result<(), Misread>
+        ensures { Puts description_rule (map described (rows_of self.old)) line.now.words (bare result) (map described (rows_of self.new)) }
     {
         let described: Described = setting_of(Form::Plain, line)?;
         let Described { name, text } = described;
-        check_new(&self.by_name, &name, DESCRIPTIONS_MAX)?;
+        check_new(&self.by_name, &name, 1, DESCRIPTIONS_MAX)?;
         self.by_name.insert(name, text)?;
         Ok(())
     }

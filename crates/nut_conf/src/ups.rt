@@ -16,7 +16,7 @@ ghost use Rattle.nut_conf.specs.declared.ups.Ups.{Ups as UpsFields};
 
 use crate::directives::Directives;
 use crate::draft::Draft;
-use crate::fault::{ConfFault, FaultKind};
+use crate::fault::{ConfFault, FaultKind, Misread};
 use crate::file::read_draft;
 use crate::limits::{DESCRIPTION_MAX, DEVICE_MAX, DRIVER_NAME_MAX, UPSES_MAX};
 use crate::line::Line;
@@ -221,11 +221,11 @@ pub enum UpsDirective {
     Desc,
 }
 
-/// Each directive, with its word.
-const DIRECTIVES: [(&[u8], UpsDirective); 3] = [
-    (b"driver", UpsDirective::Driver),
-    (b"port", UpsDirective::Port),
-    (b"desc", UpsDirective::Desc),
+/// Each directive, with its word and what its lines look like.
+const DIRECTIVES: [(&[u8], UpsDirective, &str); 3] = [
+    (b"driver", UpsDirective::Driver, "driver = NAME"),
+    (b"port", UpsDirective::Port, "port = \"TEXT\""),
+    (b"desc", UpsDirective::Desc, "desc = \"TEXT\""),
 ];
 
 impl Directives for Ups {
@@ -240,7 +240,7 @@ impl Directives for Ups {
 
     ghost found = { ups_found };
 
-    fn rows() -> &'static [(&'static [u8], UpsDirective)] {
+    fn rows() -> &'static [(&'static [u8], UpsDirective, &'static str)] {
         &DIRECTIVES
     }
 
@@ -252,7 +252,7 @@ impl Directives for Ups {
         }
     }
 
-    fn set(&mut self, directive: UpsDirective, line: &Line<'_>) -> Result<(), FaultKind> {
+    fn set(&mut self, directive: UpsDirective, line: &Line<'_>) -> Result<(), Misread> {
         match directive {
             UpsDirective::Driver => once(&mut self.driver, Form::Assigned, line),
             UpsDirective::Port => once(&mut self.port, Form::Assigned, line),

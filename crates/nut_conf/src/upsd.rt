@@ -10,8 +10,9 @@ ghost use Rattle.nut_conf.specs.declared.upsd.UpsdConf.{UpsdConf};
 
 use crate::directives::Directives;
 use crate::draft::Draft;
-use crate::fault::{ConfFault, FaultKind};
+use crate::fault::{ConfFault, FaultKind, Misread};
 use crate::file::read_draft;
+use crate::hint::{Expected, Expects};
 use crate::host::Address;
 use crate::limits::{CONNECTIONS_MAX, LISTENERS_MAX};
 use crate::line::Line;
@@ -97,11 +98,11 @@ pub enum UpsdDirective {
     MaxConn,
 }
 
-/// Each directive, with its word.
-const DIRECTIVES: [(&[u8], UpsdDirective); 3] = [
-    (b"LISTEN", UpsdDirective::Listen),
-    (b"MAXAGE", UpsdDirective::MaxAge),
-    (b"MAXCONN", UpsdDirective::MaxConn),
+/// Each directive, with its word and what its lines look like.
+const DIRECTIVES: [(&[u8], UpsdDirective, &str); 3] = [
+    (b"LISTEN", UpsdDirective::Listen, "LISTEN ADDRESS [PORT]"),
+    (b"MAXAGE", UpsdDirective::MaxAge, "MAXAGE SECONDS"),
+    (b"MAXCONN", UpsdDirective::MaxConn, "MAXCONN NUMBER"),
 ];
 
 fn address(bytes: &[u8]) -> Result<Address, FaultKind>
@@ -114,6 +115,10 @@ fn address(bytes: &[u8]) -> Result<Address, FaultKind>
     }
 }
 
+impl Expects for Address {
+    const EXPECTED: Expected = Expected::Address;
+}
+
 impl FromValues for Endpoint {
     ghost use Rattle.nut_conf.specs.Upsd.{endpoint_setting, listen_value};
 
@@ -121,17 +126,17 @@ impl FromValues for Endpoint {
 
     ghost reads = { listen_value };
 
-    fn from_values(values: &Values<'_, '_>) -> Result<Self, FaultKind> {
+    fn from_values(values: &Values<'_, '_>) -> Result<Self, Misread> {
         match values.len() {
             1 => Ok(Endpoint {
-                address: address(values.get(0))?,
+                address: values.told(0, address(values.get(0)))?,
                 port: Port { number: 3493 },
             }),
             2 => Ok(Endpoint {
-                address: address(values.get(0))?,
-                port: Port::read(values.get(1))?,
+                address: values.told(0, address(values.get(0)))?,
+                port: values.told(1, Port::read(values.get(1)))?,
             }),
-            _ => Err(FaultKind::BadForm),
+            _ => Err(Misread::of_line(FaultKind::BadForm, Expected::Form)),
         }
     }
 }
@@ -148,7 +153,7 @@ impl Directives for UpsdConf {
 
     ghost found = { upsd_found };
 
-    fn rows() -> &'static [(&'static [u8], UpsdDirective)] {
+    fn rows() -> &'static [(&'static [u8], UpsdDirective, &'static str)] {
         &DIRECTIVES
     }
 
@@ -160,7 +165,7 @@ impl Directives for UpsdConf {
         }
     }
 
-    fn set(&mut self, directive: UpsdDirective, line: &Line<'_>) -> Result<(), FaultKind> {
+    fn set(&mut self, directive: UpsdDirective, line: &Line<'_>) -> Result<(), Misread> {
         match directive {
             UpsdDirective::Listen => self.listen.put(line),
             UpsdDirective::MaxAge => self.max_age.put(line),

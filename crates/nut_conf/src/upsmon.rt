@@ -9,8 +9,9 @@ ghost use Rattle.nut_conf.specs.Rows.{lengths_of, numbers_of};
 ghost use Rattle.nut_conf.specs.declared.upsmon.MonConfig.{MonConfig};
 
 use crate::directives::Directives;
-use crate::fault::{ConfFault, FaultKind};
+use crate::fault::{ConfFault, FaultKind, Misread};
 use crate::file::read_draft;
+use crate::hint::{Expected, Hint};
 use crate::limits::{COMMAND_MAX, MESSAGE_MAX, MONITORS_MAX};
 use crate::line::Line;
 use crate::lines::Lines;
@@ -152,21 +153,61 @@ pub enum UpsmonDirective {
     NotifyFlag,
 }
 
-/// Each directive of the file, with its word.
-pub const UPSMON_DIRECTIVES: [(&[u8], UpsmonDirective); 13] = [
-    (b"MONITOR", UpsmonDirective::Monitor),
-    (b"MINSUPPLIES", UpsmonDirective::MinSupplies),
-    (b"SHUTDOWNCMD", UpsmonDirective::ShutdownCmd),
-    (b"NOTIFYCMD", UpsmonDirective::NotifyCmd),
-    (b"POWERDOWNFLAG", UpsmonDirective::PowerDownFlag),
-    (b"POLLFREQ", UpsmonDirective::PollFreq),
-    (b"DEADTIME", UpsmonDirective::DeadTime),
-    (b"RBWARNTIME", UpsmonDirective::RbWarnTime),
-    (b"NOCOMMWARNTIME", UpsmonDirective::NoCommWarnTime),
-    (b"HOSTSYNC", UpsmonDirective::HostSync),
-    (b"FINALDELAY", UpsmonDirective::FinalDelay),
-    (b"NOTIFYMSG", UpsmonDirective::NotifyMsg),
-    (b"NOTIFYFLAG", UpsmonDirective::NotifyFlag),
+/// Each directive of the file, with its word and what its lines look like.
+pub const UPSMON_DIRECTIVES: [(&[u8], UpsmonDirective, &str); 13] = [
+    (
+        b"MONITOR",
+        UpsmonDirective::Monitor,
+        "MONITOR UPS@HOST[:PORT] POWER USER PASSWORD primary|secondary",
+    ),
+    (
+        b"MINSUPPLIES",
+        UpsmonDirective::MinSupplies,
+        "MINSUPPLIES NUMBER",
+    ),
+    (
+        b"SHUTDOWNCMD",
+        UpsmonDirective::ShutdownCmd,
+        "SHUTDOWNCMD \"COMMAND\"",
+    ),
+    (
+        b"NOTIFYCMD",
+        UpsmonDirective::NotifyCmd,
+        "NOTIFYCMD \"COMMAND\"",
+    ),
+    (
+        b"POWERDOWNFLAG",
+        UpsmonDirective::PowerDownFlag,
+        "POWERDOWNFLAG \"FILE\"",
+    ),
+    (b"POLLFREQ", UpsmonDirective::PollFreq, "POLLFREQ SECONDS"),
+    (b"DEADTIME", UpsmonDirective::DeadTime, "DEADTIME SECONDS"),
+    (
+        b"RBWARNTIME",
+        UpsmonDirective::RbWarnTime,
+        "RBWARNTIME SECONDS",
+    ),
+    (
+        b"NOCOMMWARNTIME",
+        UpsmonDirective::NoCommWarnTime,
+        "NOCOMMWARNTIME SECONDS",
+    ),
+    (b"HOSTSYNC", UpsmonDirective::HostSync, "HOSTSYNC SECONDS"),
+    (
+        b"FINALDELAY",
+        UpsmonDirective::FinalDelay,
+        "FINALDELAY SECONDS",
+    ),
+    (
+        b"NOTIFYMSG",
+        UpsmonDirective::NotifyMsg,
+        "NOTIFYMSG TYPE \"TEXT\"",
+    ),
+    (
+        b"NOTIFYFLAG",
+        UpsmonDirective::NotifyFlag,
+        "NOTIFYFLAG TYPE FLAG[+FLAG]..",
+    ),
 ];
 
 /// Whether the power values of the lines sum to less than `needed`.
@@ -192,7 +233,7 @@ impl Directives for MonConfig {
 
     ghost found = { upsmon_found };
 
-    fn rows() -> &'static [(&'static [u8], UpsmonDirective)] {
+    fn rows() -> &'static [(&'static [u8], UpsmonDirective, &'static str)] {
         &UPSMON_DIRECTIVES
     }
 
@@ -214,7 +255,7 @@ impl Directives for MonConfig {
         }
     }
 
-    fn set(&mut self, directive: UpsmonDirective, line: &Line<'_>) -> Result<(), FaultKind> {
+    fn set(&mut self, directive: UpsmonDirective, line: &Line<'_>) -> Result<(), Misread> {
         let form = Form::Plain;
         match directive {
             UpsmonDirective::Monitor => self.monitors.put_apart(line),
@@ -252,6 +293,7 @@ pub fn read_upsmon(alloc: Global, bytes: &[u8]) -> Result<MonConfig, ConfFault>
         return Err(ConfFault {
             line: 0,
             kind: FaultKind::PastLimit,
+            hint: Hint::of_line(Expected::MorePower),
         });
     }
     Ok(conf)

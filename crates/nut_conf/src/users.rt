@@ -11,8 +11,9 @@ ghost use Rattle.nut_conf.specs.declared.users.User.{User as UserFields};
 
 use crate::directives::Directives;
 use crate::draft::Draft;
-use crate::fault::{ConfFault, FaultKind};
+use crate::fault::{ConfFault, FaultKind, Misread};
 use crate::file::read_draft;
+use crate::hint::{Expected, Expects};
 use crate::limits::{INSTCMDS_MAX, PASSWORD_MAX, USERS_MAX};
 use crate::line::Line;
 use crate::sections::Sections;
@@ -157,13 +158,33 @@ pub enum UserDirective {
     Upsmon,
 }
 
-/// Each directive, with its word.
-const DIRECTIVES: [(&[u8], UserDirective); 4] = [
-    (b"password", UserDirective::Password),
-    (b"actions", UserDirective::Actions),
-    (b"instcmds", UserDirective::Instcmds),
-    (b"upsmon", UserDirective::Upsmon),
+/// Each directive, with its word and what its lines look like.
+const DIRECTIVES: [(&[u8], UserDirective, &str); 4] = [
+    (b"password", UserDirective::Password, "password = \"TEXT\""),
+    (
+        b"actions",
+        UserDirective::Actions,
+        "actions = SET or actions = FSD",
+    ),
+    (
+        b"instcmds",
+        UserDirective::Instcmds,
+        "instcmds = COMMAND or instcmds = ALL",
+    ),
+    (
+        b"upsmon",
+        UserDirective::Upsmon,
+        "upsmon primary or upsmon secondary",
+    ),
 ];
+
+impl Expects for Action {
+    const EXPECTED: Expected = Expected::Either("ACTION", "SET", "FSD");
+}
+
+impl Expects for Role {
+    const EXPECTED: Expected = Expected::Either("ROLE", "primary", "secondary");
+}
 
 impl FromValues for Action {
     ghost use Rattle.std.specs.Prelude.{[], ◌∷◌, codes};
@@ -173,14 +194,14 @@ impl FromValues for Action {
 
     ghost reads = { action_value };
 
-    fn from_values(values: &Values<'_, '_>) -> Result<Self, FaultKind> {
+    fn from_values(values: &Values<'_, '_>) -> Result<Self, Misread> {
         let word = values.one()?;
         if word == b"SET".as_slice() {
             Ok(Action::Set)
         } else if word == b"FSD".as_slice() {
             Ok(Action::Fsd)
         } else {
-            Err(FaultKind::UnknownWord)
+            values.told(0, Err(FaultKind::UnknownWord))
         }
     }
 }
@@ -198,12 +219,13 @@ impl FromValues for Commands {
 
     ghost reads = { commands_value };
 
-    fn from_values(values: &Values<'_, '_>) -> Result<Self, FaultKind> {
+    fn from_values(values: &Values<'_, '_>) -> Result<Self, Misread> {
         let word = values.one()?;
         if is_all(word) {
             Ok(Commands::All)
         } else {
-            Ok(Commands::Named(Name::read(word)?))
+            let name = values.told(0, Name::read(word))?;
+            Ok(Commands::Named(name))
         }
     }
 }
@@ -241,8 +263,8 @@ impl FromValues for Role {
 
     ghost reads = { role_value };
 
-    fn from_values(values: &Values<'_, '_>) -> Result<Self, FaultKind> {
-        Role::read(values.one()?)
+    fn from_values(values: &Values<'_, '_>) -> Result<Self, Misread> {
+        values.told(0, Role::read(values.one()?))
     }
 }
 
@@ -258,7 +280,7 @@ impl Directives for User {
 
     ghost found = { user_found };
 
-    fn rows() -> &'static [(&'static [u8], UserDirective)] {
+    fn rows() -> &'static [(&'static [u8], UserDirective, &'static str)] {
         &DIRECTIVES
     }
 
@@ -271,7 +293,7 @@ impl Directives for User {
         }
     }
 
-    fn set(&mut self, directive: UserDirective, line: &Line<'_>) -> Result<(), FaultKind> {
+    fn set(&mut self, directive: UserDirective, line: &Line<'_>) -> Result<(), Misread> {
         match directive {
             UserDirective::Password => once(&mut self.password, Form::Assigned, line),
             UserDirective::Actions => listed(&mut self.actions, Form::Assigned, line, None),

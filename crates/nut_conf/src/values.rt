@@ -4,8 +4,10 @@ ghost use Rattle.std.specs.List.{list_all};
 ghost use Rattle.nut_words.specs.Spelling.{is_printing};
 ghost use Rattle.nut_conf.specs.Faults.{Reads, Spares};
 ghost use Rattle.nut_conf.specs.Values.{one, values_of};
+ghost use Rattle.nut_conf.specs.inside.Misreads.{bare};
 
-use crate::fault::FaultKind;
+use crate::fault::{FaultKind, Misread};
+use crate::hint::{Expected, Expects};
 use crate::line::Line;
 use std::marker::Model;
 
@@ -37,15 +39,15 @@ impl<'a, 'b> Model for Values<'a, 'b> {
 
 impl<'a, 'b> Values<'a, 'b> {
     /// Returns the values of a line of this form, or `BadForm` if an `=` is missing.
-    pub fn of(form: Form, line: &'a Line<'b>) -> Result<Self, FaultKind>
-        ensures reads { Reads (λ values. values) result (values_of form line.now.words) }
-        ensures spares { Spares result }
+    pub fn of(form: Form, line: &'a Line<'b>) -> Result<Self, Misread>
+        ensures reads { Reads (λ values. values) (bare result) (values_of form line.now.words) }
+        ensures spares { Spares (bare result) }
     {
         match form {
             Form::Plain => Ok(Values { line, first: 1 }),
             Form::Assigned => {
                 if line.len() < 2 || line.word(1) != b"=".as_slice() {
-                    return Err(FaultKind::BadForm);
+                    return Err(Misread::of_line(FaultKind::BadForm, Expected::Form));
                 }
                 Ok(Values { line, first: 2 })
             }
@@ -70,15 +72,29 @@ impl<'a, 'b> Values<'a, 'b> {
     }
 
     /// Returns the only value, or `BadForm` if there isn't exactly one.
-    pub fn one(&self) -> Result<&'a [u8], FaultKind>
-        ensures value { Reads (λ value. value.now) result (one self.now) }
+    pub fn one(&self) -> Result<&'a [u8], Misread>
+        ensures value { Reads (λ value. value.now) (bare result) (one self.now) }
         ensures printing { IfOk result (λ value. IsTrue (list_all is_printing value.now)) }
-        ensures spares { Spares result }
+        ensures spares { Spares (bare result) }
     {
         if self.len() == 1 {
             Ok(self.get(0))
         } else {
-            Err(FaultKind::BadForm)
+            Err(Misread::of_line(FaultKind::BadForm, Expected::Form))
+        }
+    }
+
+    /// Returns what was read of the value at place `index`. Adds to a fault the value's place in the line, and what is
+    /// expected there.
+    pub fn told<T: Expects>(&self, index: usize, read: Result<T, FaultKind>) -> Result<T, Misread>
+        ensures { bare result ≡ read }
+    {
+        match read {
+            Ok(value) => Ok(value),
+            Err(kind) => {
+                let word = self.first.saturating_add(index);
+                Err(Misread::of_word(word, kind, T::EXPECTED))
+            }
         }
     }
 }

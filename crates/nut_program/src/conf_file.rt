@@ -1,7 +1,6 @@
 //! Configuration files in their folder.
 
-use crate::meant::meaning;
-use crate::unknown::{is_unknown, shown_word};
+use crate::remark::remark_on;
 use nut_conf::{
     ConfFault, Descriptions, FILE_MAX, FaultKind, MonConfig, UpsConf, UpsdConf, UsersConf,
     read_descriptions, read_ups, read_upsd, read_upsmon, read_users,
@@ -15,11 +14,11 @@ use std::{fmt, fs, io};
 
 /// A configuration that is read from a file.
 pub trait ConfFile: Drop + Sized {
-    /// Returns the file's name in its folder.
-    fn file_name() -> &'static str;
+    /// The file's name in its folder.
+    const FILE_NAME: &'static str;
 
     /// Whether passwords stand in the file.
-    fn has_passwords() -> bool;
+    const HAS_PASSWORDS: bool;
 
     /// Reads the bytes of the file.
     ///
@@ -30,13 +29,9 @@ pub trait ConfFile: Drop + Sized {
 }
 
 impl ConfFile for UpsConf {
-    fn file_name() -> &'static str {
-        "ups.conf"
-    }
+    const FILE_NAME: &'static str = "ups.conf";
 
-    fn has_passwords() -> bool {
-        false
-    }
+    const HAS_PASSWORDS: bool = false;
 
     fn read(alloc: Global, bytes: &[u8]) -> Result<Self, ConfFault> {
         read_ups(alloc, bytes)
@@ -44,13 +39,9 @@ impl ConfFile for UpsConf {
 }
 
 impl ConfFile for UsersConf {
-    fn file_name() -> &'static str {
-        "upsd.users"
-    }
+    const FILE_NAME: &'static str = "upsd.users";
 
-    fn has_passwords() -> bool {
-        true
-    }
+    const HAS_PASSWORDS: bool = true;
 
     fn read(alloc: Global, bytes: &[u8]) -> Result<Self, ConfFault> {
         read_users(alloc, bytes)
@@ -58,13 +49,9 @@ impl ConfFile for UsersConf {
 }
 
 impl ConfFile for UpsdConf {
-    fn file_name() -> &'static str {
-        "upsd.conf"
-    }
+    const FILE_NAME: &'static str = "upsd.conf";
 
-    fn has_passwords() -> bool {
-        false
-    }
+    const HAS_PASSWORDS: bool = false;
 
     fn read(alloc: Global, bytes: &[u8]) -> Result<Self, ConfFault> {
         read_upsd(alloc, bytes)
@@ -72,13 +59,9 @@ impl ConfFile for UpsdConf {
 }
 
 impl ConfFile for MonConfig {
-    fn file_name() -> &'static str {
-        "upsmon.conf"
-    }
+    const FILE_NAME: &'static str = "upsmon.conf";
 
-    fn has_passwords() -> bool {
-        true
-    }
+    const HAS_PASSWORDS: bool = true;
 
     fn read(alloc: Global, bytes: &[u8]) -> Result<Self, ConfFault> {
         read_upsmon(alloc, bytes)
@@ -86,13 +69,9 @@ impl ConfFile for MonConfig {
 }
 
 impl ConfFile for Descriptions {
-    fn file_name() -> &'static str {
-        "cmdvartab"
-    }
+    const FILE_NAME: &'static str = "cmdvartab";
 
-    fn has_passwords() -> bool {
-        false
-    }
+    const HAS_PASSWORDS: bool = false;
 
     fn read(alloc: Global, bytes: &[u8]) -> Result<Self, ConfFault> {
         read_descriptions(alloc, bytes)
@@ -105,9 +84,9 @@ impl ConfFile for Descriptions {
 pub enum FileFault<'a> {
     /// The file doesn't exist, isn't a plain file, may not be read, or a read failed. The remark has its path, and why.
     CannotRead(&'a str, Option<String>),
-    /// The file has this fault. The remark says what is meant, or that no line of the file may have the word of the
-    /// directive.
-    Conf(&'a str, ConfFault, Option<String>),
+    /// The file has this fault in this line, counted from 1, or 0 for the file as a whole. The remark says what is meant, or
+    /// that no line of the file may have the word of the directive.
+    Conf(&'a str, u32, FaultKind, Option<String>),
     /// Memory could not be allocated.
     Memory,
 }
@@ -116,7 +95,7 @@ impl<'a> fmt::Display for FileFault<'a> {
     fn fmt<W: fmt::Write>(&self, f: &mut fmt::Formatter<W>) -> fmt::Result {
         match self {
             FileFault::CannotRead(file, _) => write!(f, "{file}: cannot read"),
-            FileFault::Conf(file, fault, _) => write!(f, "{file}:{fault}"),
+            FileFault::Conf(file, line, kind, _) => write!(f, "{file}:{line}: {kind}"),
             FileFault::Memory => write!(f, "out of memory"),
         }
     }
@@ -127,10 +106,10 @@ impl<'a> FileFault<'a> {
     /// error 2)`, `vendorid isn't taken here: see from-nut(7)`, or `master: 'primary' or 'secondary' is meant`.
     pub fn remark(&self) -> Option<&str> {
         match self {
-            FileFault::CannotRead(_, Some(remark)) | FileFault::Conf(_, _, Some(remark)) => Some(
+            FileFault::CannotRead(_, Some(remark)) | FileFault::Conf(_, _, _, Some(remark)) => Some(
                 remark.as_str(),
             ),
-            FileFault::CannotRead(_, None) | FileFault::Conf(_, _, None) | FileFault::Memory =>
+            FileFault::CannotRead(_, None) | FileFault::Conf(_, _, _, None) | FileFault::Memory =>
                 None,
         }
     }
@@ -147,7 +126,7 @@ pub fn read_conf<C: ConfFile>(
     alloc: Global,
     folder: &str,
 ) -> Result<C, FileFault<'static>> {
-    let name = C::file_name();
+    let name = C::FILE_NAME;
     match Path::new(folder).join(alloc, name) {
         Ok(path) => read_conf_at(files, alloc, path, name),
         Err(_) => Err(FileFault::Memory),
@@ -164,7 +143,7 @@ pub fn read_conf_if_there<C: ConfFile>(
     alloc: Global,
     folder: &str,
 ) -> Result<Option<C>, FileFault<'static>> {
-    let name = C::file_name();
+    let name = C::FILE_NAME;
     let Ok(path) = Path::new(folder).join(alloc, name) else {
         return Err(FileFault::Memory);
     };
@@ -224,24 +203,11 @@ fn conf_of<'a, C: ConfFile>(
     match C::read(alloc, bytes) {
         Ok(conf) => Ok(conf),
         Err(fault) if fault.kind == FaultKind::Memory => Err(FileFault::Memory),
-        Err(fault) => Err(FileFault::Conf(name, fault, remark_on::<C>(alloc, bytes, fault))),
-    }
-}
-
-/// Says what a file with a fault may have at its place. If no line of the file may begin with that word, the word is named, or
-/// nothing but the file, if the word may be a password.
-fn remark_on<C: ConfFile>(alloc: Global, bytes: &[u8], fault: ConfFault) -> Option<String> {
-    if !is_unknown::<C>(alloc, bytes, fault) {
-        return meaning(alloc, bytes, fault);
-    }
-    let remark = match shown_word::<C>(alloc, bytes, fault.line) {
-        Some(word) => format!(in alloc; "{word} isn't taken here: see from-nut(7)"),
-        None => {
-            let name = C::file_name();
-            format!(in alloc; "a directive of {name} is meant")
+        Err(fault) => {
+            let remark = remark_on::<C>(alloc, bytes, fault);
+            Err(FileFault::Conf(name, fault.line, fault.kind, remark))
         }
-    };
-    remark.ok()
+    }
 }
 
 /// Returns the bytes of a plain file, of a longer one the first `most`. No other file is opened: a pipe could block the

@@ -26,14 +26,9 @@ pub fn conf_folder<R: Env + Alloc>(
     alloc: Global,
     matches: &ArgMatches<'_>,
 ) -> Result<String, AllocError> {
-    match matches.get_str("conf") {
-        Some(folder) => String::from_str(alloc, named_folder(Some(folder), None)),
-        None => folder_of_environment(rt, alloc),
+    if let Some(folder) = matches.get_str("conf") {
+        return String::from_str(alloc, named_folder(Some(folder), None));
     }
-}
-
-/// Returns the folder if the command line names none.
-fn folder_of_environment<R: Env + Alloc>(rt: &R, alloc: Global) -> Result<String, AllocError> {
     match env::var(rt, VARIABLE) {
         Ok(folder) => String::from_str(alloc, named_folder(None, Some(folder.as_str()))),
         Err(VarError::OutOfMemory) => Err(AllocError),

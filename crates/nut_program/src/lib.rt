@@ -4,14 +4,13 @@
 mod arguments;
 mod command_line;
 mod conf_file;
-mod directives;
 mod failure;
 mod folder;
-mod meant;
 mod named_lines;
 mod nuts_option;
 mod reload_file;
 mod reload_report;
+mod remark;
 mod stack;
 mod streams;
 mod unknown;

@@ -103,15 +103,22 @@ impl ReloadFile {
     }
 
     /// Looks whether there is a request that was not there at the last look, and removes the file. In a folder that
-    /// another program reads, too, a program whose turn is second answers it at the next look, whether or not the file is
-    /// still there then. A file that is changed in between is a new request.
+    /// another program reads, too, the file is left to that for two looks first, and a program whose turn is second answers
+    /// at the next look, whether or not the file is still there then. A file that is changed in between is a new request.
     pub fn look(&mut self, files: &impl Files) -> Look {
         let found = stamp_of(files, self.path.as_path());
         let is_request = self.is_request(found);
-        if is_request && !self.is_shared(files) {
+        if is_request && fs::metadata(files, self.beside.as_path()).is_err() {
             return self.take(files);
         }
-        self.leave(files, is_request, found.is_some());
+        if is_request {
+            self.looks = LOOKS;
+        } else if found.is_some() {
+            if self.looks == 1 {
+                let _ = fs::remove_file(files, self.path.as_path());
+            }
+            self.looks = self.looks.saturating_sub(1);
+        }
         if self.is_turn(is_request) {
             Look::Asked
         } else {
@@ -130,11 +137,6 @@ impl ReloadFile {
         is_new
     }
 
-    /// Whether another program reads the folder, too.
-    fn is_shared(&self, files: &impl Files) -> bool {
-        fs::metadata(files, self.beside.as_path()).is_ok()
-    }
-
     /// Whether a request is answered at this look: one that this look is the first to see, if the turn is first, and one
     /// that the last look was the first to see, if it is second and nothing has come since.
     fn is_turn(&mut self, is_request: bool) -> bool
@@ -147,22 +149,6 @@ impl ReloadFile {
         };
         self.waits = is_request && self.turn == Turn::Second;
         is_turn
-    }
-
-    /// Leaves the file to the other program, from a request on for two looks, and then removes it.
-    fn leave(&mut self, files: &impl Files, is_request: bool, is_there: bool) {
-        if is_request {
-            self.looks = LOOKS;
-        } else if is_there && self.is_last_look() {
-            let _ = fs::remove_file(files, self.path.as_path());
-        }
-    }
-
-    /// Whether the file has been left for long enough.
-    fn is_last_look(&mut self) -> bool {
-        let is_last = self.looks == 1;
-        self.looks = self.looks.saturating_sub(1);
-        is_last
     }
 
     /// Removes the file of a request to this program alone, which is answered at once.

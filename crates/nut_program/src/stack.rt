@@ -52,7 +52,15 @@ impl LowStack {
 /// Returns the limit of this process's stack if it is too low for a program that needs so many KiB. One that can't be read
 /// isn't.
 pub fn low_stack(needed: u32) -> Option<LowStack> {
-    LowStack::of_limit(stack_limit(), needed)
+    let mut limit = rlimit {
+        rlim_cur: u64::MAX,
+        rlim_max: u64::MAX,
+    };
+    if getrlimit(RLIMIT_STACK, &mut limit) == 0 {
+        LowStack::of_limit(limit.rlim_cur, needed)
+    } else {
+        None
+    }
 }
 
 /// Whether this process has the stack that a daemon needs. If its stack is limited to less, that is written to `err`. A
@@ -63,17 +71,4 @@ pub fn has_stack<E: Lines>(err: &mut E) -> bool {
     };
     let _ = writeln!(err.begin(Level::Error), "{low}");
     false
-}
-
-/// Returns the limit of this process's stack in bytes. It is the greatest number if there is none, or it can't be read.
-fn stack_limit() -> u64 {
-    let mut limit = rlimit {
-        rlim_cur: u64::MAX,
-        rlim_max: u64::MAX,
-    };
-    if getrlimit(RLIMIT_STACK, &mut limit) == 0 {
-        limit.rlim_cur
-    } else {
-        u64::MAX
-    }
 }

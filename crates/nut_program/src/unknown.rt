@@ -4,14 +4,10 @@ ghost use Rattle.std.specs.Prelude.{◌≡◌, IfSome, Some, string_bytes};
 ghost use Rattle.nut_program.specs.Unknown.{first_word};
 
 use crate::conf_file::ConfFile;
-use crate::directives::has_directive;
-use nut_conf::{ConfFault, FaultKind};
+use nut_conf::is_directive;
 use nut_words::split;
 use std::alloc::Global;
 use std::str;
-
-/// A section line.
-const SECTION: &[u8] = b"[a]\n";
 
 /// Words of NUT's upsd.users and upsmon.conf that no line here may begin with.
 const NUT_ALONE: [&str; 15] = [
@@ -32,24 +28,17 @@ const NUT_ALONE: [&str; 15] = [
     "SHUTDOWNEXIT",
 ];
 
-/// Whether no line of a file may begin with the word at which it has a fault, not even in a section.
-pub fn is_unknown<C: ConfFile>(alloc: Global, bytes: &[u8], fault: ConfFault) -> bool {
-    match fault.kind {
-        FaultKind::UnknownDirective => true,
-        FaultKind::OutsideSection => is_unknown_in_section::<C>(alloc, bytes, fault.line),
-        _ => false,
+/// Says that no line of a file may begin with the first word of this one. In a file with passwords the word is named only if NUT
+/// has it for a directive: any other can be the password of a line that an editor broke in two. `None` if memory cannot be
+/// allocated.
+pub fn remark_on_unknown<C: ConfFile>(alloc: Global, line: &[u8]) -> Option<String> {
+    if let Some(word) = first_word(alloc, line) {
+        if !C::HAS_PASSWORDS || is_of_nut(word.as_bytes()) {
+            return format!(in alloc; "{word} isn't taken here: see from-nut(7)").ok();
+        }
     }
-}
-
-/// Returns the first word of the line, counted from 1, if it may be shown. In a file with passwords only a word that NUT has
-/// for a directive may: any other can be the password of a line that an editor broke in two. `None` also if there is no such
-/// word, or memory for it cannot be allocated.
-pub fn shown_word<C: ConfFile>(alloc: Global, bytes: &[u8], number: u32) -> Option<String> {
-    let word = first_word(alloc, line_at(bytes, number)?)?;
-    if C::has_passwords() && !is_of_nut(word.as_bytes()) {
-        return None;
-    }
-    Some(word)
+    let name = C::FILE_NAME;
+    format!(in alloc; "a directive of {name} is meant").ok()
 }
 
 /// Whether NUT has this word for a directive, in small or in capital letters.
@@ -57,22 +46,7 @@ fn is_of_nut(word: &[u8]) -> bool {
     let is_alone = NUT_ALONE
         .iter()
         .any(|it| it.as_bytes().eq_ignore_ascii_case(word));
-    is_alone || has_directive(word)
-}
-
-/// Whether a line of a file is unknown even in a section: a file of only a section and this line is read to find out.
-fn is_unknown_in_section<C: ConfFile>(alloc: Global, bytes: &[u8], number: u32) -> bool {
-    let Some(line) = line_at(bytes, number) else {
-        return false;
-    };
-    let mut text = Vec::new(alloc);
-    if text.extend_from_slice(SECTION).is_err() || text.extend_from_slice(line).is_err() {
-        return false;
-    }
-    match C::read(alloc, text.as_slice()) {
-        Ok(_) => false,
-        Err(fault) => fault.kind == FaultKind::UnknownDirective,
-    }
+    is_alone || is_directive(word)
 }
 
 /// Returns the first word of a line. `None` if there is none, it is empty, or memory cannot be allocated.
@@ -92,10 +66,4 @@ fn first_word(alloc: Global, line: &[u8]) -> Option<String>
         Ok(word) => Some(word),
         Err(_) => None,
     }
-}
-
-/// Returns a line of a file, counted from 1.
-pub fn line_at(bytes: &[u8], number: u32) -> Option<&[u8]> {
-    let before = number.checked_sub(1)?;
-    bytes.split(|byte| *byte == b'\n').nth(before as usize)
 }

@@ -61,7 +61,7 @@ pub fn readable_file<C: ConfFile>(
     alloc: Global,
     folder: &str,
 ) -> Result<Option<Readable>, AllocError> {
-    let name = C::file_name();
+    let name = C::FILE_NAME;
     let path = Path::new(folder).join(alloc, name)?;
     match fs::metadata(files, path) {
         Ok(found) => Ok(Readable::of_mode(name, found.permissions().mode())),

@@ -28,7 +28,7 @@ returns-in-Err-clause-means g c =
     let n : ℕ = c.loop-rest.number + 1 in
     let whole : read_lines fault kept.0 n (line ∷ behind) ≡ read_file fault c.args.bytes.now =
     ap (read_lines fault kept.0 n) (sym (ap (pending 10) c.in-Some.is ∙ c.cut.ensures.parts)) ∙ kept.2.completes ∙ sym (read_file-lines fault c.args.bytes.now kept.2.short) in
-    subst (IsFaultOf n c.in-Err.kind) whole (read_lines-fault fault kept.0 n c.in-Err.kind line behind (c.in-Err.ensures.takes kept.0 kept.2.holds))
+    subst (IsFaultOf n c.in-Err.fault.kind) whole (read_lines-fault fault kept.0 n c.in-Err.fault.kind line behind (c.in-Err.ensures.takes kept.0 kept.2.holds))
 
 pub loop-rest-preserved : goal.loop-rest-preserved
 loop-rest-preserved g c =
