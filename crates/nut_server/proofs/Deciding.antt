@@ -1,14 +1,14 @@
 -- The decision on a request is what its answer requires.
-use Rattle.std.proofs.Common.{◌≡◌, ℕ, ◌<◌, suc, zero, Bool, true, false, List, [], ◌∷◌, refl, sym, ◌∙◌, ap, arith, length, Result, Ok, Err, Option, None, inl, inr, slice_index_or, subst, Some}
-use Rattle.std.specs.Prelude.{MatchResult, map}
+use Rattle.std.proofs.Common.{◌≡◌, ℕ, ◌<◌, suc, zero, Bool, true, false, List, [], ◌∷◌, refl, sym, ◌∙◌, ap, arith, length, Result, Ok, Err, Option, None, inl, inr, slice_index_or, Some}
+use Rattle.std.specs.Prelude.{MatchResult, map, if◌then◌else◌}
 use Rattle.std.proofs.lemmas.Bool.{cases_Bool}
 use Rattle.nut_state.specs.Table.{Entry, variable, has_command}
 use Rattle.nut_proto.specs.declared.refusal.Refusal.{Refusal}
 use Rattle.nut_proto.specs.declared.reply.Reply.{Reply}
-use Rattle.nut_server_spec.specs.Answer.{Answer, Scene, Caller, Line, accepted, command_answer, refused, device_at, handed_on, misfit, on_data, parameter_misfit, set_answer, unless, numbering_in, ups_number}
+use Rattle.nut_server_spec.specs.Answer.{Answer, Scene, Caller, Line, accepted, answer_request, check, refused, device_at, handed_on, misfit, on_data, parameter_misfit, require, unless, with_right, numbering_in, ups_number}
 use Rattle.nut_server_spec.specs.Command.{Command, Blank, Asks}
 use Rattle.nut_server_spec.specs.Content.{Supply}
-use Rattle.nut_proto.specs.declared.refusal.Refusal.TheVariants.{DriverNotConnected, InstCmdFailed, SetFailed}
+use Rattle.nut_proto.specs.declared.refusal.Refusal.TheVariants.{CmdNotSupported, DriverNotConnected, InstCmdFailed, SetFailed, VarNotSupported}
 use Rattle.nut_proto.specs.declared.reply.Reply.TheVariants as replies
 use Rattle.nut_proto.specs.declared.request.Request.{Request}
 use Rattle.nut_proto.specs.declared.request.Request.TheVariants as requests
@@ -18,14 +18,17 @@ use Rattle.nut_server_spec.specs.Effect.{target}
 use Rattle.nut_server_spec.specs.Device.{Device, absent, trouble}
 use Rattle.nut_server_spec.specs.machine.Machine.{acted, requested}
 use Rattle.nut_server.specs.inside.Answers.{given}
-use Rattle.nut_server.specs.inside.Decisions.{Answers, Decides, Grants, HandsOn, IsNextNumber, grants_nothing, is_question, told}
+use Rattle.nut_server.specs.inside.Decisions.{Answers, Decides, Grants, HandsOn, IsNextNumber, is_question, told}
 use Rattle.nut_server.specs.inside.Effects.{Does, forced}
+use Rattle.nut_server.specs.inside.Tasks.{entry_misfit, right_to, task_answer, task_ask, task_failure, task_misfit, task_request}
 use Rattle.nut_server.specs.declared.changes.HandedOn.{HandedOn}
+use Rattle.nut_server.specs.declared.changes.Task.{Task}
+use Rattle.nut_server.specs.declared.changes.Task.TheVariants as tasks
 use Rattle.nut_server.specs.declared.decision.Decision.{Decision}
 use Rattle.nut_server.specs.declared.effect.Effect.{Effect}
 use Rattle.nut_server.specs.declared.effect.Effect.TheVariants as effects
 use Rattle.nut_server.proofs.Acting.{act_idle, requested_none, update_at_same}
-use Rattle.nut_server.proofs.Quiet.{IsQuiet, quiet}
+use Rattle.nut_server.proofs.Quiet.{IsQuiet, quiet_question}
 
 -- A quiet answer to a line that changes nothing.
 pub tells : (s : Scene) (d : Decision) (reply : Answer) (line : List ℕ) → given d.answer ≡ reply → d.effect ≡ effects.Nothing → IsQuiet reply → Answers s Blank reply d line
@@ -50,20 +53,20 @@ only_asks (requests.Fsd u) a b c d e f g h i j = absurd (i u refl)
 only_asks requests.Logout a b c d e f g h i j = absurd (j refl)
 only_asks request a b c d e f g h i j = refl
 
--- A request that only asks, and an answer that grants nothing.
-pub question : (s : Scene) (k : Caller) (request : Request) (d : Decision) (reply : Answer) (line : List ℕ) → is_question request ≡ true → grants_nothing reply ≡ true
+-- A request that only asks.
+pub question : (s : Scene) (k : Caller) (request : Request) (d : Decision) (reply : Answer) (line : List ℕ) → is_question request ≡ true
     → reply ≡ told s request → given d.answer ≡ reply → d.effect ≡ effects.Nothing → Decides s k (Asks request) d line
-question s k requests.GetTracking d reply line asks-only grants is given none = absurd (cc)
-question s k (requests.SetVar ups variable value) d reply line asks-only grants is given none = absurd (cc)
-question s k (requests.SetTracking on) d reply line asks-only grants is given none = absurd (cc)
-question s k (requests.InstCmd ups command parameter) d reply line asks-only grants is given none = absurd (cc)
-question s k (requests.Username name) d reply line asks-only grants is given none = absurd (cc)
-question s k (requests.Password password) d reply line asks-only grants is given none = absurd (cc)
-question s k (requests.Login ups) d reply line asks-only grants is given none = absurd (cc)
-question s k (requests.Primary ups) d reply line asks-only grants is given none = absurd (cc)
-question s k (requests.Fsd ups) d reply line asks-only grants is given none = absurd (cc)
-question s k requests.Logout d reply line asks-only grants is given none = absurd (cc)
-question s k request d reply line asks-only grants is given none = tells s d _ line (given ∙ is) none (subst IsQuiet is (quiet reply grants))
+question s k requests.GetTracking d reply line asks-only is given none = absurd (cc)
+question s k (requests.SetVar ups variable value) d reply line asks-only is given none = absurd (cc)
+question s k (requests.SetTracking on) d reply line asks-only is given none = absurd (cc)
+question s k (requests.InstCmd ups command parameter) d reply line asks-only is given none = absurd (cc)
+question s k (requests.Username name) d reply line asks-only is given none = absurd (cc)
+question s k (requests.Password password) d reply line asks-only is given none = absurd (cc)
+question s k (requests.Login ups) d reply line asks-only is given none = absurd (cc)
+question s k (requests.Primary ups) d reply line asks-only is given none = absurd (cc)
+question s k (requests.Fsd ups) d reply line asks-only is given none = absurd (cc)
+question s k requests.Logout d reply line asks-only is given none = absurd (cc)
+question s k request d reply line asks-only is given none = tells s d _ line (given ∙ is) none (quiet_question s request asks-only)
 
 -- A request that changes nothing if it is refused.
 abbrev pub IsRefusable : Scene → Command → Type 0
@@ -89,13 +92,11 @@ at_rest d = ap (λ w. record d { device = record d.device { waits = w } }) (requ
 
 -- ---- the requests that act on a UPS
 
-pub refusable_set : (s : Scene) (ups variable value : List ℕ) → IsRefusable s (Asks (requests.SetVar ups variable value))
-refusable_set s ups variable value r line =
+pub refusable_task : (s : Scene) (ups : List ℕ) (task : Task) → IsRefusable s (Asks (task_request ups task))
+refusable_task s ups (tasks.Set variable value) r line =
     let command = Asks (requests.SetVar ups variable value) in
     (λ k. refl, λ supplies. sym (act_idle (target (numbering_in s) command) (acted command (refused r)) supplies at_rest), refl)
-
-pub refusable_command : (s : Scene) (ups name : List ℕ) (parameter : Option (List ℕ)) → IsRefusable s (Asks (requests.InstCmd ups name parameter))
-refusable_command s ups name parameter r line =
+refusable_task s ups (tasks.Run name parameter) r line =
     let command = Asks (requests.InstCmd ups name parameter) in
     (λ k. refl, λ supplies. sym (act_idle (target (numbering_in s) command) (acted command (refused r)) supplies at_rest), refl)
 
@@ -104,17 +105,13 @@ refusable_fsd s ups r line =
     let command = Asks (requests.Fsd ups) in
     (λ k. refl, λ supplies. sym (act_idle (target (numbering_in s) command) (acted command (refused r)) supplies at_rest), refl)
 
-pub sets : (s : Scene) (ups variable value : List ℕ) (u : ℕ) (number : Option ℕ) (line : List ℕ) → ups_number s ups ≡ Some u
-    → line ≡ ask_line (asks.Set variable value number) → IsNextNumber s number
-    → Does s (Asks (requests.SetVar ups variable value)) (accepted number) (effects.Ask u number) line
-sets s ups variable value u None line there is next = (λ k. refl, λ supplies. rw (there, is) refl, next)
-sets s ups variable value u (Some number) line there is next = (λ k. refl, λ supplies. rw (there, is) refl, next)
-
-pub commands : (s : Scene) (ups name : List ℕ) (parameter : Option (List ℕ)) (u : ℕ) (number : Option ℕ) (line : List ℕ) → ups_number s ups ≡ Some u
-    → line ≡ ask_line (asks.InstCmd name parameter number) → IsNextNumber s number
-    → Does s (Asks (requests.InstCmd ups name parameter)) (accepted number) (effects.Ask u number) line
-commands s ups name parameter u None line there is next = (λ k. refl, λ supplies. rw (there, is) refl, next)
-commands s ups name parameter u (Some number) line there is next = (λ k. refl, λ supplies. rw (there, is) refl, next)
+pub does_task : (s : Scene) (ups : List ℕ) (task : Task) (u : ℕ) (number : Option ℕ) (line : List ℕ) → ups_number s ups ≡ Some u
+    → line ≡ ask_line (task_ask task number) → IsNextNumber s number
+    → Does s (Asks (task_request ups task)) (accepted number) (effects.Ask u number) line
+does_task s ups (tasks.Set variable value) u None line there is next = (λ k. refl, λ supplies. rw (there, is) refl, next)
+does_task s ups (tasks.Set variable value) u (Some number) line there is next = (λ k. refl, λ supplies. rw (there, is) refl, next)
+does_task s ups (tasks.Run name parameter) u None line there is next = (λ k. refl, λ supplies. rw (there, is) refl, next)
+does_task s ups (tasks.Run name parameter) u (Some number) line there is next = (λ k. refl, λ supplies. rw (there, is) refl, next)
 
 pub forces : (s : Scene) (ups : List ℕ) (u : ℕ) (line : List ℕ) → ups_number s ups ≡ Some u
     → Does s (Asks (requests.Fsd ups)) (Line replies.FsdSet) (effects.Force u) line
@@ -125,15 +122,31 @@ forces s ups u line number = (
   refl,
 )
 
--- the answer to SET VAR once the variable allows the value
-pub before_set : (s : Scene) (k : Caller) (d : Device) (name value : List ℕ) (v : Entry) → variable d.table name ≡ Some v → misfit v value ≡ None
-    → set_answer s k d name value ≡ handed_on SetFailed s k (λ number. asks.Set name value number) d
-before_set s k d name value v there fit = rw (there, fit) refl
+-- the answer to a task, by the tests of the user and the UPS
+pub asked_for : (s : Scene) (k : Caller) (ups : List ℕ) (task : Task)
+    → answer_request s k (task_request ups task) ≡ with_right s k (right_to task) ups (λ u. on_data s u (task_answer s k task))
+asked_for s k ups (tasks.Set variable value) = refl
+asked_for s k ups (tasks.Run name parameter) = refl
 
--- the answer to INSTCMD once the UPS has the command and its parameter isn't too long
-pub before_command : (s : Scene) (k : Caller) (d : Device) (name : List ℕ) (parameter : Option (List ℕ)) → has_command d.table name ≡ true → parameter_misfit parameter ≡ None
-    → command_answer s k d name parameter ≡ handed_on InstCmdFailed s k (λ number. asks.InstCmd name parameter number) d
-before_command s k d name parameter there fit = rw (there, fit) refl
+-- the answer to a task, by the tests of the task
+pub task_tested : (s : Scene) (k : Caller) (task : Task) (d : Device)
+    → task_answer s k task d ≡ unless (task_misfit task d) (handed_on (task_failure task) s k (task_ask task) d)
+task_tested s k (tasks.Set name value) d = by_entry (variable d.table name) where
+  by_entry : (o : Option Entry) → require VarNotSupported o (λ v. unless (misfit v value) (handed_on SetFailed s k (asks.Set name value) d))
+      ≡ unless (entry_misfit value o) (handed_on SetFailed s k (asks.Set name value) d)
+  by_entry None = refl
+  by_entry (Some v) = refl
+task_tested s k (tasks.Run name parameter) d = by_test (has_command d.table name) where
+  by_test : (b : Bool) → check CmdNotSupported b (unless (parameter_misfit parameter) (handed_on InstCmdFailed s k (asks.InstCmd name parameter) d))
+      ≡ unless (if b then parameter_misfit parameter else Some CmdNotSupported) (handed_on InstCmdFailed s k (asks.InstCmd name parameter) d)
+  by_test true = refl
+  by_test false = refl
+
+-- the answer to a task that the UPS can do
+pub task_handed : (s : Scene) (k : Caller) (task : Task) (d : Device) (failure : Refusal) → failure ≡ task_failure task → task_misfit task d ≡ None
+    → task_answer s k task d ≡ handed_on failure s k (task_ask task) d
+task_handed s k task d failure is none =
+    task_tested s k task d ∙ ap (λ t. unless t (handed_on (task_failure task) s k (task_ask task) d)) none ∙ ap (λ r. handed_on r s k (task_ask task) d) (sym is)
 
 -- the answer about a UPS whose data can be relied on
 pub on_told : (s : Scene) (u : ℕ) (d : Device) (next : Device → Answer) (reply : Answer) → device_at s u ≡ d → trouble s.configuration.max_age s.clock (device_at s u) ≡ None → next d ≡ reply

@@ -2,7 +2,8 @@
 use Rattle.std.proofs.Common.{◌≡◌, ℕ, ◌+◌, ◌≤◌, Bool, true, false, not, cond, ◌||◌, List, [], ◌∷◌, length, map, Option, None, Some, nat_lt, refl, sym, ap, ◌∙◌, arith}
 use Rattle.std.specs.List.{find, list_any, position, position_or_len, prefix_len}
 use Rattle.std.specs.Map.{keys_of, values_of, lookup}
-use Rattle.std.specs.Option.{option_map}
+use Rattle.std.specs.Borrow.{Bor}
+use Rattle.std.specs.Option.{option_copied, option_map, option_map_or}
 use Rattle.std.specs.Prelude.{slice_get}
 use Rattle.std.specs.Str.{bytes_eq}
 use Rattle.std.proofs.lemmas.Bool.Decides.{nat_tests}
@@ -21,7 +22,7 @@ use Rattle.nut_conf.specs.declared.users.Commands.TheVariants as commands
 use Rattle.nut_words.specs.declared.limits.TheConstants.{UPS_NAME_MAX}
 use Rattle.nut_conf.proofs.NameLookup.{slice_get-names}
 use Rattle.nut_conf.proofs.SlotLemmas.{length-map}
-use Rattle.nut_server_spec.specs.Configuration.{Ups, number_of_ups, user_named, covers}
+use Rattle.nut_server_spec.specs.Configuration.{Ups, number_of_ups, user_named, covers, has_password}
 use Rattle.nut_server.specs.Configured.{ups_of, user_of, user_in, command_of}
 
 bytes_eq-symm : (a b : List ℕ) → bytes_eq a b ≡ bytes_eq b a
@@ -93,6 +94,17 @@ found_first name e es false h later = later
 pub found_user : (name : List ℕ) (es : List (Name UPS_NAME_MAX × the_user.User)) → user_named name (map user_in es) ≡ option_map (user_of name) (lookup (is_named name) es)
 found_user name [] = refl
 found_user name (e ∷ es) = rw (bytes_eq-symm e.0.bytes.items name) (found_first name e es (bytes_eq name e.0.bytes.items) refl (found_user name es))
+
+-- the user that is lent
+pub lent_user : (name : List ℕ) (found : Option (Bor the_user.User)) → option_map (λ u. user_of name u.now) found ≡ option_map (user_of name) (option_copied found)
+lent_user name None = refl
+lent_user name (Some u) = refl
+
+-- whether a password is that of a user
+pub password_kept : (password name : List ℕ) (u : the_user.User) → files.has_password password u ≡ has_password password (user_of name u)
+password_kept password name u =
+    elim u.password as (λ o. option_map_or (λ t. bytes_eq password t.bytes.items) o false ≡ option_map_or (λ own. bytes_eq password own) (option_map (λ t. t.bytes.items) o) false)
+    [ None ↦ refl | Some t ↦ refl ]
 
 -- the commands that a user may give
 pub covered : (name : List ℕ) (cs : List Commands) → list_any (files.covers name) cs ≡ list_any (covers name) (map command_of cs)

@@ -10,3 +10,4 @@ pub mod Parts
 pub mod Place
 pub mod Rows
 pub mod Server
+pub mod Tasks

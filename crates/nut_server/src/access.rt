@@ -5,13 +5,14 @@ ghost use Rattle.nut_server_spec.specs.Answer as definitions;
 ghost use Rattle.nut_server_spec.specs.Answer.{has_right, is_primary, refused, ups_number, with_credentials, with_right};
 ghost use Rattle.nut_server_spec.specs.Configuration.{user_named};
 ghost use Rattle.nut_server_spec.specs.machine.Machine.{caller_of};
+ghost use Rattle.nut_server.specs.Configured.{user_of};
 ghost use Rattle.nut_server.specs.Seats.{are_right};
 ghost use Rattle.nut_server.specs.inside.Access.{allows};
 
-use crate::config::{Config, User};
+use crate::config::Config;
 use crate::connection::Connection;
 use crate::scene::Scene;
-use nut_conf::{Action, Role};
+use nut_conf::{Action, Role, User};
 use nut_proto::Refusal;
 
 /// A right, which a request needs if it changes something.
@@ -39,15 +40,15 @@ fn is_primary(role: Option<Role>) -> bool
 }
 
 /// Whether the user has the right.
-fn allows(right: Right<'_>, user: &User<'_>) -> bool
-    ensures { result ≡ allows right.entry user.now }
+fn allows(right: Right<'_>, user: &User) -> bool
+    ensures { (name : List ℕ) → result ≡ allows right.entry (user_of name user.now) }
 {
     match right {
         Right::Set => user.may_act(Action::Set),
         Right::Command(name) => user.may_command(name),
-        Right::LogIn => user.role().is_some(),
-        Right::BePrimary => is_primary(user.role()),
-        Right::Force => is_primary(user.role()) || user.may_act(Action::Fsd),
+        Right::LogIn => user.upsmon.is_some(),
+        Right::BePrimary => is_primary(user.upsmon),
+        Right::Force => is_primary(user.upsmon) || user.may_act(Action::Fsd),
     }
 }
 
@@ -56,7 +57,7 @@ fn has_right(config: &Config, name: &[u8], password: &[u8], right: Right<'_>) ->
     ensures { result ≡ has_right (allows right.entry) password.now (user_named name.now config.now.users) }
 {
     match config.find_user(name) {
-        Some(user) => user.has_password(password) && allows(right, &user),
+        Some(user) => user.has_password(password) && allows(right, user),
         None => false,
     }
 }

@@ -8,7 +8,7 @@ use nut_state::Variable;
 
 /// The rows of a list. UPSes and variables are named as the client wrote them.
 #[derive(Drop)]
-pub enum Rows<'a> {
+pub enum ListRows<'a> {
     /// All UPSes.
     Upses(&'a Config),
     /// The variables of the UPS of this name.
@@ -28,14 +28,12 @@ pub enum Rows<'a> {
 /// An answer. It borrows what it shows.
 #[derive(Drop)]
 pub enum Answer<'a> {
-    /// No bytes at all.
-    Silence,
     /// One line.
     Line(Reply<'a>),
     /// The line of GET VAR: the name of the UPS, the UPS and the variable.
     Value(&'a [u8], &'a Device, &'a Variable),
     /// A list: its query, and its rows.
-    Listing(&'a ListQuery<'a>, Rows<'a>),
+    Listing(&'a ListQuery<'a>, ListRows<'a>),
 }
 
 impl Answer<'_> {

@@ -1,15 +1,14 @@
 //! Requests that change something, and why each is refused (RFC 9271).
 
-ghost use Rattle.std.specs.Prelude.{◌≡◌, ◌≤◌, ℕ, List, Option, length, true, MatchResult, IfOk, OnOk};
-ghost use Rattle.nut_proto.specs.declared.driver_ask.DriverAsk.TheVariants as asks;
+ghost use Rattle.std.specs.Prelude.{◌≡◌, ◌≤◌, ℕ, List, Option, length, MatchResult, IfOk};
 ghost use Rattle.nut_proto.specs.declared.reply.Reply.TheVariants as replies;
 ghost use Rattle.nut_proto.specs.declared.request.Request.TheVariants as requests;
-ghost use Rattle.nut_proto.specs.DriverAsks.{ask_line};
-ghost use Rattle.nut_server_spec.specs.Answer.{Answer, Scene, accepted, command_answer, numbered, refused, set_answer};
+ghost use Rattle.nut_server_spec.specs.Answer.{Answer, Scene, numbered, refused};
 ghost use Rattle.nut_server_spec.specs.Command.{Asks};
-ghost use Rattle.nut_server_spec.specs.Device.{fits};
 ghost use Rattle.nut_server_spec.specs.machine.Machine.{caller_of};
+ghost use Rattle.nut_server.specs.inside.Access.{allows};
 ghost use Rattle.nut_server.specs.inside.Decisions.{AreThere, Grants, HandsOn, IsNextNumber};
+ghost use Rattle.nut_server.specs.inside.Tasks.{right_to, task_ask, task_failure, task_misfit, task_request};
 
 use crate::access::{Right, authorize, credentials};
 use crate::connection::Connection;
@@ -54,119 +53,108 @@ fn next_number(
     Ok(Some(scene.given + 1))
 }
 
-/// Writes the request to set a variable into `line`, if the variable allows the value and the line fits behind what
-/// waits for the driver. Otherwise returns the refusal.
-fn ask_to_set(
-    scene: &Scene<'_>,
-    caller: &Connection,
-    device: &Device,
-    name: &[u8],
-    value: &[u8],
-    line: &mut ArrayVec<u8, ASKS_MAX>,
-) -> Result<Option<u32>, Refusal>
-    ensures answer { MatchResult result
-        (λ number. set_answer scene.now (caller_of caller.now) device.now.device name.now value.now ≡ accepted number)
-        (λ refusal. set_answer scene.now (caller_of caller.now) device.now.device name.now value.now ≡ refused refusal) }
-    ensures line { IfOk result (λ number. line.new.items ≡ ask_line (asks.Set name.now value.now number)) }
-    ensures fits { OnOk result (fits line.new.items device.now.device ≡ true) }
-    ensures next { IfOk result (IsNextNumber scene.now) }
-{
-    let variable = variable_of(device, name)?;
-    if let Some(refusal) = misfit(variable, value) {
-        return Err(refusal);
-    }
-    let number = next_number(scene, caller, Refusal::SetFailed)?;
-    let ask = DriverAsk::Set {
-        variable: Word::new(name),
-        value: Word::new(value),
-        number,
-    };
-    if !put_ask(line, &ask, device) {
-        return Err(Refusal::SetFailed);
-    }
-    Ok(number)
+/// What a client asks the driver of a UPS to do.
+#[derive(Drop)]
+pub enum Task<'a> {
+    /// To set a variable to a value.
+    Set {
+        variable: Word<'a>,
+        value: Word<'a>,
+    },
+    /// To run a command, perhaps with a parameter.
+    Run {
+        command: Word<'a>,
+        parameter: Option<Word<'a>>,
+    },
 }
 
-/// Writes the request to run a command into `line`, if the UPS has the command, the parameter isn't too long and the
-/// line fits behind what waits for the driver. Otherwise returns the refusal.
-fn ask_to_do(
-    scene: &Scene<'_>,
-    caller: &Connection,
-    device: &Device,
-    name: &[u8],
-    parameter: &Option<Word<'_>>,
-    line: &mut ArrayVec<u8, ASKS_MAX>,
-) -> Result<Option<u32>, Refusal>
-    ensures answer { MatchResult result
-        (λ number. command_answer scene.now (caller_of caller.now) device.now.device name.now parameter.now ≡ accepted number)
-        (λ refusal. command_answer scene.now (caller_of caller.now) device.now.device name.now parameter.now ≡ refused refusal) }
-    ensures line { IfOk result (λ number. line.new.items ≡ ask_line (asks.InstCmd name.now parameter.now number)) }
-    ensures fits { OnOk result (fits line.new.items device.now.device ≡ true) }
-    ensures next { IfOk result (IsNextNumber scene.now) }
-{
-    if !device.table().has_cmd(name) {
-        return Err(Refusal::CmdNotSupported);
+impl<'a> Task<'a> {
+    /// Returns the right that it needs.
+    fn right(&self) -> Right<'_>
+        ensures { allows result ≡ right_to self.now }
+    {
+        match self {
+            Task::Set { .. } => Right::Set,
+            Task::Run { command, .. } => Right::Command(command.as_bytes()),
+        }
     }
-    if let Some(refusal) = parameter_misfit(parameter) {
-        return Err(refusal);
+
+    /// Returns why a UPS can't do it: it has no such variable, which allows the value, or no such command, or the parameter is
+    /// too long.
+    fn misfit(&self, device: &Device) -> Option<Refusal>
+        ensures { result ≡ task_misfit self.now device.now.device }
+    {
+        match self {
+            Task::Set { variable, value } => match variable_of(device, variable.as_bytes()) {
+                Ok(variable) => misfit(variable, value.as_bytes()),
+                Err(refusal) => Some(refusal),
+            },
+            Task::Run { command, parameter } => {
+                if !device.table().has_cmd(command.as_bytes()) {
+                    return Some(Refusal::CmdNotSupported);
+                }
+                parameter_misfit(parameter)
+            }
+        }
     }
-    let number = next_number(scene, caller, Refusal::InstCmdFailed)?;
-    let ask = DriverAsk::InstCmd {
-        command: Word::new(name),
-        parameter: parameter.as_ref().map(Word::copy),
-        number,
-    };
-    if !put_ask(line, &ask, device) {
-        return Err(Refusal::InstCmdFailed);
+
+    /// Returns the refusal if it can't be handed on.
+    fn failure(&self) -> Refusal
+        ensures { result ≡ task_failure self.now }
+    {
+        match self {
+            Task::Set { .. } => Refusal::SetFailed,
+            Task::Run { .. } => Refusal::InstCmdFailed,
+        }
     }
-    Ok(number)
+
+    /// Returns the request to the driver, with the number of the client's request if it is tracked.
+    fn ask(self, number: Option<u32>) -> DriverAsk<'a>
+        ensures { result ≡ task_ask self.entry number }
+    {
+        match self {
+            Task::Set { variable, value } => DriverAsk::Set {
+                variable,
+                value,
+                number,
+            },
+            Task::Run { command, parameter } => DriverAsk::InstCmd {
+                command,
+                parameter,
+                number,
+            },
+        }
+    }
 }
 
-/// Decides on SET VAR: the driver is asked to set the variable, by a request that is written into `line`.
+/// Decides on SET VAR and INSTCMD: the driver is asked to do the task, by a request that is written into `line`.
 ///
 /// # Errors
 ///
 /// The errors of [`authorize`](crate::access::authorize); then `DriverNotConnected` or `DataStale` if the data of the
-/// UPS can't be relied on, and `VarNotSupported` for an unknown variable. Then `ReadOnly`, `TooLong` or `InvalidValue`
-/// if the variable can't be set to the value. At last `SetFailed` if all numbers of tracked requests are used, or if
-/// the request doesn't fit behind those that wait for the driver.
-pub fn set_variable(
+/// UPS can't be relied on. Then `VarNotSupported` for an unknown variable, and `ReadOnly`, `TooLong` or `InvalidValue`
+/// if it can't be set to the value; or `CmdNotSupported` for an unknown command, and `TooLong` if the parameter has more
+/// than [`VALUE_MAX`](nut_words::VALUE_MAX) bytes. At last `SetFailed` or `InstCmdFailed` if all numbers of tracked
+/// requests are used, or if the request doesn't fit behind those that wait for the driver.
+pub fn ask_driver(
     scene: &Scene<'_>,
     caller: &Connection,
     ups: &[u8],
-    name: &[u8],
-    value: &[u8],
+    task: Task<'_>,
     line: &mut ArrayVec<u8, ASKS_MAX>,
 ) -> Result<HandedOn, Refusal>
-    ensures { HandsOn scene.now (caller_of caller.now) (Asks (requests.SetVar ups.now name.now value.now)) result
-        line.new.items }
+    ensures { HandsOn scene.now (caller_of caller.now) (Asks (task_request ups.now task.entry)) result line.new.items }
 {
-    let u = authorize(scene, caller, Right::Set, ups)?;
-    let number = ask_to_set(scene, caller, scene.data_of(u)?, name, value, line)?;
-    Ok(HandedOn { ups: u, number })
-}
-
-/// Decides on INSTCMD: the driver is asked to run the command, by a request that is written into `line`.
-///
-/// # Errors
-///
-/// The errors of [`authorize`](crate::access::authorize); then `DriverNotConnected` or `DataStale` if the data of the
-/// UPS can't be relied on, and `CmdNotSupported` for an unknown command. Then `TooLong` if the parameter has more
-/// than [`VALUE_MAX`](nut_words::VALUE_MAX) bytes. At last `InstCmdFailed` if all numbers of tracked requests are
-/// used, or if the request doesn't fit behind those that wait for the driver.
-pub fn give_command(
-    scene: &Scene<'_>,
-    caller: &Connection,
-    ups: &[u8],
-    name: &[u8],
-    parameter: &Option<Word<'_>>,
-    line: &mut ArrayVec<u8, ASKS_MAX>,
-) -> Result<HandedOn, Refusal>
-    ensures { HandsOn scene.now (caller_of caller.now) (Asks (requests.InstCmd ups.now name.now parameter.now))
-        result line.new.items }
-{
-    let u = authorize(scene, caller, Right::Command(name), ups)?;
-    let number = ask_to_do(scene, caller, scene.data_of(u)?, name, parameter, line)?;
+    let u = authorize(scene, caller, task.right(), ups)?;
+    let device = scene.data_of(u)?;
+    if let Some(refusal) = task.misfit(device) {
+        return Err(refusal);
+    }
+    let failure = task.failure();
+    let number = next_number(scene, caller, failure)?;
+    if !put_ask(line, &task.ask(number), device) {
+        return Err(failure);
+    }
     Ok(HandedOn { ups: u, number })
 }
 

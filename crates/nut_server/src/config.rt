@@ -4,13 +4,13 @@ ghost use Rattle.std.specs.Prelude.{◌≡◌, ◌<◌, ◌≤◌, ℕ, List, If
 ghost use Rattle.std.specs.Option.{option_map};
 ghost use Rattle.nut_conf.specs.Descriptions.{rows_of};
 ghost use Rattle.nut_proto.specs.Descriptions.{beside, command_description, told, variable_description};
-ghost use Rattle.nut_server_spec.specs.Configuration.{number_of_ups, ups_named, user_named, has_password, may_act, may_command};
+ghost use Rattle.nut_server_spec.specs.Configuration.{number_of_ups, ups_named, user_named};
 ghost use Rattle.nut_server_spec.specs.laws.Limits.{IsWithin};
 ghost use Rattle.nut_server_spec.specs.laws.Reloads.{AreNamedApart};
-ghost use Rattle.nut_server.specs.Configured.{command_texts_of, configuration_of, upses_of, users_of, variable_texts_of};
+ghost use Rattle.nut_server.specs.Configured.{command_texts_of, configuration_of, upses_of, user_of, users_of, variable_texts_of};
 
 use nut_conf::{
-    Action, CONNECTIONS_MAX, Descriptions, Role, UPSES_MAX, USERS_MAX, UpsConf, UpsdConf, UsersConf,
+    CONNECTIONS_MAX, Descriptions, UPSES_MAX, USERS_MAX, UpsConf, UpsdConf, User, UsersConf,
 };
 use nut_proto::{command_description, variable_description};
 use std::marker::Model;
@@ -32,52 +32,6 @@ impl<'a> Model for Ups<'a> {
     ghost Value = { definitions.Ups };
 
     ghost view = { λ u. record { name = u.name.now; driver = u.driver.now; description = u.description.now } };
-}
-
-/// A user, borrowed from the configuration.
-#[derive(Drop)]
-pub struct User<'a> {
-    name: &'a [u8],
-    entry: &'a nut_conf::User,
-}
-
-impl<'a> Model for User<'a> {
-    ghost use Rattle.nut_server_spec.specs.Configuration as definitions;
-    ghost use Rattle.nut_server.specs.Configured.{user_of};
-
-    ghost Value = { definitions.User };
-
-    ghost view = { λ u. user_of u.name.now u.entry.now };
-}
-
-impl<'a> User<'a> {
-    /// Whether this is the user's password. For a user without a password it is always false.
-    pub fn has_password(&self, password: &[u8]) -> bool
-        ensures { result ≡ has_password password.now self.now }
-    {
-        self.entry.has_password(password)
-    }
-
-    /// Whether the user may take the action.
-    pub fn may_act(&self, action: Action) -> bool
-        ensures { result ≡ may_act action self.now }
-    {
-        self.entry.may_act(action)
-    }
-
-    /// Whether the user may give the command with this name.
-    pub fn may_command(&self, name: &[u8]) -> bool
-        ensures { result ≡ may_command name.now self.now }
-    {
-        self.entry.may_command(name)
-    }
-
-    /// Returns the role of the user's monitor, if the user may have one.
-    pub fn role(&self) -> Option<Role>
-        ensures { result ≡ self.now.role }
-    {
-        self.entry.upsmon
-    }
 }
 
 /// The description of a name that has none.
@@ -248,13 +202,10 @@ impl Config {
 
     /// Returns the first user with this name. Allocates no memory. The time it takes doesn't grow with the number of
     /// users.
-    pub fn find_user<'a>(&'a self, name: &'a [u8]) -> Option<User<'a>>
-        ensures { result ≡ user_named name.now self.now.users }
+    pub fn find_user(&self, name: &[u8]) -> Option<&User>
+        ensures { option_map (λ user. user_of name.now user.now) result ≡ user_named name.now self.now.users }
     {
-        match self.users.find(name) {
-            Some(entry) => Some(User { name, entry }),
-            None => None,
-        }
+        self.users.find(name)
     }
 
     /// The text of cmdvartab for a variable, if it has one.

@@ -20,7 +20,7 @@ ghost use Rattle.nut_words.specs.Hearing.{IsRest};
 ghost use Rattle.nut_server.specs.inside.Inside.{numbers_of};
 ghost use Rattle.nut_server.specs.inside.Place.{Stands};
 ghost use Rattle.nut_server.specs.Seats.{has_no_login, is_stranger, longest_without_login};
-ghost use Rattle.nut_server.specs.Settling.{IsNextUnsettled, is_unsettled, settles};
+ghost use Rattle.nut_server.specs.Settling.{IsNextUnsettled, is_unsettled};
 
 use crate::access::has_right_credentials;
 use crate::config::Config;
@@ -206,10 +206,9 @@ impl Connections {
         self.unsettled == 0
     }
 
-    /// Returns the number of the first unsettled connection from the number `least` on, if there is one.
-    fn find_unsettled(&self, least: u64) -> Option<u64>
-        ensures value { result ≡ option_map (λ k. k.number) (find (settles least) self.now) }
-        ensures rising { IsRising (numbers_of self.now) }
+    /// Returns the least number, from `least` on, of a connection for which bytes wait or which is to be closed.
+    pub fn first_unsettled(&self, least: u64) -> Option<u64>
+        ensures { IsNextUnsettled self.now least result }
     {
         if self.unsettled == 0 {
             return None;
@@ -221,13 +220,6 @@ impl Connections {
             }
         }
         None
-    }
-
-    /// Returns the least number, from `least` on, of a connection for which bytes wait or which is to be closed.
-    pub fn first_unsettled(&self, least: u64) -> Option<u64>
-        ensures { IsNextUnsettled self.now least result }
-    {
-        self.find_unsettled(least)
     }
 
     /// Returns the number of the first connection of a stranger: a client that isn't logged in, and hasn't given the name

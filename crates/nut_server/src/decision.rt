@@ -1,7 +1,6 @@
 //! Decides on requests: the answer to each, and what it changes.
 
 ghost use Rattle.std.specs.Prelude.{◌≡◌, MatchResult};
-ghost use Rattle.nut_proto.specs.declared.reply.Reply.TheVariants as replies;
 ghost use Rattle.nut_server_spec.specs.Answer.{accepted, refused};
 ghost use Rattle.nut_server_spec.specs.Answer as definitions;
 ghost use Rattle.nut_server_spec.specs.Command.{Asks, asked};
@@ -13,7 +12,7 @@ ghost use Rattle.nut_server.specs.declared.effect.Effect.TheVariants as effects;
 
 use crate::answer::Answer;
 use crate::changes::{
-    HandedOn, become_primary, force, give_command, give_password, give_user, log_in, set_variable,
+    HandedOn, Task, ask_driver, become_primary, force, give_password, give_user, log_in,
     switch_tracking,
 };
 use crate::connection::Connection;
@@ -21,7 +20,7 @@ use crate::effect::Effect;
 use crate::queries::answer_question;
 use crate::scene::Scene;
 use arrayvec::ArrayVec;
-use nut_proto::{Refusal, Reply, Request};
+use nut_proto::{Refusal, Reply, Request, Word};
 use nut_queue::ASKS_MAX;
 
 /// What is decided on a request.
@@ -74,16 +73,6 @@ fn grant<'a, 'l>(reply: Reply<'a>, granted: Result<Effect<'l>, Refusal>) -> Deci
     }
 }
 
-/// Returns the decision on a request that changes something: `OK` and the effect if it is granted, or the refusal and no
-/// effect.
-fn accept<'a, 'l>(granted: Result<Effect<'l>, Refusal>) -> Decision<'a, 'l>
-    ensures { MatchResult granted.entry
-        (λ effect. (given result.answer ≡ definitions.Line replies.Accepted) × (result.effect ≡ effect))
-        (λ refusal. (given result.answer ≡ refused refusal) × (result.effect ≡ effects.Nothing)) }
-{
-    grant(Reply::Accepted, granted)
-}
-
 /// Returns the reply to a request that is handed on to a driver: `OK`, with the number of the request if it is tracked.
 fn accepted<'a>(number: Option<u32>) -> Reply<'a>
     ensures { definitions.Line result ≡ accepted number }
@@ -109,17 +98,6 @@ fn hand_on<'a>(granted: Result<HandedOn, Refusal>) -> Decision<'a, 'static>
     }
 }
 
-/// Returns the decision on `LOGOUT`: a goodbye, and the client is logged out.
-fn log_out<'a>() -> Decision<'a, 'static>
-    ensures answer { given result.answer ≡ definitions.Line replies.Goodbye }
-    ensures effect { result.effect ≡ effects.Logout }
-{
-    Decision {
-        answer: Answer::Line(Reply::Goodbye),
-        effect: Effect::Logout,
-    }
-}
-
 /// Decides on a request.
 fn decide_request<'a, 'l>(
     scene: &'a Scene<'_>,
@@ -139,33 +117,43 @@ fn decide_request<'a, 'l>(
             ups,
             variable,
             value,
-        } => hand_on(set_variable(
+        } => hand_on(ask_driver(
             scene,
             caller,
             ups.as_bytes(),
-            variable.as_bytes(),
-            value.as_bytes(),
+            Task::Set {
+                variable: variable.copy(),
+                value: value.copy(),
+            },
             line,
         )),
-        Request::SetTracking { on } => accept(switch_tracking(caller, *on)),
+        Request::SetTracking { on } => grant(Reply::Accepted, switch_tracking(caller, *on)),
         Request::InstCmd {
             ups,
             command,
             parameter,
-        } => hand_on(give_command(
+        } => hand_on(ask_driver(
             scene,
             caller,
             ups.as_bytes(),
-            command.as_bytes(),
-            parameter,
+            Task::Run {
+                command: command.copy(),
+                parameter: parameter.as_ref().map(Word::copy),
+            },
             line,
         )),
-        Request::Username { name } => accept(give_user(caller, name.as_bytes())),
-        Request::Password { password } => accept(give_password(caller, password.as_bytes())),
-        Request::Login { ups } => accept(log_in(scene, caller, ups.as_bytes())),
-        Request::Primary { ups } => accept(become_primary(scene, caller, ups.as_bytes())),
+        Request::Username { name } => grant(Reply::Accepted, give_user(caller, name.as_bytes())),
+        Request::Password { password } => grant(
+            Reply::Accepted,
+            give_password(caller, password.as_bytes()),
+        ),
+        Request::Login { ups } => grant(Reply::Accepted, log_in(scene, caller, ups.as_bytes())),
+        Request::Primary { ups } => grant(
+            Reply::Accepted,
+            become_primary(scene, caller, ups.as_bytes()),
+        ),
         Request::Fsd { ups } => grant(Reply::FsdSet, force(scene, caller, ups.as_bytes())),
-        Request::Logout => log_out(),
+        Request::Logout => grant(Reply::Goodbye, Ok(Effect::Logout)),
         _ => tell(answer_question(scene, request)),
     }
 }

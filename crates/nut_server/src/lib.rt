@@ -29,7 +29,7 @@ mod tracked;
 mod unread;
 
 pub use arrival::Arrival;
-pub use config::{Config, Ups, User};
+pub use config::{Config, Ups};
 pub use deeds::{Act, Deed};
 pub use device::silence_before_ping;
 pub use nut_server_spec::{Place, Refused};

@@ -6,9 +6,7 @@ ghost use Rattle.nut_proto.specs.declared.request.ListQuery.TheVariants as queri
 ghost use Rattle.nut_server_spec.specs.Answer.{Caller, Line, Listing, answer, described, on_variable, refused, text_of, var_row};
 ghost use Rattle.nut_server_spec.specs.Command.{Asks};
 ghost use Rattle.nut_server_spec.specs.Configuration.{number_of_ups};
-ghost use Rattle.nut_server.specs.declared.effect.Effect.TheVariants as effects;
 ghost use Rattle.nut_server.specs.inside.Answers.{answer_from};
-ghost use Rattle.nut_server.specs.inside.Effects.{Does};
 ghost use Rattle.nut_server.specs.inside.Rows.{row_front};
 
 use crate::config::Ups;
@@ -30,8 +28,7 @@ pub fn write_answer(
     query: PlainQuery<'_>,
 ) -> Result<(), AllocError>
     requires found { place ≡ number_of_ups (ups_of query) scene.now.configuration.upses }
-    ensures text { (caller : Caller) → OnOk result (out.new.items ≡ text_of (answer scene.now caller (Asks (request_of query.entry)))) }
-    ensures quiet { (caller : Caller) (line : List ℕ) → Does scene.now (Asks (request_of query.entry)) (answer scene.now caller (Asks (request_of query.entry))) effects.Nothing line }
+    ensures { (caller : Caller) → OnOk result (out.new.items ≡ text_of (answer scene.now caller (Asks (request_of query.entry)))) }
 {
     out.clear();
     match query {

@@ -5,7 +5,7 @@ ghost use Rattle.nut_proto.specs.declared.refusal.Refusal.TheVariants as refusal
 ghost use Rattle.nut_proto.specs.declared.request.Request.TheVariants as requests;
 ghost use Rattle.nut_state.specs.Table.{variable};
 ghost use Rattle.nut_server.specs.inside.Answers.{outcome};
-ghost use Rattle.nut_server.specs.inside.Decisions.{grants_nothing, is_question, told};
+ghost use Rattle.nut_server.specs.inside.Decisions.{is_question, told};
 
 use crate::answer::Answer;
 use crate::device::Device;
@@ -34,8 +34,7 @@ pub fn variable_of<'a>(device: &'a Device, name: &[u8]) -> Result<&'a Variable, 
 /// `UnknownUps` if there is no such UPS; then `DriverNotConnected` or `DataStale` if its data can't be relied on.
 #[tactic(auto, using(std::proofs::lemmas::Grind::common_steps))]
 fn count_logins<'a>(scene: &'a Scene<'_>, ups: &'a [u8]) -> Result<Answer<'a>, Refusal>
-    ensures answer { outcome result ≡ told scene.now (requests.GetNumLogins ups.now) }
-    ensures quiet { IsTrue (grants_nothing (outcome result)) }
+    ensures { outcome result ≡ told scene.now (requests.GetNumLogins ups.now) }
 {
     let u = scene.number_of(ups)?;
     scene.data_of(u)?;
@@ -51,8 +50,7 @@ fn count_logins<'a>(scene: &'a Scene<'_>, ups: &'a [u8]) -> Result<Answer<'a>, R
 ///
 /// `UnknownUps` if there is no such UPS.
 fn describe_ups<'a>(scene: &'a Scene<'_>, ups: &'a [u8]) -> Result<Answer<'a>, Refusal>
-    ensures answer { outcome result ≡ told scene.now (requests.GetUpsDesc ups.now) }
-    ensures quiet { IsTrue (grants_nothing (outcome result)) }
+    ensures { outcome result ≡ told scene.now (requests.GetUpsDesc ups.now) }
 {
     let Some(entry) = scene.config.ups_named(ups) else {
         return Err(Refusal::UnknownUps);
@@ -74,8 +72,7 @@ fn show_variable<'a>(
     ups: &'a [u8],
     name: &[u8],
 ) -> Result<Answer<'a>, Refusal>
-    ensures answer { outcome result ≡ told scene.now (requests.GetVar ups.now name.now) }
-    ensures quiet { IsTrue (grants_nothing (outcome result)) }
+    ensures { outcome result ≡ told scene.now (requests.GetVar ups.now name.now) }
 {
     let device = scene.device_named(ups)?;
     let variable = variable_of(device, name)?;
@@ -89,8 +86,7 @@ fn show_variable<'a>(
 /// `UnknownUps` if there is no such UPS; then `DriverNotConnected` or `DataStale` if its data can't be relied on; then
 /// `VarNotSupported` if it has no such variable.
 fn show_type<'a>(scene: &'a Scene<'_>, ups: &'a [u8], name: &[u8]) -> Result<Answer<'a>, Refusal>
-    ensures answer { outcome result ≡ told scene.now (requests.GetType ups.now name.now) }
-    ensures quiet { IsTrue (grants_nothing (outcome result)) }
+    ensures { outcome result ≡ told scene.now (requests.GetType ups.now name.now) }
 {
     let device = scene.device_named(ups)?;
     let variable = variable_of(device, name)?;
@@ -113,8 +109,7 @@ fn describe_variable<'a>(
     ups: &'a [u8],
     name: &'a [u8],
 ) -> Result<Answer<'a>, Refusal>
-    ensures answer { outcome result ≡ told scene.now (requests.GetDesc ups.now name.now) }
-    ensures quiet { IsTrue (grants_nothing (outcome result)) }
+    ensures { outcome result ≡ told scene.now (requests.GetDesc ups.now name.now) }
 {
     let device = scene.device_named(ups)?;
     variable_of(device, name)?;
@@ -136,8 +131,7 @@ fn describe_command<'a>(
     ups: &'a [u8],
     name: &'a [u8],
 ) -> Result<Answer<'a>, Refusal>
-    ensures answer { outcome result ≡ told scene.now (requests.GetCmdDesc ups.now name.now) }
-    ensures quiet { IsTrue (grants_nothing (outcome result)) }
+    ensures { outcome result ≡ told scene.now (requests.GetCmdDesc ups.now name.now) }
 {
     let device = scene.device_named(ups)?;
     if !device.table().has_cmd(name) {
@@ -160,8 +154,7 @@ pub fn answer_question<'a>(
     request: &'a Request<'_>,
 ) -> Result<Answer<'a>, Refusal>
     requires { IsTrue (is_question request.now) }
-    ensures answer { outcome result ≡ told scene.now request.now }
-    ensures quiet { IsTrue (grants_nothing (outcome result)) }
+    ensures { outcome result ≡ told scene.now request.now }
 {
     match request {
         Request::GetNumLogins { ups } => count_logins(scene, ups.as_bytes()),

@@ -8,7 +8,7 @@ ghost use Rattle.nut_server_spec.specs.Answer.{text_of, var_row};
 ghost use Rattle.nut_server.specs.inside.Answers.{given, rows_of};
 ghost use Rattle.nut_server.specs.inside.Rows.{client_text, row_front, row_word, value_row, variable_row, writable_text};
 
-use crate::answer::{Answer, Rows};
+use crate::answer::{Answer, ListRows};
 use crate::config::{Config, Ups};
 use crate::connection::Connection;
 use crate::connections::Connections;
@@ -23,17 +23,11 @@ use std::alloc::AllocError;
 
 // ---- rows
 
-fn is_named(variable: &Variable, name: &[u8]) -> bool
-    ensures { result ≡ bytes_eq variable.now.name name.now }
-{
-    variable.name() == name
-}
-
 /// Whether clients see the value with `FSD ` before it: it is the status of a UPS whose shutdown was forced.
 pub fn shows_forced(device: &Device, variable: &Variable) -> bool
     ensures { result ≡ (device.now.device.forced && bytes_eq variable.now.name (codes "ups.status")) }
 {
-    device.is_forced() && is_named(variable, b"ups.status")
+    device.is_forced() && variable.name() == b"ups.status".as_slice()
 }
 
 /// Returns the value with `FSD ` before it.
@@ -248,17 +242,17 @@ fn put_clients(
 
 // ---- answers
 
-fn put_rows(out: &mut Vec<u8>, rows: &Rows<'_>) -> Result<(), AllocError>
+fn put_rows(out: &mut Vec<u8>, rows: &ListRows<'_>) -> Result<(), AllocError>
     ensures { OnOk result (out.new.items ≡ out.old.items ++ flat_map reply_line (rows_of rows.now)) }
 {
     match rows {
-        Rows::Upses(config) => put_upses(out, config),
-        Rows::Variables(ups, device) => put_variables(out, ups, device),
-        Rows::Writable(ups, device) => put_writables(out, ups, device),
-        Rows::Commands(ups, device) => put_commands(out, ups, device),
-        Rows::Enums(ups, name, variable) => put_enums(out, ups, name, variable),
-        Rows::Ranges(ups, name, variable) => put_ranges(out, ups, name, variable),
-        Rows::Clients(ups, u, connections) => put_clients(out, ups, *u, connections),
+        ListRows::Upses(config) => put_upses(out, config),
+        ListRows::Variables(ups, device) => put_variables(out, ups, device),
+        ListRows::Writable(ups, device) => put_writables(out, ups, device),
+        ListRows::Commands(ups, device) => put_commands(out, ups, device),
+        ListRows::Enums(ups, name, variable) => put_enums(out, ups, name, variable),
+        ListRows::Ranges(ups, name, variable) => put_ranges(out, ups, name, variable),
+        ListRows::Clients(ups, u, connections) => put_clients(out, ups, *u, connections),
     }
 }
 
@@ -268,7 +262,6 @@ pub fn put_answer(out: &mut Vec<u8>, answer: &Answer<'_>) -> Result<(), AllocErr
     ensures { OnOk result (out.new.items ≡ out.old.items ++ text_of (given answer.now)) }
 {
     match answer {
-        Answer::Silence => Ok(()),
         Answer::Line(reply) => reply.put(out),
         Answer::Value(ups, device, variable) => {
             put_variable(out, false, &front_of(b"VAR", ups), ups, device, variable)

@@ -52,7 +52,10 @@ impl Unread {
     pub fn note(&mut self, alloc: Global, line: Line<'_>) {
         match line {
             Line::Text(text) => {
-                if text.starts_with(SET_INFO) || !can_be_read(alloc, text) {
+                // a line for whose words memory is lacking may have some
+                if text.starts_with(SET_INFO)
+                    || !matches!(split(alloc, text), Ok(_) | Err(WordFault::Memory))
+                {
                     self.add(name_in(text));
                 }
             }
@@ -71,11 +74,6 @@ impl Unread {
             self.has_more = true;
         }
     }
-}
-
-/// Whether a line has words, or may have some and memory is lacking for them.
-fn can_be_read(alloc: Global, text: &[u8]) -> bool {
-    matches!(split(alloc, text), Ok(_) | Err(WordFault::Memory))
 }
 
 /// Returns what stands between the first two blanks of a line, if that is a name; or else nothing.

@@ -9,21 +9,21 @@ use Rattle.nut_server_spec.specs.declared.Refused.TheVariants.{Memory}
 use Rattle.nut_server_spec.specs.Configuration.{Configuration}
 use Rattle.nut_server_spec.specs.Event.{Event}
 use Rattle.nut_server_spec.specs.Event as event
-use Rattle.nut_server_spec.specs.Trace.{driver_sent}
-use Rattle.nut_server_spec.specs.Content.{Content, past, sent}
+use Rattle.nut_server_spec.specs.Content.{Content}
 use Rattle.nut_server_spec.specs.Acceptance.{Tells}
 use Rattle.nut_server_spec.specs.Outcome.{IsRefusal, after_refusal}
 use Rattle.nut_server_spec.specs.Reloading.{drivers_ended, connections_ended}
-use Rattle.nut_server_spec.proofs.Sent.{taken_by, sent-refused}
-use Rattle.nut_server_spec.proofs.DriverSent.{drained_by, driver_sent-refused}
 use Rattle.nut_server.specs.declared.arrival.Arrival.{Arrival}
 use Rattle.nut_server.specs.Arrival.{event_of}
 use Rattle.nut_server_loop.specs.Record.{Entry, Gave, tells, tells_next, tells_arrival, arrival_of, is_reload, LeadsTo}
 use Rattle.nut_server_loop.specs.declared.types.Next.{Next}
 use Rattle.nut_server_loop.specs.declared.types.Next.TheVariants as next
-use Rattle.nut_server_loop.specs.Served.{Served, ServedBefore, ended_in, to_close, ended_by, ended_by_event, ended_by_lack, ended_by_refusal, history_of, driver_taken}
-use Rattle.nut_server_loop.proofs.Steps.{Answered, Leads, goes_on, same_sent}
-use Rattle.nut_server_loop.proofs.Begun.{asked_on, refusal_leaves}
+use Rattle.nut_server_loop.specs.Served.{Served, ServedBefore, to_close, ended_by, ended_by_event, ended_by_refusal, history_of, taken, sent_to}
+use Rattle.nut_server_loop.specs.inside.Going.{ended_by_lack, listed}
+use Rattle.nut_server_loop.specs.declared.types.Peer.{Peer}
+use Rattle.nut_server_loop.specs.declared.types.Peer.TheVariants.{Connection}
+use Rattle.nut_server_loop.proofs.Steps.{Answered, Leads, goes_on, stays}
+use Rattle.nut_server_loop.proofs.Begun.{taken_in, sent_on, sent_to-refused, refusal_leaves}
 
 -- an event that `next` can give: no bytes were taken, and no write failed
 abbrev pub IsGiven : Event → Type 0
@@ -40,13 +40,10 @@ given_next n items e is = rw is at (given_any n items) where
 
 -- ---- an accepted arrival
 
-takes_none : (e : Event) (c : ℕ) → IsGiven e → taken_by c e ≡ 0
-takes_none (event.Took d n) c given = absurd given
-takes_none e c given = refl
-
-drains_none : (e : Event) (u : ℕ) → IsGiven e → drained_by u e ≡ 0
-drains_none (event.DriverTook v n) u given = absurd given
-drains_none e u given = refl
+takes_none : (e : Event) (p : Peer) → IsGiven e → taken_in e p ≡ 0
+takes_none (event.Took d n) p given = absurd given
+takes_none (event.DriverTook v n) p given = absurd given
+takes_none e p given = refl
 
 -- ---- an arrival came and was answered
 
@@ -58,18 +55,16 @@ gave_event first o o' s s' e (Ok u) served more given answer leads =
     goes_on first o o' s s' [] (ended_by_event s e) (Gave e) served (e ∷ []) more
     (Ok tt, refl, answer first h served.holds, refl, ap (λ x. ended_by_event x e) served.holds.1)
     holds
-    (λ c. same_sent first h e c _ served.holds.0 (takes_none e c given) (served.sent_is c))
-    (λ v. asked_on first h e v _ (drains_none e v given) holds.0 (served.asked_is v))
+    (λ p. sent_on first h e p (taken first p served.steps) (takes_none e p given) holds.0 (served.sent_is p))
 gave_event first o o' s s' e (Err r) served more given answer leads =
     let h : List Event = history_of served.steps in
-    let joins : after_refusal r e [] ++ h ≡ after_refusal r e h = (refusal_leaves first h 0 [] r e).joins in
+    let joins : after_refusal r e [] ++ h ≡ after_refusal r e h = (refusal_leaves first h (Connection 0) [] r e).joins in
     goes_on first o o' s s' [] (ended_by_refusal r) (Gave e) served (after_refusal r e []) more
     (Err r, refl, answer first h served.holds, joins, refl)
     (subst (λ g. Tells first g s') (sym joins) (leads first h served.holds))
-    (λ c. served.sent_is c ∙ sym (sent-refused first h c r e served.holds.0) ∙ ap (sent first c) (sym joins))
-    (λ v.
-    (refusal_leaves first h v (driver_taken first v served.steps) r e).stays ∙ served.asked_is v ∙ sym (driver_sent-refused first h v r e served.holds.0)
-    ∙ ap (λ g. driver_sent v (past first g)) (sym joins))
+    (λ p.
+    (refusal_leaves first h p (taken first p served.steps) r e).stays ∙ served.sent_is p ∙ sym (sent_to-refused first h p r e served.holds.0)
+    ∙ ap (λ g. sent_to first p g) (sym joins))
 
 -- What `next` gave was told to the server as the arrival that it stands for.
 gave : {U : Type 0} (first : Configuration) (o o' : Option (List Entry)) (s s' : Content) (n : Next) (items : List ℕ) (found : Option Arrival) (arrival : Arrival) (r : Result U Refused)
@@ -94,13 +89,13 @@ ended_without s e (Ok u) plain = plain s
 ended_without s e (Err r) plain = refl
 
 -- What `next` gave was told to the server, and the answer is known to have ended this.
-pub gave_ending : {U : Type 0} (first : Configuration) (o' : Option (List Entry)) (s s' : Content) (n : Next) (items : List ℕ) (found : Option Arrival) (arrival : Arrival) (r : Result U Refused) (lack known : Option Place)
+pub gave_ending : {U : Type 0} (first : Configuration) (o' : Option (List Entry)) (s s' : Content) (n : Next) (items : List ℕ) (found : Option Arrival) (arrival : Arrival) (r : Result U Refused) (lack known : Option Peer)
     → ServedBefore first o' s n items → option_map event_of found ≡ arrival_of n items → found ≡ Some arrival → is_reload n ≡ false
-    → Answered s (event_of arrival) r → Leads s (event_of arrival) r s' → ended_by_lack r ≡ ended_in lack → lack ≡ known → Served first o' s' (ended_in known)
+    → Answered s (event_of arrival) r → Leads s (event_of arrival) r s' → ended_by_lack r ≡ listed lack → lack ≡ known → Served first o' s' (listed known)
 gave_ending first o' s s' n items found arrival r lack known before stands is plain answer leads ended same =
     let e : Event = event_of arrival in
     let nothing = ends_nothing n items e plain (sym stands ∙ ap (λ a. option_map event_of a) is) in
-    subst (λ w. Served first o' s' w) (ended_without s e r nothing ∙ ended ∙ ap ended_in same) (gave first before.0 o' s s' n items found arrival r before.1 before.2 stands is answer leads)
+    subst (λ w. Served first o' s' w) (ended_without s e r nothing ∙ ended ∙ ap listed same) (gave first before.0 o' s s' n items found arrival r before.1 before.2 stands is answer leads)
 
 -- ---- a reload
 
@@ -139,6 +134,12 @@ reload_refused first o' s s' n items k (Err r) before is answer leads failed =
 pub given : (first : Configuration) (o o' : Option (List Entry)) (s : Content) (n : Next) (items : List ℕ) → Served first o s [] → o' ≡ tells_next n items o → ServedBefore first o' s n items
 given first o o' s n items served more = (o, served, more)
 
+-- It gave no arrival.
+pub gave_none : (first : Configuration) (o' : Option (List Entry)) (s : Content) (n : Next) (items : List ℕ) (found : Option Arrival)
+    → ServedBefore first o' s n items → option_map event_of found ≡ arrival_of n items → found ≡ None → Served first o' s []
+gave_none first o' s n items found before stands is =
+    stays first before.0 o' s [] (before.2 ∙ ap (λ a. tells_arrival a before.0) (sym stands ∙ ap (λ a. option_map event_of a) is)) before.1
+
 -- ---- the answer to an arrival
 
 -- Where `next` gave an arrival, the world waits for the answer to it.
@@ -148,3 +149,8 @@ waits_on found arrival o same is leads = leads.0 (λ none. absurd (cc))
 -- Where it gave none, the world waits for nothing.
 pub waits_not : {A B : Type 0} (found : Option Arrival) (o : Option Event) → option_map event_of found ≡ o → found ≡ None → LeadsTo o A B → B
 waits_not found o same is leads = leads.1 (sym same ∙ ap (λ a. option_map event_of a) is)
+
+-- Where `next` gave a new configuration, the world waits for the answer to it.
+pub reload_waits : {A B : Type 0} (n : Next) (items : List ℕ) → is_reload n ≡ true → LeadsTo (arrival_of n items) A B → A
+reload_waits (next.Reload config) items is leads = leads.0 (λ none. absurd (cc))
+reload_waits n items is leads = absurd (true≢false (sym is))

@@ -1,7 +1,7 @@
 pub mod Begun
 pub mod Steps
 pub mod Writes
-pub mod Requests
+pub mod Peers
 pub mod Arrivals
 pub mod Settles
 pub mod Noted

@@ -9,7 +9,7 @@ use Rattle.nut_server_loop.specs.Record as entry
 use Rattle.nut_server_loop.specs.declared.types.Given.{Given}
 use Rattle.nut_server_loop.specs.declared.types.Given.TheVariants.{Moment, Open, Bytes, Close, DriverUp, DriverBytes, DriverDown}
 use Rattle.nut_server_loop.specs.declared.types.Note.{Note}
-use Rattle.nut_server_loop.specs.declared.types.Note.TheVariants.{Gave, Took, Closed, TookRequests, ClosedDriver}
+use Rattle.nut_server_loop.specs.declared.types.Note.TheVariants.{Gave, Took, Closed}
 use Rattle.nut_server_loop.specs.declared.types.Next.{Next}
 use Rattle.nut_server_loop.specs.declared.types.Next.TheVariants as next
 
@@ -33,10 +33,8 @@ event_of_given (DriverDown u) = event.DriverDown u
 -- the entry of the record that a note stands for
 abbrev pub entry_of : Note → entry.Entry
 entry_of (Gave given) = entry.Gave (event_of_given given)
-entry_of (Took c bytes) = entry.TookBytes c bytes.items
-entry_of (Closed c) = entry.WasClosed c
-entry_of (TookRequests u bytes) = entry.TookRequests u bytes.items
-entry_of (ClosedDriver u) = entry.DriverWasClosed u
+entry_of (Took p bytes) = entry.TookBytes p bytes.items
+entry_of (Closed p) = entry.WasClosed p
 
 -- what was noted, the newest first
 abbrev pub log_of : List Note → List entry.Entry

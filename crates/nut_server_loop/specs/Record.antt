@@ -1,33 +1,27 @@
 -- The record of a world: a list of entries, the newest first.
-use Rattle.std.specs.Prelude.{◌≡◌, ◌≢◌, ◌<◌, ℕ, Bool, true, false, ◌==◌, List, [], ◌∷◌, ◌++◌, length, take, Option, Some, None, option_map, if◌then◌else◌}
+use Rattle.std.specs.Prelude.{◌≡◌, ◌≢◌, ◌<◌, ◌+◌, ℕ, Bool, true, false, ◌==◌, ◌||◌, List, ◌∷◌, length, take, Option, Some, None, option_map, Result, IfOk, OnErr, is_ok, if◌then◌else◌}
 use Rattle.nut_server_spec.specs.Event.{Event}
 use Rattle.nut_server_spec.specs.Event as event
 use Rattle.nut_server_spec.specs.Content.{Content}
 use Rattle.nut_server_spec.specs.Acceptance.{session_of, waiting_of, asks_of, may_read, leaves}
 use Rattle.nut_server_loop.specs.declared.types.Next.{Next}
 use Rattle.nut_server_loop.specs.declared.types.Next.TheVariants.{Moment, Open, Bytes, Close, DriverUp, DriverBytes, DriverDown, Reload, Again, End}
+use Rattle.nut_server_loop.specs.declared.types.Peer.{Peer}
+use Rattle.nut_server_loop.specs.declared.types.Peer.TheVariants.{Connection, Driver}
 use Rattle.nut_io.specs.declared.types.Written.{Written}
 use Rattle.nut_io.specs.declared.types.Written.TheVariants.{Took, Later, Failed}
 
 pub data Entry : Type 0 where
   -- it gave this arrival
   Gave : (e : Event) → Entry
-  -- it took these bytes, in a write to connection c
-  TookBytes : (c : ℕ) (bytes : List ℕ) → Entry
-  -- a write to c is to come later
-  WasLate : (c : ℕ) → Entry
-  -- a write to c failed
-  WriteBroke : (c : ℕ) → Entry
-  -- it closed c
-  WasClosed : (c : ℕ) → Entry
-  -- it took these bytes, in a write to the driver of u
-  TookRequests : (u : ℕ) (bytes : List ℕ) → Entry
-  -- a write to the driver of u is to come later
-  DriverWasLate : (u : ℕ) → Entry
-  -- a write to the driver of u failed
-  DriverBroke : (u : ℕ) → Entry
-  -- it closed the link to the driver of u
-  DriverWasClosed : (u : ℕ) → Entry
+  -- it took these bytes, in a write to this peer
+  TookBytes : (p : Peer) (bytes : List ℕ) → Entry
+  -- a write to it is to come later
+  WasLate : (p : Peer) → Entry
+  -- a write to it failed
+  WriteBroke : (p : Peer) → Entry
+  -- it closed the connection, or the link to the driver
+  WasClosed : (p : Peer) → Entry
 
 -- the record after one entry more; a world without a record has none afterwards either
 abbrev pub tells : Entry → Option (List Entry) → Option (List Entry)
@@ -60,17 +54,30 @@ tells_arrival (Some e) o = tells (Gave e) o
 abbrev pub tells_next : Next → List ℕ → Option (List Entry) → Option (List Entry)
 tells_next n piece o = tells_arrival (arrival_of n piece) o
 
--- the record after a write of these bytes to connection c
-abbrev pub tells_write : Written → ℕ → List ℕ → Option (List Entry) → Option (List Entry)
-tells_write (Took n) c bytes o = tells (TookBytes c (take n bytes)) o
-tells_write Later c bytes o = tells (WasLate c) o
-tells_write Failed c bytes o = tells (WriteBroke c) o
+-- the record after a write of these bytes to a peer
+abbrev pub tells_write : Written → Peer → List ℕ → Option (List Entry) → Option (List Entry)
+tells_write (Took n) p bytes o = tells (TookBytes p (take n bytes)) o
+tells_write Later p bytes o = tells (WasLate p) o
+tells_write Failed p bytes o = tells (WriteBroke p) o
 
--- the record after a write of these bytes to the driver of u
-abbrev pub tells_request : Written → ℕ → List ℕ → Option (List Entry) → Option (List Entry)
-tells_request (Took n) u bytes o = tells (TookRequests u (take n bytes)) o
-tells_request Later u bytes o = tells (DriverWasLate u) o
-tells_request Failed u bytes o = tells (DriverBroke u) o
+-- What a call that returned this did to the record: at a fault it is as it was, and one more fault is counted.
+pub record Steps {W R E : Type 0} (faults : W → ℕ) (log : W → Option (List Entry)) (Reached : W → W → Type 0)
+    (told : R → Option (List Entry) → Option (List Entry)) (before : W) (result : Result R E) (after : W) : Type 0 where
+  pub ok : IfOk result (λ r. log after ≡ told r (log before))
+  pub err : OnErr result (log after ≡ log before)
+  pub counted : faults after ≡ (if is_ok result then faults before else faults before + 1)
+  pub reached : Reached before after
+
+-- whether these two are the same peer
+abbrev pub is_peer : Peer → Peer → Bool
+is_peer (Connection c) (Connection d) = c == d
+is_peer (Driver u) (Driver v) = u == v
+is_peer p q = false
+
+-- whether q is late after a write to p: it was late before, or it is p and the write is to come later
+abbrev pub late_after : Written → Peer → (Peer → Bool) → Peer → Bool
+late_after Later p late q = late q || is_peer q p
+late_after w p late q = late q
 
 -- What `next` leads to: the world waits for the answer to the arrival that it gave, if it gave one.
 abbrev pub LeadsTo : Option Event → Type 0 → Type 0 → Type 0
@@ -81,28 +88,24 @@ abbrev pub MayCome : Next → Content → Type 0
 MayCome (Bytes c) s = may_read (session_of c s.sessions) ≡ true
 MayCome n s = Unit {0}
 
--- If bytes wait for connection d, it is late.
-abbrev pub IsSettled : (ℕ → Bool) → Content → ℕ → Type 0
-IsSettled late s d = 0 < length (waiting_of d s.sessions) → late d ≡ true
+-- the bytes that wait for a peer
+abbrev pub waits_of : Peer → Content → List ℕ
+waits_of (Connection c) s = waiting_of c s.sessions
+waits_of (Driver u) s = asks_of u s.supplies
 
--- Each connection for which bytes wait is late.
-abbrev pub NothingIsWithheld : (ℕ → Bool) → Content → Type 0
-NothingIsWithheld late s = (d : ℕ) → IsSettled late s d
+-- If bytes wait for this peer, it is late.
+abbrev pub IsSettled : (Peer → Bool) → Content → Peer → Type 0
+IsSettled late s p = 0 < length (waits_of p s) → late p ≡ true
 
--- If bytes wait for the driver of u, it is late.
-abbrev pub IsDriverSettled : (ℕ → Bool) → Content → ℕ → Type 0
-IsDriverSettled late s u = 0 < length (asks_of u s.supplies) → late u ≡ true
+-- Each peer for which bytes wait is late.
+abbrev pub NothingIsWithheld : (Peer → Bool) → Content → Type 0
+NothingIsWithheld late s = (p : Peer) → IsSettled late s p
 
--- Each driver for which bytes wait is late.
-abbrev pub NoRequestIsWithheld : (ℕ → Bool) → Content → Type 0
-NoRequestIsWithheld late s = (u : ℕ) → IsDriverSettled late s u
+-- whether a peer is to be closed: a connection that has logged out and for which nothing waits
+abbrev pub leaves_at : Peer → Content → Bool
+leaves_at (Connection c) s = leaves (session_of c s.sessions)
+leaves_at (Driver u) s = false
 
 -- No connection is open that has logged out and for which nothing waits.
 abbrev pub NobodyLeaves : Content → Type 0
-NobodyLeaves s = (d : ℕ) → leaves (session_of d s.sessions) ≡ false
-
--- the bytes that the world took for connection c
-abbrev pub taken : ℕ → List Entry → List ℕ
-taken c [] = []
-taken c (TookBytes d bytes ∷ r) = if d == c then taken c r ++ bytes else taken c r
-taken c (entry ∷ r) = taken c r
+NobodyLeaves s = (p : Peer) → leaves_at p s ≡ false

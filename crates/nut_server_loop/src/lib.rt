@@ -3,6 +3,7 @@
 #![tactic(auto)]
 
 mod memory;
+mod peer;
 mod replay;
 mod serving;
 mod settling;
@@ -14,5 +15,5 @@ pub use memory::MemoryWorld;
 pub use replay::serve_memory;
 pub use serving::serve;
 pub use streams::{Stream, StreamWorld};
-pub use types::{Given, Next, Note};
+pub use types::{Given, Next, Note, Peer};
 pub use world::World;

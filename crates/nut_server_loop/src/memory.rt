@@ -1,13 +1,15 @@
 //! A world over memory.
 
-ghost use Rattle.std.specs.Prelude.{◌≡◌, ◌+◌, ◌-◌, ◌^◌, ◌<◌, ℕ, false, [], ◌∷◌, length, Some, None, Ok, IfOk, OnOk, OnErr, is_ok, if◌then◌else◌, IfSome, vec_len};
-ghost use Rattle.nut_io.specs.Writes.{IsWithin, late_after};
-ghost use Rattle.nut_server_loop.specs.Record.{tells, tells_next, tells_write, tells_request, LeadsTo, MayCome, arrival_of};
+ghost use Rattle.std.specs.Prelude.{◌≡◌, ◌+◌, ◌-◌, ◌^◌, ◌<◌, false, [], ◌∷◌, length, Some, None, Ok, IfOk, OnOk, OnErr, is_ok, if◌then◌else◌, IfSome, vec_len};
+ghost use Rattle.nut_io.specs.Writes.{IsWithin};
+ghost use Rattle.nut_server_loop.specs.Record.{Steps, tells, tells_next, tells_write, late_after, LeadsTo, MayCome, arrival_of};
+ghost use Rattle.nut_server_loop.specs.declared.types.Peer.{Peer};
+ghost use Rattle.nut_server_loop.specs.declared.types.Peer.TheVariants.{Connection, Driver};
 ghost use Rattle.nut_server_loop.specs.Record as entry;
-ghost use Rattle.nut_server_loop.specs.Memory.{MemoryState, log_of, entry_of, event_of_given, may_come, first_coming, GivesAt, GoesOn};
+ghost use Rattle.nut_server_loop.specs.Memory.{MemoryState, log_of, entry_of, gave_of, event_of_given, may_come, first_coming, GivesAt, GoesOn};
 ghost use Rattle.nut_server_loop.specs.inside.MemoryLaws.{goes_on_self, goes_on_twice};
 
-use crate::{Given, Next, Note, World};
+use crate::{Given, Next, Note, Peer, World};
 use nut_io::{Fault, Piece, Written};
 use nut_server::{Refused, Server};
 use std::alloc::Global;
@@ -51,14 +53,47 @@ impl MemoryWorld {
     {
         &self.notes
     }
+
+    /// Takes all of the bytes, and notes them.
+    fn take(&mut self, peer: Peer, bytes: &[u8]) -> Result<Written, Fault>
+        requires few { self.old.faults < 2 ^ 64 - 1 }
+        ensures step { Steps (λ w. w.faults) (λ w. Some w.log) GoesOn (λ w. tells_write w peer bytes.now) self.old result self.new }
+        ensures all { IfOk result (λ w. w ≡ Written.Took (length bytes.now)) }
+        ensures left { self.new.left ≡ self.old.left }
+    {
+        match bytes.to_vec(self.alloc) {
+            Ok(copy) => {
+                self.note(Note::Took(peer, copy))?;
+                Ok(Written::Took(bytes.len()))
+            }
+            Err(_) => {
+                self.faults += 1;
+                Err(Fault)
+            }
+        }
+    }
+
+    /// Notes what happened, other than an arrival.
+    fn note(&mut self, one: Note) -> Result<(), Fault>
+        requires few { self.old.faults < 2 ^ 64 - 1 }
+        requires silent { gave_of (entry_of one ∷ []) ≡ [] }
+        ensures step { Steps (λ w. w.faults) (λ w. Some w.log) GoesOn (λ _. tells (entry_of one)) self.old result self.new }
+        ensures left { self.new.left ≡ self.old.left }
+    {
+        match note(&mut self.notes, one) {
+            Ok(()) => Ok(()),
+            Err(fault) => {
+                self.faults += 1;
+                Err(fault)
+            }
+        }
+    }
 }
 
 impl World for MemoryWorld {
     ghost log = { λ w. Some w.log };
 
-    ghost late = { λ w d. false };
-
-    ghost driver_late = { λ w u. false };
+    ghost late = { λ w p. false };
 
     ghost fault_count = { λ w. w.faults };
 
@@ -84,8 +119,7 @@ impl World for MemoryWorld {
         ensures err { OnErr result (Some self.new.log ≡ Some self.old.log) }
         ensures read { IfOk result (λ n. MayCome n server.now) }
         ensures ended { result ≡ Ok Next.End → first_coming server.now self.new.left ≡ None }
-        ensures none_late { (d : ℕ) → false ≡ false }
-        ensures no_driver_late { (u : ℕ) → false ≡ false }
+        ensures none_late { (p : Peer) → false ≡ false }
         ensures counted { self.new.faults ≡ (if is_ok result then self.old.faults else self.old.faults + 1) }
         ensures awaits { IfOk result (λ n. LeadsTo (arrival_of n piece.new.items) (GoesOn self.old self.new) (GoesOn self.old self.new)) }
         ensures reached { OnErr result (GoesOn self.old self.new) }
@@ -114,83 +148,45 @@ impl World for MemoryWorld {
     fn write(&mut self, c: u64, bytes: &[u8]) -> Result<Written, Fault>
         requires few { self.old.faults < 2 ^ 64 - 1 }
         requires some { 0 < length bytes.now }
-        ensures ok { IfOk result (λ w. Some self.new.log ≡ tells_write w c bytes.now (Some self.old.log)) }
-        ensures err { OnErr result (Some self.new.log ≡ Some self.old.log) }
+        ensures step { Steps (λ w. w.faults) (λ w. Some w.log) GoesOn (λ w. tells_write w (Connection c) bytes.now)
+            self.old result self.new }
         ensures within { IfOk result (λ w. IsWithin w (length bytes.now)) }
-        ensures late { IfOk result (λ w. (d : ℕ) → false ≡ late_after w c (λ _. false) d) }
-        ensures drivers { (u : ℕ) → false ≡ false }
-        ensures counted { self.new.faults ≡ (if is_ok result then self.old.faults else self.old.faults + 1) }
-        ensures reached { GoesOn self.old self.new }
+        ensures late { IfOk result (λ w. (p : Peer) → false ≡ late_after w (Connection c) (λ _. false) p) }
         ensures all { IfOk result (λ w. w ≡ Written.Took (length bytes.now)) }
         ensures left { self.new.left ≡ self.old.left }
     {
-        match note_taken(self.alloc, &mut self.notes, c, bytes) {
-            Ok(()) => Ok(Written::Took(bytes.len())),
-            Err(fault) => {
-                self.faults += 1;
-                Err(fault)
-            }
-        }
+        self.take(Peer::Connection(c), bytes)
     }
 
     fn write_driver(&mut self, u: usize, bytes: &[u8]) -> Result<Written, Fault>
         requires few { self.old.faults < 2 ^ 64 - 1 }
         requires some { 0 < length bytes.now }
-        ensures ok { IfOk result (λ w. Some self.new.log ≡ tells_request w u bytes.now (Some self.old.log)) }
-        ensures err { OnErr result (Some self.new.log ≡ Some self.old.log) }
+        ensures step { Steps (λ w. w.faults) (λ w. Some w.log) GoesOn (λ w. tells_write w (Driver u) bytes.now) self.old result self.new }
         ensures within { IfOk result (λ w. IsWithin w (length bytes.now)) }
-        ensures late { (d : ℕ) → false ≡ false }
-        ensures drivers { IfOk result (λ w. (v : ℕ) → false ≡ late_after w u (λ _. false) v) }
-        ensures counted { self.new.faults ≡ (if is_ok result then self.old.faults else self.old.faults + 1) }
-        ensures reached { GoesOn self.old self.new }
+        ensures late { IfOk result (λ w. (p : Peer) → false ≡ late_after w (Driver u) (λ _. false) p) }
         ensures all { IfOk result (λ w. w ≡ Written.Took (length bytes.now)) }
         ensures left { self.new.left ≡ self.old.left }
     {
-        match note_requests(self.alloc, &mut self.notes, u, bytes) {
-            Ok(()) => Ok(Written::Took(bytes.len())),
-            Err(fault) => {
-                self.faults += 1;
-                Err(fault)
-            }
-        }
+        self.take(Peer::Driver(u), bytes)
     }
 
     fn close(&mut self, c: u64) -> Result<(), Fault>
         requires { self.old.faults < 2 ^ 64 - 1 }
-        ensures ok { OnOk result (Some self.new.log ≡ tells (entry.WasClosed c) (Some self.old.log)) }
-        ensures err { OnErr result (Some self.new.log ≡ Some self.old.log) }
-        ensures late { (d : ℕ) → false ≡ false }
-        ensures drivers { (u : ℕ) → false ≡ false }
-        ensures counted { self.new.faults ≡ (if is_ok result then self.old.faults else self.old.faults + 1) }
-        ensures reached { GoesOn self.old self.new }
+        ensures step { Steps (λ w. w.faults) (λ w. Some w.log) GoesOn (λ _. tells (entry.WasClosed (Connection c)))
+            self.old result self.new }
+        ensures late { (p : Peer) → false ≡ false }
         ensures left { self.new.left ≡ self.old.left }
     {
-        match note(&mut self.notes, Note::Closed(c)) {
-            Ok(()) => Ok(()),
-            Err(fault) => {
-                self.faults += 1;
-                Err(fault)
-            }
-        }
+        self.note(Note::Closed(Peer::Connection(c)))
     }
 
     fn close_driver(&mut self, u: usize) -> Result<(), Fault>
         requires { self.old.faults < 2 ^ 64 - 1 }
-        ensures ok { OnOk result (Some self.new.log ≡ tells (entry.DriverWasClosed u) (Some self.old.log)) }
-        ensures err { OnErr result (Some self.new.log ≡ Some self.old.log) }
-        ensures late { (d : ℕ) → false ≡ false }
-        ensures drivers { (v : ℕ) → false ≡ false }
-        ensures counted { self.new.faults ≡ (if is_ok result then self.old.faults else self.old.faults + 1) }
-        ensures reached { GoesOn self.old self.new }
+        ensures step { Steps (λ w. w.faults) (λ w. Some w.log) GoesOn (λ _. tells (entry.WasClosed (Driver u))) self.old result self.new }
+        ensures late { (p : Peer) → false ≡ false }
         ensures left { self.new.left ≡ self.old.left }
     {
-        match note(&mut self.notes, Note::ClosedDriver(u)) {
-            Ok(()) => Ok(()),
-            Err(fault) => {
-                self.faults += 1;
-                Err(fault)
-            }
-        }
+        self.note(Note::Closed(Peer::Driver(u)))
     }
 }
 
@@ -272,26 +268,6 @@ fn show_bytes(bytes: &Piece, piece: &mut Piece)
     piece.clear();
     if piece.try_extend_from_slice(bytes.as_slice()).is_err() {
         unreachable!()
-    }
-}
-
-fn note_taken(alloc: Global, notes: &mut Vec<Note>, c: u64, bytes: &[u8]) -> Result<(), Fault>
-    ensures ok { OnOk result (log_of notes.new.items ≡ entry.TookBytes c bytes.now ∷ log_of notes.old.items) }
-    ensures err { OnErr result (notes.new.items ≡ notes.old.items) }
-{
-    match bytes.to_vec(alloc) {
-        Ok(copy) => note(notes, Note::Took(c, copy)),
-        Err(_) => Err(Fault),
-    }
-}
-
-fn note_requests(alloc: Global, notes: &mut Vec<Note>, u: usize, bytes: &[u8]) -> Result<(), Fault>
-    ensures ok { OnOk result (log_of notes.new.items ≡ entry.TookRequests u bytes.now ∷ log_of notes.old.items) }
-    ensures err { OnErr result (notes.new.items ≡ notes.old.items) }
-{
-    match bytes.to_vec(alloc) {
-        Ok(copy) => note(notes, Note::TookRequests(u, copy)),
-        Err(_) => Err(Fault),
     }
 }
 

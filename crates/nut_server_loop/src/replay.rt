@@ -3,8 +3,9 @@
 ghost use Rattle.std.specs.Prelude.{◌≡◌, ◌<◌, ◌-◌, ◌^◌, List, [], Some, OnOk, OnErr};
 ghost use Rattle.nut_server_spec.specs.Content.{content};
 ghost use Rattle.nut_server_loop.specs.Memory.{GoesOn};
-ghost use Rattle.nut_server_loop.specs.Served.{Ended, Served};
+ghost use Rattle.nut_server_loop.specs.Served.{Served};
 ghost use Rattle.nut_server_loop.specs.ServedAll.{ServedAll};
+ghost use Rattle.nut_server_loop.specs.declared.types.Peer.{Peer};
 
 use crate::{MemoryWorld, serve};
 use nut_io::ServeFault;
@@ -25,7 +26,7 @@ pub fn serve_memory(
     requires blank { world.old.log ≡ [] }
     requires few { world.old.faults < 2 ^ 64 - 1 }
     ensures all { OnOk result (ServedAll server.old.configuration world.old world.new server.new) }
-    ensures err { OnErr result ((owed : List Ended) × Served server.old.configuration (Some world.new.log) server.new owed) }
+    ensures err { OnErr result ((owed : List Peer) × Served server.old.configuration (Some world.new.log) server.new owed) }
     ensures reached { GoesOn world.old world.new }
     ensures fault { OnErr result (world.old.faults < world.new.faults) }
 {

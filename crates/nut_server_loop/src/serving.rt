@@ -1,16 +1,17 @@
 //! The loop that serves over a world.
 
-ghost use Rattle.std.specs.Prelude.{◌≡◌, ◌+◌, ◌-◌, ◌^◌, ◌<◌, false, List, [], Ok, IfSome, OnOk, OnErr, is_ok, option_map, if◌then◌else◌};
+ghost use Rattle.std.specs.Prelude.{◌≡◌, ◌-◌, ◌^◌, ◌<◌, false, List, [], Ok, IfSome, OnOk, OnErr, option_map};
 ghost use Rattle.nut_server_spec.specs.Configuration.{Configuration};
 ghost use Rattle.nut_server_spec.specs.Content.{Content, content};
 ghost use Rattle.nut_server.specs.Arrival.{event_of};
-ghost use Rattle.nut_server_loop.specs.Record.{is_reload, LeadsTo, NothingIsWithheld, NoRequestIsWithheld, NobodyLeaves};
+ghost use Rattle.nut_server_loop.specs.Record.{is_reload, LeadsTo, NothingIsWithheld, NobodyLeaves};
 ghost use Rattle.nut_server_loop.specs.Record as entry;
-ghost use Rattle.nut_server_loop.specs.inside.Going.{Ready, Goes};
-ghost use Rattle.nut_server_loop.specs.Served.{Ended, ended_by_lack, ended_in, to_close, Served, ServedBefore};
+ghost use Rattle.nut_server_loop.specs.inside.Going.{Since, Ready, Goes, ended_by_lack, listed};
+ghost use Rattle.nut_server_loop.specs.Served.{to_close, Served, ServedBefore};
+ghost use Rattle.nut_server_loop.specs.declared.types.Peer.{Peer};
 
 use crate::settling::{settle, settle_all};
-use crate::{Next, World};
+use crate::{Next, Peer, World};
 use nut_io::{Fault, Piece, ServeFault};
 use nut_server::{Arrival, Config, Place, Refused, Server};
 use std::sync::Wait;
@@ -34,7 +35,7 @@ pub fn serve<W: World>(rt: &impl Wait, server: &mut Server, world: &mut W) -> Re
     requires fresh { server.old ≡ content server.old.configuration [] }
     requires blank { IfSome (W.log world.old) (λ r. r ≡ []) }
     requires few { W.fault_count world.old < 2 ^ 64 - 1 }
-    ensures err { OnErr result ((owed : List Ended) × Served server.old.configuration (W.log world.new) server.new owed) }
+    ensures err { OnErr result ((owed : List Peer) × Served server.old.configuration (W.log world.new) server.new owed) }
     ensures ok { OnOk result (Served server.old.configuration (W.log world.new) server.new []) }
     ensures left { OnOk result (NobodyLeaves server.new) }
     ensures ended { OnOk result (W.has_ended world.new server.new) }
@@ -46,9 +47,9 @@ pub fn serve<W: World>(rt: &impl Wait, server: &mut Server, world: &mut W) -> Re
 
 /// Serves until the world ends, from any point of a history at which nothing is left to close.
 fn go_on<W: World>(rt: &impl Wait, server: &mut Server, world: &mut W) -> Result<(), ServeFault>
-    ghost first: { Configuration }
-    requires ready { Ready W.fault_count W.log first world.old server.old }
-    ensures goes { Goes W.fault_count W.log W.reached first world.old result world.new server.new }
+    ghost since: { Since W }
+    requires ready { Ready W.fault_count W.log W.reached since world.old server.old [] }
+    ensures goes { Goes W.fault_count W.log W.reached since world.old result world.new server.new }
     ensures left { OnOk result (NobodyLeaves server.new) }
     ensures ended { OnOk result (W.has_ended world.new server.new) }
 {
@@ -67,9 +68,9 @@ fn settle_and_turn<W: World>(
     world: &mut W,
     piece: &mut Piece,
 ) -> Result<bool, Fault>
-    ghost first: { Configuration }
-    requires ready { Ready W.fault_count W.log first world.old server.old }
-    ensures goes { Goes W.fault_count W.log W.reached first world.old result world.new server.new }
+    ghost since: { Since W }
+    requires ready { Ready W.fault_count W.log W.reached since world.old server.old [] }
+    ensures goes { Goes W.fault_count W.log W.reached since world.old result world.new server.new }
     ensures left { result ≡ Ok false → NobodyLeaves server.new }
     ensures ended { result ≡ Ok false → W.has_ended world.new server.new }
 {
@@ -80,12 +81,11 @@ fn settle_and_turn<W: World>(
 /// Asks for the next arrival, passes it to the server, and closes what that ended. Returns false at the end of
 /// the world.
 fn turn<W: World>(server: &mut Server, world: &mut W, piece: &mut Piece) -> Result<bool, Fault>
-    ghost first: { Configuration }
-    requires ready { Ready W.fault_count W.log first world.old server.old }
+    ghost since: { Since W }
+    requires ready { Ready W.fault_count W.log W.reached since world.old server.old [] }
     requires withheld { NothingIsWithheld (W.late world.old) server.old }
-    requires requests { NoRequestIsWithheld (W.driver_late world.old) server.old }
     requires left { NobodyLeaves server.old }
-    ensures goes { Goes W.fault_count W.log W.reached first world.old result world.new server.new }
+    ensures goes { Goes W.fault_count W.log W.reached since world.old result world.new server.new }
     ensures left { result ≡ Ok false → NobodyLeaves server.new }
     ensures ended { result ≡ Ok false → W.has_ended world.new server.new }
 {
@@ -105,13 +105,10 @@ fn turn<W: World>(server: &mut Server, world: &mut W, piece: &mut Piece) -> Resu
 /// Gives the server a new configuration, and closes what the reload ended. If memory is lacking, the server keeps the
 /// configuration that it has, and all stays open.
 fn reload<W: World>(server: &mut Server, world: &mut W, config: Box<Config>) -> Result<(), Fault>
-    ghost first: { Configuration }
     requires few { W.fault_count world.old < 2 ^ 64 - 1 }
-    requires served { ServedBefore first (W.log world.old) server.old (Next.Reload config) [] }
-    ensures err { OnErr result ((owed : List Ended) × Served first (W.log world.new) server.new owed) }
-    ensures ok { OnOk result (Served first (W.log world.new) server.new []) }
-    ensures counted { W.fault_count world.new ≡ (if is_ok result then W.fault_count world.old else W.fault_count world.old + 1) }
-    ensures reached { (w : W) → W.awaits w world.old → W.reached w world.new }
+    ensures goes { (since : Since W) → ServedBefore since.first (W.log world.old) server.old (Next.Reload config) []
+        → W.awaits since.start world.old
+        → Goes W.fault_count W.log W.reached since world.old result world.new server.new }
 {
     let ended = server.ended_by(&config);
     let reloaded = server.arrive(Arrival::Reload(config));
@@ -127,12 +124,9 @@ fn reload<W: World>(server: &mut Server, world: &mut W, config: Box<Config>) -> 
 /// Closes the links to drivers and then the connections that a reload ended.
 fn close_ended<W: World>(world: &mut W, ended: &nut_server::Ended) -> Result<(), Fault>
     requires few { W.fault_count world.old < 2 ^ 64 - 1 }
-    ensures err { OnErr result ((first : Configuration) (s : Content) → Served first (W.log world.old) s (to_close ended.now.drivers.items ended.now.connections.items)
-        → (owed : List Ended) × Served first (W.log world.new) s owed) }
-    ensures ok { OnOk result ((first : Configuration) (s : Content) → Served first (W.log world.old) s (to_close ended.now.drivers.items ended.now.connections.items)
-        → Served first (W.log world.new) s []) }
-    ensures counted { W.fault_count world.new ≡ (if is_ok result then W.fault_count world.old else W.fault_count world.old + 1) }
-    ensures reached { W.reached world.old world.new }
+    ensures goes { (since : Since W) (s : Content)
+        → Ready W.fault_count W.log W.reached since world.old s (to_close ended.now.drivers.items ended.now.connections.items)
+        → Goes W.fault_count W.log W.reached since world.old result world.new s }
 {
     for u in ended.drivers.as_slice() {
         world.close_driver(*u)?;
@@ -155,30 +149,25 @@ fn hand_on<W: World>(
     requires few { W.fault_count world.old < 2 ^ 64 - 1 }
     requires plain { is_reload next.now ≡ false }
     requires served { ServedBefore first (W.log world.old) server.old next.now piece.now.items }
-    ensures err { OnErr result ((owed : List Ended) × Served first (W.log world.new) server.new owed) }
-    ensures ok { OnOk result (Served first (W.log world.new) server.new []) }
-    ensures counted { W.fault_count world.new ≡ (if is_ok result then W.fault_count world.old else W.fault_count world.old + 1) }
-    ensures reached { (w : W) → LeadsTo (entry.arrival_of next.now piece.now.items) (W.awaits w world.old) (W.reached w world.old)
-        → W.reached w world.new }
+    ensures goes { (start : W) → LeadsTo (entry.arrival_of next.now piece.now.items) (W.awaits start world.old) (W.reached start world.old)
+        → Goes W.fault_count W.log W.reached (record { first = first; start = start }) world.old result world.new server.new }
 {
     let Some(arrival) = arrival_of(next, piece) else {
         return Ok(());
     };
     let answer = server.arrive(arrival);
     world.told(server, &answer);
-    match place_of_lack(answer) {
+    match ended_by(answer) {
         None => settle_heard(server, world, next),
-        Some(Place::Line(c, _)) => world.close(c),
-        Some(Place::Report(u, _)) => world.close_driver(u),
-        Some(Place::NewUpses) => Ok(()),
+        Some(peer) => peer.close(world),
     }
 }
 
 /// Settles the connection whose bytes were handled. In most cases no other is unsettled, which saves a search.
 fn settle_heard<W: World>(server: &mut Server, world: &mut W, next: &Next) -> Result<(), Fault>
-    ghost first: { Configuration }
-    requires ready { Ready W.fault_count W.log first world.old server.old }
-    ensures goes { Goes W.fault_count W.log W.reached first world.old result world.new server.new }
+    ghost since: { Since W }
+    requires ready { Ready W.fault_count W.log W.reached since world.old server.old [] }
+    ensures goes { Goes W.fault_count W.log W.reached since world.old result world.new server.new }
 {
     match next {
         Next::Bytes(c) => settle(server, world, *c),
@@ -194,14 +183,16 @@ fn settle_heard<W: World>(server: &mut Server, world: &mut W, next: &Next) -> Re
     }
 }
 
-/// Returns the place at which memory ran out, if it did. It names what was ended.
-fn place_of_lack(answer: Result<(), Refused>) -> Option<Place>
-    ensures { ended_by_lack answer ≡ ended_in result }
+/// Returns the peer that a lack of memory ended, if the answer reports one.
+fn ended_by(answer: Result<(), Refused>) -> Option<Peer>
+    ensures { ended_by_lack answer ≡ listed result }
 {
     match answer {
-        Err(Refused::Memory(place)) => Some(place),
+        Err(Refused::Memory(Place::Line(c, _))) => Some(Peer::Connection(c)),
+        Err(Refused::Memory(Place::Report(u, _))) => Some(Peer::Driver(u)),
         Err(
-            Refused::NoSuchConnection
+            Refused::Memory(Place::NewUpses)
+            | Refused::NoSuchConnection
             | Refused::NotConnected
             | Refused::PieceTooLong
             | Refused::Busy

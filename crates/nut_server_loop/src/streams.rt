@@ -1,10 +1,12 @@
 //! A world over a reader and a writer, with one client.
 
-ghost use Rattle.std.specs.Prelude.{◌≡◌, ◌+◌, ◌-◌, ◌^◌, ◌<◌, ◌≤◌, ◌⊎◌, ℕ, true, false, length, take, None, Ok, IfOk, OnErr, is_ok, if◌then◌else◌};
+ghost use Rattle.std.specs.Prelude.{◌≡◌, ◌+◌, ◌-◌, ◌^◌, ◌<◌, ◌≤◌, ◌⊎◌, true, false, length, take, None, Ok, IfOk, OnErr, is_ok, if◌then◌else◌};
 ghost use Rattle.std.specs.Io.KnownBytes.{Appends, Consumes, IsAtEnd, Keeps};
 ghost use Rattle.nut_server_spec.specs.Acceptance.{may_read, session_of};
-ghost use Rattle.nut_io.specs.Writes.{IsWithin, Takes, late_after};
-ghost use Rattle.nut_server_loop.specs.Record.{tells_next, tells_write, arrival_of, LeadsTo, MayCome};
+ghost use Rattle.nut_io.specs.Writes.{IsWithin, Takes};
+ghost use Rattle.nut_server_loop.specs.Record.{Steps, tells_next, tells_write, arrival_of, late_after, LeadsTo, MayCome};
+ghost use Rattle.nut_server_loop.specs.declared.types.Peer.{Peer};
+ghost use Rattle.nut_server_loop.specs.declared.types.Peer.TheVariants.{Connection};
 ghost use Rattle.nut_server_loop.specs.Streams.{IsRead, no_record};
 ghost use Rattle.nut_server_loop.specs.declared.streams.Stage.TheVariants.{Ended};
 
@@ -83,9 +85,7 @@ impl<'a, R: Read, T: Write> StreamWorld<'a, R, T> {
 impl<'a, R: Read, T: Write> World for StreamWorld<'a, R, T> {
     ghost log = { λ w. None };
 
-    ghost late = { λ w d. false };
-
-    ghost driver_late = { λ w u. false };
+    ghost late = { λ w p. false };
 
     ghost fault_count = { λ w. w.faults };
 
@@ -111,8 +111,7 @@ impl<'a, R: Read, T: Write> World for StreamWorld<'a, R, T> {
         ensures err { OnErr result (no_record ≡ no_record) }
         ensures read { IfOk result (λ n. MayCome n server.now) }
         ensures ended { result ≡ Ok Next.End → self.new.stage ≡ Ended }
-        ensures none_late { (d : ℕ) → false ≡ false }
-        ensures no_driver_late { (u : ℕ) → false ≡ false }
+        ensures none_late { (p : Peer) → false ≡ false }
         ensures counted { self.new.faults ≡ (if is_ok result then self.old.faults else self.old.faults + 1) }
         ensures awaits { IfOk result (λ n. LeadsTo (arrival_of n piece.new.items) (Unit {0}) (Unit {0})) }
         ensures reached { OnErr result (Unit {0}) }
@@ -149,13 +148,10 @@ impl<'a, R: Read, T: Write> World for StreamWorld<'a, R, T> {
     fn write(&mut self, _c: u64, bytes: &[u8]) -> Result<Written, Fault>
         requires few { self.old.faults < 2 ^ 64 - 1 }
         requires some { 0 < length bytes.now }
-        ensures ok { IfOk result (λ w. no_record ≡ tells_write w _c bytes.now no_record) }
-        ensures err { OnErr result (no_record ≡ no_record) }
+        ensures step { Steps (λ w. w.faults) (λ w. no_record) (λ a b. Unit {0}) (λ w. tells_write w (Connection _c) bytes.now)
+            self.old result self.new }
         ensures within { IfOk result (λ w. IsWithin w (length bytes.now)) }
-        ensures late { IfOk result (λ w. (d : ℕ) → false ≡ late_after w _c (λ _. false) d) }
-        ensures drivers { (u : ℕ) → false ≡ false }
-        ensures counted { self.new.faults ≡ (if is_ok result then self.old.faults else self.old.faults + 1) }
-        ensures reached { Unit {0} }
+        ensures late { IfOk result (λ w. (p : Peer) → false ≡ late_after w (Connection _c) (λ _. false) p) }
         ensures took { IfOk result (λ w. Takes w bytes.now (T.contents self.old.output.now) (T.contents self.new.output.now)) }
         ensures took_none { OnErr result (Keeps (T.contents self.old.output.now) (T.contents self.new.output.now)) }
     {

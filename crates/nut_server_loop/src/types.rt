@@ -29,6 +29,15 @@ pub enum Next {
     End,
 }
 
+/// One that a server writes to, with its number.
+#[derive(Clone, Copy)]
+pub enum Peer {
+    /// The client of a connection.
+    Connection(u64),
+    /// The driver of a UPS.
+    Driver(usize),
+}
+
 /// An arrival as the world over memory keeps it. That world gives no reload: it would have to give the configuration away
 /// and to note it as well, and a configuration can't be copied.
 #[derive(Drop)]
@@ -54,12 +63,8 @@ pub enum Given {
 pub enum Note {
     /// It gave this arrival.
     Gave(Given),
-    /// It took these bytes for a connection.
-    Took(u64, Vec<u8>),
-    /// It closed a connection.
-    Closed(u64),
-    /// It took these requests, or parts of them, for the driver of a UPS.
-    TookRequests(usize, Vec<u8>),
-    /// It closed the link to the driver of a UPS.
-    ClosedDriver(usize),
+    /// It took these bytes for a client or a driver.
+    Took(Peer, Vec<u8>),
+    /// It closed a connection, or the link to a driver.
+    Closed(Peer),
 }

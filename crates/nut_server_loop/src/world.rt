@@ -1,9 +1,11 @@
 //! The world as the loop sees it.
 
-ghost use Rattle.std.specs.Prelude.{◌≡◌, ◌+◌, ◌-◌, ◌^◌, ◌<◌, ℕ, Bool, false, List, length, Option, Ok, IfOk, OnOk, OnErr, is_ok, if◌then◌else◌};
+ghost use Rattle.std.specs.Prelude.{◌≡◌, ◌+◌, ◌-◌, ◌^◌, ◌<◌, ℕ, Bool, false, List, length, Option, Ok, IfOk, OnErr, is_ok, if◌then◌else◌};
 ghost use Rattle.nut_server_spec.specs.Content.{Content};
-ghost use Rattle.nut_io.specs.Writes.{IsWithin, late_after};
-ghost use Rattle.nut_server_loop.specs.Record.{Entry, WasClosed, DriverWasClosed, tells, tells_next, tells_write, tells_request, arrival_of, LeadsTo, MayCome, NothingIsWithheld, NoRequestIsWithheld, NobodyLeaves};
+ghost use Rattle.nut_io.specs.Writes.{IsWithin};
+ghost use Rattle.nut_server_loop.specs.Record.{Entry, WasClosed, Steps, tells, tells_next, tells_write, arrival_of, late_after, LeadsTo, MayCome, NothingIsWithheld, NobodyLeaves};
+ghost use Rattle.nut_server_loop.specs.declared.types.Peer.{Peer};
+ghost use Rattle.nut_server_loop.specs.declared.types.Peer.TheVariants.{Connection, Driver};
 
 use crate::Next;
 use nut_io::{Fault, Piece, Written};
@@ -23,11 +25,8 @@ pub trait World {
     /// What it gave, took and closed, the newest first. `None` for a world without a record.
     ghost log: { Self → Option (List Entry) };
 
-    /// To which connections a write was `Later` since the last `next`.
-    ghost late: { Self → ℕ → Bool };
-
-    /// To which drivers a write was `Later` since the last `next`.
-    ghost driver_late: { Self → ℕ → Bool };
+    /// To whom a write was `Later` since the last `next`.
+    ghost late: { Self → Peer → Bool };
 
     /// How many calls returned a fault.
     ghost fault_count: { Self → ℕ };
@@ -53,14 +52,12 @@ pub trait World {
     fn next(&mut self, server: &Server, piece: &mut Piece) -> Result<Next, Fault>
         requires few { fault_count self.old < 2 ^ 64 - 1 }
         requires withheld { NothingIsWithheld (late self.old) server.now }
-        requires requests { NoRequestIsWithheld (driver_late self.old) server.now }
         requires left { NobodyLeaves server.now }
         ensures ok { IfOk result (λ n. log self.new ≡ tells_next n piece.new.items (log self.old)) }
         ensures err { OnErr result (log self.new ≡ log self.old) }
         ensures read { IfOk result (λ n. MayCome n server.now) }
         ensures ended { result ≡ Ok Next.End → has_ended self.new server.now }
-        ensures none_late { (d : ℕ) → late self.new d ≡ false }
-        ensures no_driver_late { (u : ℕ) → driver_late self.new u ≡ false }
+        ensures none_late { (p : Peer) → late self.new p ≡ false }
         ensures counted { fault_count self.new ≡ (if is_ok result then fault_count self.old else fault_count self.old + 1) }
         ensures awaits { IfOk result (λ n. LeadsTo (arrival_of n piece.new.items) (awaits self.old self.new) (reached self.old self.new)) }
         ensures reached { OnErr result (reached self.old self.new) };
@@ -79,46 +76,30 @@ pub trait World {
     fn write(&mut self, c: u64, bytes: &[u8]) -> Result<Written, Fault>
         requires few { fault_count self.old < 2 ^ 64 - 1 }
         requires some { 0 < length bytes.now }
-        ensures ok { IfOk result (λ w. log self.new ≡ tells_write w c bytes.now (log self.old)) }
-        ensures err { OnErr result (log self.new ≡ log self.old) }
+        ensures step { Steps fault_count log reached (λ w. tells_write w (Connection c) bytes.now) self.old result self.new }
         ensures within { IfOk result (λ w. IsWithin w (length bytes.now)) }
-        ensures late { IfOk result (λ w. (d : ℕ) → late self.new d ≡ late_after w c (late self.old) d) }
-        ensures drivers { (u : ℕ) → driver_late self.new u ≡ driver_late self.old u }
-        ensures counted { fault_count self.new ≡ (if is_ok result then fault_count self.old else fault_count self.old + 1) }
-        ensures reached { reached self.old self.new };
+        ensures late { IfOk result (λ w. (p : Peer) → late self.new p ≡ late_after w (Connection c) (late self.old) p) };
 
     /// Offers at least one byte to the driver of UPS `u`, and returns the outcome.
     fn write_driver(&mut self, u: usize, bytes: &[u8]) -> Result<Written, Fault>
         requires few { fault_count self.old < 2 ^ 64 - 1 }
         requires some { 0 < length bytes.now }
-        ensures ok { IfOk result (λ w. log self.new ≡ tells_request w u bytes.now (log self.old)) }
-        ensures err { OnErr result (log self.new ≡ log self.old) }
+        ensures step { Steps fault_count log reached (λ w. tells_write w (Driver u) bytes.now) self.old result self.new }
         ensures within { IfOk result (λ w. IsWithin w (length bytes.now)) }
-        ensures late { (d : ℕ) → late self.new d ≡ late self.old d }
-        ensures drivers { IfOk result (λ w. (v : ℕ) → driver_late self.new v ≡ late_after w u (driver_late self.old) v) }
-        ensures counted { fault_count self.new ≡ (if is_ok result then fault_count self.old else fault_count self.old + 1) }
-        ensures reached { reached self.old self.new };
+        ensures late { IfOk result (λ w. (p : Peer) → late self.new p ≡ late_after w (Driver u) (late self.old) p) };
 
     /// Closes connection `c`. Nothing more is offered to it.
     fn close(&mut self, c: u64) -> Result<(), Fault>
         requires few { fault_count self.old < 2 ^ 64 - 1 }
-        ensures ok { OnOk result (log self.new ≡ tells (WasClosed c) (log self.old)) }
-        ensures err { OnErr result (log self.new ≡ log self.old) }
-        ensures late { (d : ℕ) → late self.new d ≡ late self.old d }
-        ensures drivers { (u : ℕ) → driver_late self.new u ≡ driver_late self.old u }
-        ensures counted { fault_count self.new ≡ (if is_ok result then fault_count self.old else fault_count self.old + 1) }
-        ensures reached { reached self.old self.new };
+        ensures step { Steps fault_count log reached (λ _. tells (WasClosed (Connection c))) self.old result self.new }
+        ensures late { (p : Peer) → late self.new p ≡ late self.old p };
 
     /// Closes the link to the driver that was connected with the number `u`. Nothing more is offered with this number until
     /// a driver is connected with it anew.
     fn close_driver(&mut self, u: usize) -> Result<(), Fault>
         requires few { fault_count self.old < 2 ^ 64 - 1 }
-        ensures ok { OnOk result (log self.new ≡ tells (DriverWasClosed u) (log self.old)) }
-        ensures err { OnErr result (log self.new ≡ log self.old) }
-        ensures late { (d : ℕ) → late self.new d ≡ late self.old d }
-        ensures drivers { (v : ℕ) → driver_late self.new v ≡ driver_late self.old v }
-        ensures counted { fault_count self.new ≡ (if is_ok result then fault_count self.old else fault_count self.old + 1) }
-        ensures reached { reached self.old self.new };
+        ensures step { Steps fault_count log reached (λ _. tells (WasClosed (Driver u))) self.old result self.new }
+        ensures late { (p : Peer) → late self.new p ≡ late self.old p };
 
     /// Each state is reached from itself.
     ghost reached_self: { (w : Self) → reached w w };

@@ -1,11 +1,11 @@
 //! The world of a server over sockets.
 
-ghost use Rattle.std.specs.Prelude.{◌≡◌, ◌<◌, ℕ, length, IsOk, IfOk, OnOk, OnErr};
-ghost use Rattle.nut_io.specs.Writes.{IsWithin, late_after};
-ghost use Rattle.nut_server_loop.specs.Record.{tells, tells_write, tells_request};
-ghost use Rattle.nut_server_loop.specs.Record as entry;
-ghost use Rattle.nut_poll.specs.Late.{is_noted};
-ghost use Rattle.nut_server_sockets.specs.Untold.{untold};
+ghost use Rattle.std.specs.Prelude.{◌≡◌, ◌<◌, length, IsOk, IfOk};
+ghost use Rattle.nut_io.specs.Writes.{IsWithin};
+ghost use Rattle.nut_server_loop.specs.Record.{WasClosed, Steps, tells, tells_write, late_after};
+ghost use Rattle.nut_server_loop.specs.declared.types.Peer.{Peer};
+ghost use Rattle.nut_server_loop.specs.declared.types.Peer.TheVariants.{Connection, Driver};
+ghost use Rattle.nut_server_sockets.specs.Untold.{untold, is_late};
 
 use crate::drivers::Drivers;
 use crate::listeners::Listeners;
@@ -96,9 +96,7 @@ ghost use Rattle.std.specs.Prelude.{◌≢◌, ◌<◌, ◌≤◌, IfOk, IfSome,
 impl<'r, 'e, R: Net + Clock + Processes, L: Reloader + Drop> World for MioWorld<'r, 'e, R, L> {
     ghost log = { λ w. untold };
 
-    ghost late = { λ w c. is_noted w.late.items c };
-
-    ghost driver_late = { λ w u. is_noted w.late_drivers.items u };
+    ghost late = { λ w p. is_late w.late.items w.late_drivers.items p };
 
     ghost fault_count = { λ w. w.faults };
 
@@ -137,12 +135,11 @@ impl<'r, 'e, R: Net + Clock + Processes, L: Reloader + Drop> World for MioWorld<
     fn write(&mut self, c: u64, bytes: &[u8]) -> Result<Written, Fault>
         requires { 0 < length bytes.now }
         ensures no_fault { IsOk result }
-        ensures count { self.new.faults ≡ self.old.faults }
-        ensures ok { IfOk result (λ w. untold ≡ tells_write w c bytes.now untold) }
-        ensures err { OnErr result (untold ≡ untold) }
+        ensures step { Steps (λ w. w.faults) (λ w. untold) (λ a b. Unit {0}) (λ w. tells_write w (Connection c) bytes.now)
+            self.old result self.new }
         ensures within { IfOk result (λ w. IsWithin w (length bytes.now)) }
-        ensures late { IfOk result (λ w. (d : ℕ) → is_noted self.new.late.items d ≡ late_after w c (is_noted self.old.late.items) d) }
-        ensures drivers { (u : ℕ) → is_noted self.new.late_drivers.items u ≡ is_noted self.old.late_drivers.items u }
+        ensures late { IfOk result (λ w. (p : Peer) → is_late self.new.late.items self.new.late_drivers.items p
+            ≡ late_after w (Connection c) (is_late self.old.late.items self.old.late_drivers.items) p) }
     {
         let written = self.sockets.offer(c, bytes);
         Ok(note_written(&mut self.late, c, written))
@@ -151,12 +148,11 @@ impl<'r, 'e, R: Net + Clock + Processes, L: Reloader + Drop> World for MioWorld<
     fn write_driver(&mut self, u: usize, bytes: &[u8]) -> Result<Written, Fault>
         requires { 0 < length bytes.now }
         ensures no_fault { IsOk result }
-        ensures count { self.new.faults ≡ self.old.faults }
-        ensures ok { IfOk result (λ w. untold ≡ tells_request w u bytes.now untold) }
-        ensures err { OnErr result (untold ≡ untold) }
+        ensures step { Steps (λ w. w.faults) (λ w. untold) (λ a b. Unit {0}) (λ w. tells_write w (Driver u) bytes.now)
+            self.old result self.new }
         ensures within { IfOk result (λ w. IsWithin w (length bytes.now)) }
-        ensures late { (d : ℕ) → is_noted self.new.late.items d ≡ is_noted self.old.late.items d }
-        ensures drivers { IfOk result (λ w. (v : ℕ) → is_noted self.new.late_drivers.items v ≡ late_after w u (is_noted self.old.late_drivers.items) v) }
+        ensures late { IfOk result (λ w. (p : Peer) → is_late self.new.late.items self.new.late_drivers.items p
+            ≡ late_after w (Driver u) (is_late self.old.late.items self.old.late_drivers.items) p) }
     {
         let reports = &mut self.services.reports;
         let written = self.sockets.offer_driver(u, bytes, reports);
@@ -165,11 +161,10 @@ impl<'r, 'e, R: Net + Clock + Processes, L: Reloader + Drop> World for MioWorld<
 
     fn close(&mut self, c: u64) -> Result<(), Fault>
         ensures no_fault { IsOk result }
-        ensures count { self.new.faults ≡ self.old.faults }
-        ensures ok { OnOk result (untold ≡ tells (entry.WasClosed c) untold) }
-        ensures err { OnErr result (untold ≡ untold) }
-        ensures late { (d : ℕ) → is_noted self.new.late.items d ≡ is_noted self.old.late.items d }
-        ensures drivers { (v : ℕ) → is_noted self.new.late_drivers.items v ≡ is_noted self.old.late_drivers.items v }
+        ensures step { Steps (λ w. w.faults) (λ w. untold) (λ a b. Unit {0}) (λ _. tells (WasClosed (Connection c)))
+            self.old result self.new }
+        ensures late { (p : Peer) → is_late self.new.late.items self.new.late_drivers.items p
+            ≡ is_late self.old.late.items self.old.late_drivers.items p }
     {
         self.sockets.close(c, &mut self.services.reports);
         Ok(())
@@ -177,11 +172,10 @@ impl<'r, 'e, R: Net + Clock + Processes, L: Reloader + Drop> World for MioWorld<
 
     fn close_driver(&mut self, u: usize) -> Result<(), Fault>
         ensures no_fault { IsOk result }
-        ensures count { self.new.faults ≡ self.old.faults }
-        ensures ok { OnOk result (untold ≡ tells (entry.DriverWasClosed u) untold) }
-        ensures err { OnErr result (untold ≡ untold) }
-        ensures late { (d : ℕ) → is_noted self.new.late.items d ≡ is_noted self.old.late.items d }
-        ensures drivers { (v : ℕ) → is_noted self.new.late_drivers.items v ≡ is_noted self.old.late_drivers.items v }
+        ensures step { Steps (λ w. w.faults) (λ w. untold) (λ a b. Unit {0}) (λ _. tells (WasClosed (Driver u)))
+            self.old result self.new }
+        ensures late { (p : Peer) → is_late self.new.late.items self.new.late_drivers.items p
+            ≡ is_late self.old.late.items self.old.late_drivers.items p }
     {
         self.sockets.close_driver(u, &mut self.services.reports);
         Ok(())

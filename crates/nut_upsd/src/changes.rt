@@ -150,7 +150,10 @@ fn difference(old: &Ups<'_>, new: &Ups<'_>) -> Option<&'static str>
 fn have_other_order(old: &Config, new: &Config) -> bool {
     let mut least = 0;
     for u in 0..new.number_of_upses() {
-        let Some(place) = place_in(old, new, u) else {
+        let Some(ups) = new.ups_at(u) else {
+            break;
+        };
+        let Some(place) = old.find_ups(ups.name) else {
             continue;
         };
         if place < least {
@@ -159,11 +162,6 @@ fn have_other_order(old: &Config, new: &Config) -> bool {
         least = place;
     }
     false
-}
-
-/// Returns the place in one configuration of the UPS that has this place in another, if it has one there.
-fn place_in(config: &Config, other: &Config, u: usize) -> Option<usize> {
-    config.find_ups(other.ups_at(u)?.name)
 }
 
 /// Whether the users of two configurations differ, or their order.

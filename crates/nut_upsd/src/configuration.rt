@@ -125,22 +125,10 @@ pub fn read_folder(
     err: &mut ErrorLines,
 ) -> Result<Settings, FileFault<'static>> {
     let settings = read_settings(files, alloc, folder)?;
-    let warned = warn_if_readable(files, alloc, folder, err);
-    // `and` drops the settings if that failed
-    warned.and(Ok(settings))
-}
-
-/// Warns if everybody can read the passwords of upsd.users.
-fn warn_if_readable(
-    files: &impl Files,
-    alloc: Global,
-    folder: &str,
-    err: &mut ErrorLines,
-) -> Result<(), FileFault<'static>> {
     match readable_file::<UsersConf>(files, alloc, folder) {
         Ok(readable) => {
             warn(readable, err);
-            Ok(())
+            Ok(settings)
         }
         Err(_) => Err(FileFault::Memory),
     }

@@ -4,9 +4,9 @@ ghost use Rattle.std.specs.Prelude.{◌≡◌, []};
 ghost use Rattle.nut_server_spec.specs.Content.{content};
 
 use crate::command_line::{matches_of, upsd_command};
-use crate::configuration::{Settings, read_folder};
+use crate::configuration::read_folder;
+use crate::folder::Folder;
 use crate::listeners::listen;
-use crate::reloading::Reloading;
 use crate::report::Report;
 use crate::stdio::serve_options;
 use crate::upsd_fault::{UpsdFault, exit_status};
@@ -79,24 +79,12 @@ fn run<S: AsStr, I: Read, O: Write>(
     err: &mut ErrorLines,
 ) -> Result<(), Failure<UpsdFault>> {
     let matches = matches_of(upsd_command(alloc), words)?;
-    run_matches(rt, alloc, &matches, input, out, err)
-}
-
-/// Does what a command line asks for that clap has accepted.
-fn run_matches<I: Read, O: Write>(
-    rt: &(impl Wait + Files + Net + Clock + Env + Alloc + Processes),
-    alloc: Global,
-    matches: &ArgMatches<'_>,
-    input: &mut I,
-    out: &mut O,
-    err: &mut ErrorLines,
-) -> Result<(), Failure<UpsdFault>> {
     if matches.get_flag("check") {
-        return check_files(rt, alloc, matches, err);
+        return check_files(rt, alloc, &matches, err);
     }
     match matches.get_str("sockets") {
-        Some(sockets) => serve_sockets(rt, alloc, &Options::new(matches, sockets), err),
-        None => serve_options(rt, alloc, matches, input, out),
+        Some(sockets) => serve_sockets(rt, alloc, &Options::new(&matches, sockets), err),
+        None => serve_options(rt, alloc, &matches, input, out),
     }
 }
 
@@ -109,18 +97,8 @@ fn check_files<R: Files + Env + Alloc>(
     err: &mut ErrorLines,
 ) -> Result<(), Failure<UpsdFault>> {
     let folder = conf_folder(rt, alloc, matches)?;
-    check_folder(rt, alloc, folder.as_str(), err)
-}
-
-/// Reads the files of this folder, and writes of them what a start writes.
-fn check_folder(
-    files: &impl Files,
-    alloc: Global,
-    folder: &str,
-    err: &mut ErrorLines,
-) -> Result<(), Failure<UpsdFault>> {
     // dropped by a call, which keeps the proof of this function short
-    drop(read_folder(files, alloc, folder, err)?);
+    drop(read_folder(rt, alloc, folder.as_str(), err)?);
     Ok(())
 }
 
@@ -157,31 +135,19 @@ fn serve_sockets<R: Wait + Files + Net + Clock + Processes>(
     serve_folder(rt, alloc, options, err)
 }
 
-/// Serves clients with the files of a folder.
+/// Listens at the addresses that the files of a folder name, and serves clients with these files.
 fn serve_folder<R: Wait + Files + Net + Clock + Processes>(
     rt: &R,
     alloc: Global,
     options: &Options<'_>,
     err: &mut ErrorLines,
 ) -> Result<(), Failure<UpsdFault>> {
-    let reloading = Reloading::new(rt, alloc, options.conf, options.sockets)?;
-    let (settings, reloading) = paired(reloading.read(err), reloading)?;
-    listen_and_serve(rt, alloc, settings, reloading, options, err)
-}
-
-/// Listens at the addresses of these settings, and serves clients with them.
-fn listen_and_serve<R: Wait + Files + Net + Clock + Processes>(
-    rt: &R,
-    alloc: Global,
-    settings: Settings,
-    reloading: Reloading<'_, R>,
-    options: &Options<'_>,
-    err: &mut ErrorLines,
-) -> Result<(), Failure<UpsdFault>> {
+    let folder = Folder::new(rt, alloc, options.conf, options.sockets)?;
+    let (settings, folder) = paired(folder.read(err), folder)?;
     let listeners = listen(rt, alloc, &settings.upsd);
-    let (listeners, (settings, mut reloading)) = paired(listeners, (settings, reloading))?;
-    let config = reloading.start(settings);
-    serve_config(rt, alloc, config, listeners, reloading, options, err)
+    let (listeners, (settings, mut folder)) = paired(listeners, (settings, folder))?;
+    let config = folder.start(settings);
+    serve_config(rt, alloc, config, listeners, folder, options, err)
 }
 
 /// Returns what was made, and `value` beside it. If nothing was made, `value` is dropped here, in one place: a drop at

@@ -4,7 +4,7 @@ use crate::upsd_fault::UpsdFault;
 use nut_conf::UpsdConf;
 use nut_poll::text_of;
 use nut_program::Failure;
-use nut_server_sockets::{Listeners, Missing};
+use nut_server_sockets::Listeners;
 use std::alloc::Global;
 use std::io;
 use std::io::ErrorKind;
@@ -57,7 +57,11 @@ pub fn listen(
         add_listeners(net, alloc, conf, reach, &mut listeners)?;
     }
     match listeners.take_obstacle() {
-        Some(missing) => Err(no_listener(alloc, missing)),
+        Some(missing) => {
+            let (host, port, error) = missing.into_parts();
+            let remark = remark_on(alloc, &error);
+            Err(Failure::Own(UpsdFault::Listen(host, port, remark)))
+        }
         None => Ok(listeners),
     }
 }
@@ -98,12 +102,6 @@ fn cannot_listen(alloc: Global, host: &str, port: u16, error: &io::Error) -> Fai
         Ok(host) => Failure::Own(UpsdFault::Listen(host, port, remark_on(alloc, error))),
         Err(_) => Failure::Memory,
     }
-}
-
-/// Returns why upsd ends if it is possible to listen at no host yet, this one being the first.
-fn no_listener(alloc: Global, missing: Missing) -> Failure<UpsdFault> {
-    let (host, port, error) = missing.into_parts();
-    Failure::Own(UpsdFault::Listen(host, port, remark_on(alloc, &error)))
 }
 
 /// Says why it is impossible to listen. `None` if memory for that cannot be allocated.

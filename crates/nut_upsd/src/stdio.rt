@@ -8,7 +8,7 @@ use crate::configuration::read_options;
 use crate::upsd_fault::{UpsdFault, exit_status};
 use clap::ArgMatches;
 use nut_program::{Failure, NamedLines, hold_closed_streams};
-use nut_server::{Config, Server};
+use nut_server::Server;
 use nut_server_loop::{StreamWorld, serve};
 use std::alloc::Global;
 use std::convert::AsStr;
@@ -73,30 +73,8 @@ pub fn serve_options<I: Read, O: Write>(
 ) -> Result<(), Failure<UpsdFault>> {
     // no file takes the place of a standard stream that is closed
     let _held = hold_closed_streams(rt, alloc)?;
-    serve_files(rt, alloc, matches, input, out)
-}
-
-/// Reads the configuration that the command line names, and serves one client with it.
-fn serve_files<I: Read, O: Write>(
-    rt: &(impl Wait + Files),
-    alloc: Global,
-    matches: &ArgMatches<'_>,
-    input: &mut I,
-    out: &mut O,
-) -> Result<(), Failure<UpsdFault>> {
     let settings = read_options(rt, alloc, matches)?;
-    serve_config(rt, alloc, settings.into_config(), input, out)
-}
-
-/// Makes a server, which serves one client.
-fn serve_config<I: Read, O: Write>(
-    rt: &impl Wait,
-    alloc: Global,
-    config: Config,
-    input: &mut I,
-    out: &mut O,
-) -> Result<(), Failure<UpsdFault>> {
-    let Ok(mut server) = Server::new(alloc, config) else {
+    let Ok(mut server) = Server::new(alloc, settings.into_config()) else {
         return Err(Failure::Memory);
     };
     let served = serve_client(rt, &mut server, input, out);

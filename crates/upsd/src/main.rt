@@ -29,6 +29,5 @@ fn main(rt: HostRuntime) -> ExitCode {
 /// Returns the words of the command line, the program's name first, and standard error.
 fn start(rt: &HostRuntime, log: LogStream<Stderr>) -> io::Result<(Vec<String>, ErrorLines)> {
     let words = env::args(rt)?.collect(rt.alloc())?;
-    let err = LossyLines::new(rt, rt.alloc(), log)?;
-    Ok((words, err))
+    Ok((words, LossyLines::new(log)))
 }

@@ -9,13 +9,13 @@ use Rattle.nut_server_spec.specs.Answer as A
 use Rattle.nut_server_spec.specs.Content.{Supply}
 use Rattle.nut_server_spec.specs.Device.{Device}
 use Rattle.nut_server_spec.specs.machine.Machine.{guest_of}
-use Rattle.nut_server.specs.declared.answer.Rows.{Rows}
-use Rattle.nut_server.specs.declared.answer.Rows.TheVariants as rows
+use Rattle.nut_server.specs.declared.answer.ListRows.{ListRows}
+use Rattle.nut_server.specs.declared.answer.ListRows.TheVariants as rows
 use Rattle.nut_server.specs.declared.answer.Answer.{Answer}
 use Rattle.nut_server.specs.declared.answer.Answer.TheVariants as answer
 
 -- the rows of a list
-abbrev pub rows_of : Rows → List Reply
+abbrev pub rows_of : ListRows → List Reply
 rows_of (rows.Upses config) = map (λ ups. replies.Ups ups.name ups.description) config.now.upses
 rows_of (rows.Variables ups device) = map (A.var_row ups.now device.now.device) device.now.device.table.variables
 rows_of (rows.Writable ups device) =
@@ -27,7 +27,6 @@ rows_of (rows.Clients ups u connections) = map (λ g. replies.Client ups.now g.a
 
 -- the answer that the code's answer represents
 abbrev pub given : Answer → A.Answer
-given answer.Silence = A.Silence
 given (answer.Line reply) = A.Line reply
 given (answer.Value ups device variable) = A.Line (A.var_row ups.now device.now.device variable.now)
 given (answer.Listing query rows) = A.Listing query.now (rows_of rows)

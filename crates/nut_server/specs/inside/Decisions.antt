@@ -3,7 +3,6 @@
 use Rattle.std.specs.Prelude.{ℕ, ◌≡◌, ◌<◌, Bool, true, false, List, length, Option, None, Some, Result, Ok, Err}
 use Rattle.nut_proto.specs.declared.refusal.Refusal.{Refusal}
 use Rattle.nut_proto.specs.declared.reply.Reply.{Reply}
-use Rattle.nut_proto.specs.declared.reply.Reply.TheVariants as replies
 use Rattle.nut_proto.specs.declared.request.Request.{Request}
 use Rattle.nut_proto.specs.declared.request.Request.TheVariants as requests
 use Rattle.nut_server_spec.specs.Command.{Command}
@@ -37,12 +36,6 @@ is_question request = true
 -- the answer to such a request
 abbrev pub told : Scene → Request → Answer
 told s request = answer_request s (record { user = None; password = None; login = None; tracking = false }) request
-
--- whether an answer changes nothing by itself, whatever was asked
-abbrev pub grants_nothing : Answer → Bool
-grants_nothing (Line replies.Goodbye) = false
-grants_nothing (Line (replies.AcceptedAs number)) = false
-grants_nothing answer = true
 
 -- The decision gives this answer. Its effect changes what the command with this answer changes, and is possible. `line`
 -- is the request to the driver, if there is one.

@@ -1,7 +1,7 @@
-use Rattle.std.proofs.Common.{◌≡◌, drop, map}
+use Rattle.std.proofs.Common.{◌≡◌, [], drop}
 use Rattle.nut_server_spec.specs.Configuration.{Configuration}
 use Rattle.nut_server_spec.specs.Content.{Content}
-use Rattle.nut_server_loop.specs.Served.{Served, Connection, to_close}
+use Rattle.nut_server_loop.specs.Served.{Served, to_close}
 use Rattle.nut_server_loop.proofs.serving.close_ended.Given as goal
 
 abbrev pub invariant-loop-u : goal.invariant-loop-u
@@ -18,6 +18,6 @@ invariant-loop-c g l =
     record {
       same_count : g.W.World.fault_count l.world ≡ g.W.World.fault_count l.fn.world;
       served : (first : Configuration) (s : Content) → Served first (g.W.World.log l.fn.world) s (to_close l.fn.ended.drivers.items l.fn.ended.connections.items)
-          → Served first (g.W.World.log l.world) s (map Connection (drop l.c-index l.c-items));
+          → Served first (g.W.World.log l.world) s (to_close [] (drop l.c-index l.c-items));
       reached : g.W.World.reached l.fn.world l.world;
     }

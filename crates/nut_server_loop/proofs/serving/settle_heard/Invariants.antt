@@ -1,4 +1,4 @@
 use Rattle.nut_server_loop.proofs.serving.settle_heard.Given as goal
 
 abbrev pub ghost-settle : goal.ghost-settle
-ghost-settle g a = g.first
+ghost-settle g a = g.since

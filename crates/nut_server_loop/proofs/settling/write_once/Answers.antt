@@ -1,78 +1,91 @@
-use Rattle.std.proofs.Common.{rules, ◌<◌, [], length, refl, sym, subst, ◌∙◌, arith}
-use Rattle.nut_server_loop.proofs.Steps.{at_err, stays, whole_is_front}
+use Rattle.std.proofs.Common.{rules, [], sym, subst, ◌∙◌, arith}
+use Rattle.nut_server_loop.proofs.Steps.{Answered, Leads, at_err, stays}
+use Rattle.nut_server_loop.proofs.Peers.{stays_late}
 use Rattle.nut_server_loop.proofs.Writes.{write_took, write_late, write_broke, closed_ended}
-use Rattle.nut_server_loop.proofs.Settles.{waits_less, waits_some, only_took, none_waits, only_broke}
+use Rattle.nut_server_loop.proofs.Settles.{front_some, none_shown, waits_less, only_none, only_took, none_waits, only_broke}
 use Rattle.nut_server_loop.proofs.settling.write_once.Goals as goal
 
-pub returns-then-is_empty-clause-goes : goal.returns-then-is_empty-clause-goes
-returns-then-is_empty-clause-goes g c =
-    record {
-      ok = c.requires.1.served;
-      err = search rules;
-      counted = search rules;
-      reached = g.met.W.World.reached_self _;
-    }
+pub returns-then-is_empty-clause-settled : goal.returns-then-is_empty-clause-settled
+returns-then-is_empty-clause-settled g c = λ same some.
+    let none = none_shown c.waiting-waiting.result.now _ c.waiting-waiting.ensures (sym c.is_empty.ensures ∙ c.if-is_empty.true) in
+    absurd (omega (arith, some, none))
 
 pub returns-then-is_empty-clause-only : goal.returns-then-is_empty-clause-only
-returns-then-is_empty-clause-only g c = λ d ne. refl
-
-pub returns-then-is_empty-clause-late : goal.returns-then-is_empty-clause-late
-returns-then-is_empty-clause-late g c = λ d is. is
+returns-then-is_empty-clause-only g c = only_none _ _ _ _ (λ q is. is)
 
 pub returns-in-Took-clause-goes : goal.returns-in-Took-clause-goes
 returns-in-Took-clause-goes g c =
     record {
-      ok = write_took g.first _ _ _ _ c.args.c c.waiting-waiting.result.now _ c.in-Took.n _ c.requires.1.served c.in-Took.is c.in_ok-n.ensures.ok c.in_ok-n.ensures.within (whole_is_front _ _ c.waiting-waiting.ensures) c.arrive.ensures.answered c.arrive.ensures.stands;
+      ok = write_took g.since.first _ _ _ _ c.args.peer c.waiting-waiting.result.now _ c.in-Took.n _ c.requires.1.served c.in-Took.is c.in_ok-n.ensures.step.ok c.in_ok-n.ensures.within c.waiting-waiting.ensures
+          (subst (λ e. Answered c.args.server.now e c.arrive.result) c.took.ensures c.arrive.ensures.answered)
+          (subst (λ e. Leads c.args.server.now e c.arrive.result c.arrive.new.self) c.took.ensures c.arrive.ensures.stands);
       err = search rules;
-      counted = search rules;
-      reached = search rules;
+      counted = c.in_ok-n.ensures.step.counted;
+      reached = g.met.W.World.reached_on _ _ _ c.requires.1.reached c.in_ok-n.ensures.step.reached;
     }
 
 pub returns-in-Took-clause-less : goal.returns-in-Took-clause-less
 returns-in-Took-clause-less g c = λ same.
-    waits_less g.first _ _ _ c.args.c c.waiting-waiting.result.now _ c.in-Took.n _ c.requires.1.served c.in-Took.is c.in_ok-n.ensures.within (whole_is_front _ _ c.waiting-waiting.ensures) c.arrive.ensures.answered c.arrive.ensures.stands
+    waits_less g.since.first _ _ _ c.args.peer c.waiting-waiting.result.now _ c.in-Took.n _ c.requires.1.served c.in-Took.is c.in_ok-n.ensures.within c.waiting-waiting.ensures
+    (subst (λ e. Answered c.args.server.now e c.arrive.result) c.took.ensures c.arrive.ensures.answered)
+    (subst (λ e. Leads c.args.server.now e c.arrive.result c.arrive.new.self) c.took.ensures c.arrive.ensures.stands)
 
 pub returns-in-Took-clause-only : goal.returns-in-Took-clause-only
 returns-in-Took-clause-only g c =
-    only_took g.first _ _ _ c.args.c c.waiting-waiting.result.now _ c.in-Took.n _ c.requires.1.served c.in-Took.is c.in_ok-n.ensures.within (whole_is_front _ _ c.waiting-waiting.ensures) c.arrive.ensures.answered c.arrive.ensures.stands
+    only_took _ _ g.since.first _ _ _ c.args.peer c.waiting-waiting.result.now _ c.in-Took.n _ (stays_late _ _ _ _ c.in_ok-n.ensures.late)
+    c.requires.1.served c.in-Took.is c.in_ok-n.ensures.within c.waiting-waiting.ensures
+    (subst (λ e. Answered c.args.server.now e c.arrive.result) c.took.ensures c.arrive.ensures.answered)
+    (subst (λ e. Leads c.args.server.now e c.arrive.result c.arrive.new.self) c.took.ensures c.arrive.ensures.stands)
 
 pub returns-in-Later-clause-goes : goal.returns-in-Later-clause-goes
 returns-in-Later-clause-goes g c =
     record {
-      ok = write_late g.first _ _ _ c.args.c c.waiting-waiting.result.now _ c.requires.1.served c.in-Later.is c.in_ok-n.ensures.ok;
+      ok = write_late g.since.first _ _ _ c.args.peer c.waiting-waiting.result.now _ c.requires.1.served c.in-Later.is c.in_ok-n.ensures.step.ok;
       err = search rules;
-      counted = search rules;
-      reached = search rules;
+      counted = c.in_ok-n.ensures.step.counted;
+      reached = g.met.W.World.reached_on _ _ _ c.requires.1.reached c.in_ok-n.ensures.step.reached;
     }
 
 pub returns-in_ok-close-in-Failed-clause-goes : goal.returns-in_ok-close-in-Failed-clause-goes
 returns-in_ok-close-in-Failed-clause-goes g c =
     record {
-      ok = closed_ended g.first _ _ _ c.args.c []
-          (write_broke g.first _ _ _ _ c.args.c c.waiting-waiting.result.now _ _ c.requires.1.served c.in-Failed.is c.in_ok-n.ensures.ok (waits_some c.waiting-waiting.result.now _ c.waiting-waiting.ensures (sym c.is_empty.ensures ∙ c.if-is_empty.false)) c.arrive-in-Failed.ensures.answered c.arrive-in-Failed.ensures.stands)
-          c.in_ok-close-in-Failed.ensures.ok;
+      ok = closed_ended g.since.first _ _ _ c.args.peer []
+          (write_broke g.since.first _ _ _ _ c.args.peer c.waiting-waiting.result.now _ _ c.requires.1.served c.in-Failed.is c.in_ok-n.ensures.step.ok
+          (front_some c.waiting-waiting.result.now _ c.waiting-waiting.ensures (sym c.is_empty.ensures ∙ c.if-is_empty.false))
+          (subst (λ e. Answered c.args.server.now e c.arrive-in-Failed.result) c.failed.ensures c.arrive-in-Failed.ensures.answered)
+          (subst (λ e. Leads c.args.server.now e c.arrive-in-Failed.result c.arrive-in-Failed.new.self) c.failed.ensures c.arrive-in-Failed.ensures.stands))
+          c.in_ok-close-in-Failed.ensures.step.ok;
       err = search rules;
-      counted = search rules;
-      reached = search rules;
+      counted = c.in_ok-close-in-Failed.ensures.step.counted ∙ c.in_ok-n.ensures.step.counted;
+      reached = g.met.W.World.reached_on _ _ _ c.requires.1.reached (g.met.W.World.reached_on _ _ _ c.in_ok-n.ensures.step.reached c.in_ok-close-in-Failed.ensures.step.reached);
     }
 
 pub returns-in_ok-close-in-Failed-clause-settled : goal.returns-in_ok-close-in-Failed-clause-settled
 returns-in_ok-close-in-Failed-clause-settled g c = λ same some.
-    let none = none_waits g.first _ _ _ c.args.c _ c.requires.1.served (waits_some c.waiting-waiting.result.now _ c.waiting-waiting.ensures (sym c.is_empty.ensures ∙ c.if-is_empty.false)) c.arrive-in-Failed.ensures.answered c.arrive-in-Failed.ensures.stands in
-    let never : 0 < 0 = subst (λ xs. 0 < length xs) none some in
-    absurd (omega arith)
+    let none = none_waits g.since.first _ _ _ c.args.peer _ c.requires.1.served
+    (front_some c.waiting-waiting.result.now _ c.waiting-waiting.ensures (sym c.is_empty.ensures ∙ c.if-is_empty.false))
+    (subst (λ e. Answered c.args.server.now e c.arrive-in-Failed.result) c.failed.ensures c.arrive-in-Failed.ensures.answered)
+    (subst (λ e. Leads c.args.server.now e c.arrive-in-Failed.result c.arrive-in-Failed.new.self) c.failed.ensures c.arrive-in-Failed.ensures.stands)
+    in
+    absurd (omega (arith, some, none))
 
 pub returns-in_ok-close-in-Failed-clause-only : goal.returns-in_ok-close-in-Failed-clause-only
 returns-in_ok-close-in-Failed-clause-only g c =
-    only_broke g.first _ _ _ c.args.c _ c.requires.1.served (waits_some c.waiting-waiting.result.now _ c.waiting-waiting.ensures (sym c.is_empty.ensures ∙ c.if-is_empty.false)) c.arrive-in-Failed.ensures.answered c.arrive-in-Failed.ensures.stands
+    only_broke _ _ g.since.first _ _ _ c.args.peer _ (λ q is. c.in_ok-close-in-Failed.ensures.late q ∙ stays_late c.in_ok-n.field-0 c.args.peer (g.W.World.late c.args.world.now) (g.W.World.late c.write.new.world) c.in_ok-n.ensures.late q is) c.requires.1.served
+    (front_some c.waiting-waiting.result.now _ c.waiting-waiting.ensures (sym c.is_empty.ensures ∙ c.if-is_empty.false))
+    (subst (λ e. Answered c.args.server.now e c.arrive-in-Failed.result) c.failed.ensures c.arrive-in-Failed.ensures.answered)
+    (subst (λ e. Leads c.args.server.now e c.arrive-in-Failed.result c.arrive-in-Failed.new.self) c.failed.ensures c.arrive-in-Failed.ensures.stands)
 
 pub returns-in_err-close-in-Failed-clause-goes : goal.returns-in_err-close-in-Failed-clause-goes
 returns-in_err-close-in-Failed-clause-goes g c =
     record {
       ok = search rules;
-      err = at_err _ g.first _ _ _
-          (stays g.first _ _ _ _ c.in_err-close-in-Failed.ensures.err
-          (write_broke g.first _ _ _ _ c.args.c c.waiting-waiting.result.now _ _ c.requires.1.served c.in-Failed.is c.in_ok-n.ensures.ok (waits_some c.waiting-waiting.result.now _ c.waiting-waiting.ensures (sym c.is_empty.ensures ∙ c.if-is_empty.false)) c.arrive-in-Failed.ensures.answered c.arrive-in-Failed.ensures.stands));
+      err = at_err _ g.since.first _ _ _
+          (stays g.since.first _ _ _ _ c.in_err-close-in-Failed.ensures.step.err
+          (write_broke g.since.first _ _ _ _ c.args.peer c.waiting-waiting.result.now _ _ c.requires.1.served c.in-Failed.is c.in_ok-n.ensures.step.ok
+          (front_some c.waiting-waiting.result.now _ c.waiting-waiting.ensures (sym c.is_empty.ensures ∙ c.if-is_empty.false))
+          (subst (λ e. Answered c.args.server.now e c.arrive-in-Failed.result) c.failed.ensures c.arrive-in-Failed.ensures.answered)
+          (subst (λ e. Leads c.args.server.now e c.arrive-in-Failed.result c.arrive-in-Failed.new.self) c.failed.ensures c.arrive-in-Failed.ensures.stands)));
       counted = search rules;
-      reached = search rules;
+      reached = g.met.W.World.reached_on _ _ _ c.requires.1.reached (g.met.W.World.reached_on _ _ _ c.in_ok-n.ensures.step.reached c.in_err-close-in-Failed.ensures.step.reached);
     }

@@ -1,4 +1,5 @@
+use Rattle.nut_server_sockets.proofs.LateLemmas.{connection_noted}
 use Rattle.nut_server_sockets.proofs.mio_world.MioWorldWorld.write.Goals as goal
 
 pub returns-clause-late : goal.returns-clause-late
-returns-clause-late g c = c.note_written.ensures.late
+returns-clause-late g c = connection_noted _ _ _ _ _ c.note_written.ensures.late

@@ -18,7 +18,7 @@ const TURN: Turn = Turn::First;
 /// in the one of the drivers' sockets: upsd can remove a file from the second one even where only root may write to the
 /// first one, or nobody.
 #[derive(Drop)]
-pub struct Reloading<'r, F> {
+pub struct Folder<'r, F> {
     files: &'r F,
     alloc: Global,
     folder: &'r str,
@@ -32,7 +32,7 @@ pub struct Reloading<'r, F> {
     changes: Option<String>,
 }
 
-impl<'r, F: Files> Reloading<'r, F> {
+impl<'r, F: Files> Folder<'r, F> {
     /// Returns the folder with this path, beside the folder of the drivers' sockets. A request for a reload counts from now
     /// on.
     ///
@@ -45,12 +45,18 @@ impl<'r, F: Files> Reloading<'r, F> {
         folder: &'r str,
         sockets: &str,
     ) -> Result<Self, AllocError> {
-        Ok(Reloading {
+        let file = file_in(files, alloc, folder)?;
+        let socket_file = if sockets == folder {
+            None
+        } else {
+            Some(file_in(files, alloc, sockets)?)
+        };
+        Ok(Folder {
             files,
             alloc,
             folder,
-            file: file_in(files, alloc, folder)?,
-            socket_file: file_in_other(files, alloc, sockets, folder)?,
+            file,
+            socket_file,
             endpoints: Vec::new(alloc),
             changes: None,
         })
@@ -88,40 +94,16 @@ impl<'r, F: Files> Reloading<'r, F> {
     fn give(&mut self, server: &Server, settings: Settings) -> Result<Box<Config>, AllocError> {
         let listens_elsewhere = settings.upsd.listen.lines != self.endpoints;
         let config = Box::new(self.alloc, settings.into_config())?;
-        let noted = self.note(server.config(), &config, listens_elsewhere);
-        // `and` drops the configuration if that failed
-        noted.and(Ok(config))
-    }
-
-    /// Notes what a new configuration changes.
-    fn note(
-        &mut self,
-        old: &Config,
-        new: &Config,
-        listens_elsewhere: bool,
-    ) -> Result<(), AllocError> {
-        self.changes = Some(changes(self.alloc, old, new, listens_elsewhere)?);
-        Ok(())
+        let differences = changes(self.alloc, server.config(), &config, listens_elsewhere)?;
+        self.changes = Some(differences);
+        Ok(config)
     }
 }
 
 /// Returns the file `reload` of a folder.
 fn file_in(files: &impl Files, alloc: Global, folder: &str) -> Result<ReloadFile, AllocError> {
     // upsmon may have the folder, too, if its file is there
-    ReloadFile::new(files, alloc, folder, MonConfig::file_name(), TURN)
-}
-
-/// Returns the file `reload` of a folder, unless that is this other one.
-fn file_in_other(
-    files: &impl Files,
-    alloc: Global,
-    folder: &str,
-    other: &str,
-) -> Result<Option<ReloadFile>, AllocError> {
-    if folder == other {
-        return Ok(None);
-    }
-    Ok(Some(file_in(files, alloc, folder)?))
+    ReloadFile::new(files, alloc, folder, MonConfig::FILE_NAME, TURN)
 }
 
 /// Whether a file asks for a reload. That it can't be removed is reported.
@@ -136,23 +118,14 @@ fn asks(files: &impl Files, file: &mut ReloadFile, reports: &mut Reports<'_>) ->
     }
 }
 
-/// Whether one of the files asks for a reload. Both are looked at, so that together they are one request.
-fn any_asks(
-    files: &impl Files,
-    file: &mut ReloadFile,
-    socket_file: &mut Option<ReloadFile>,
-    reports: &mut Reports<'_>,
-) -> bool {
-    let is_asked = asks(files, file, reports);
-    match socket_file {
-        Some(socket_file) => asks(files, socket_file, reports) || is_asked,
-        None => is_asked,
-    }
-}
-
-impl<'r, F: Files> Reloader for Reloading<'r, F> {
+impl<'r, F: Files> Reloader for Folder<'r, F> {
     fn look(&mut self, server: &Server, reports: &mut Reports<'_>) -> Option<Box<Config>> {
-        if !any_asks(self.files, &mut self.file, &mut self.socket_file, reports) {
+        let mut is_asked = asks(self.files, &mut self.file, reports);
+        // both are looked at, so that together they are one request
+        if let Some(socket_file) = &mut self.socket_file {
+            is_asked |= asks(self.files, socket_file, reports);
+        }
+        if !is_asked {
             return None;
         }
         match self.read_again(server, reports.err()) {
