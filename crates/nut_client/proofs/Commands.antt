@@ -8,7 +8,7 @@ use Rattle.nut_client.specs.inside.Reading.{AreOptions, IsRead, IsReadBy, option
 use Rattle.nut_client.specs.declared.command_line.Options.{Options as Read}
 use Rattle.nut_client.specs.declared.command_line.Refusal.{Refusal}
 use Rattle.nut_client.specs.declared.command_line.Refusal.TheVariants.{Usage, Failed}
-use Rattle.nut_client.specs.declared.failure.Failure.{Failure}
+use Rattle.nut_client.specs.declared.failure.ToolFailure.{ToolFailure}
 use Rattle.nut_client.specs.declared.tool.Tool.{Tool}
 use Rattle.nut_client.specs.declared.tool.Tool.TheVariants.{Upsc}
 use Rattle.nut_client.specs.declared.wanted.Wanted.{Wanted}
@@ -19,7 +19,7 @@ is_simple Upsc = refl
 is_simple tool = refl
 
 -- what the options of clap's matches are for a tool
-abbrev pub options_in : Tool → List Row → Result Options Failure
+abbrev pub options_in : Tool → List Row → Result Options ToolFailure
 options_in tool rows = options_of (wanted_of tool rows) (first_of (codes "name") rows)
 
 -- Words in which clap finds no fault.
@@ -44,7 +44,7 @@ pub parsed : (tool : Tool) (app : App) (words : List (List ℕ)) (r : Result Arg
 parsed tool app words r is read = subst (λ a. IsReadBy a words r) is (read (ap is_simple_and_free is ∙ is_simple tool))
 
 -- The options of what is wanted and a name, which are those of clap's matches.
-meant : (tool : Tool) (rows : List Row) (wanted : Option Wanted) (name : Option (List ℕ)) (r : Result Options Failure)
+meant : (tool : Tool) (rows : List Row) (wanted : Option Wanted) (name : Option (List ℕ)) (r : Result Options ToolFailure)
     → wanted ≡ wanted_of tool rows → name ≡ first_of (codes "name") rows → options_of wanted name ≡ r → options_in tool rows ≡ r
 meant tool rows wanted name r w n is = subst (λ it. options_of (wanted_of tool rows) it ≡ r) n (subst (λ it. options_of it name ≡ r) w is)
 
@@ -52,7 +52,7 @@ read_well : (tool : Tool) (words : List (List ℕ)) (m : ArgMatches) (read : Rea
     → options_in tool (rows_of (found_of m)) ≡ Ok (options_view read) → IsRead (line_of tool words) (Ok read)
 read_well tool words m read is options = no_fault tool words (rows_of (found_of m)) is.0 is.1 ∙ ap Ok options
 
-read_failed : (tool : Tool) (words : List (List ℕ)) (m : ArgMatches) (failure : Failure) → IsReadBy (command_of tool) words (Ok m)
+read_failed : (tool : Tool) (words : List (List ℕ)) (m : ArgMatches) (failure : ToolFailure) → IsReadBy (command_of tool) words (Ok m)
     → options_in tool (rows_of (found_of m)) ≡ Err failure → IsRead (line_of tool words) (Err (Failed failure))
 read_failed tool words m failure is options = inr (no_fault tool words (rows_of (found_of m)) is.0 is.1 ∙ ap Ok options)
 

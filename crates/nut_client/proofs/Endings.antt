@@ -6,8 +6,8 @@ use Rattle.nut_words.specs.Lines.{LineText}
 use Rattle.nut_client.specs.laws.Laws.{AllBytesDecide, MoreBytesAreIgnored}
 use Rattle.nut_client.specs.Script.{Script}
 use Rattle.nut_client.specs.Tool.{Standing, Waits, after, begin, ending, is_over, run_of, settled_lines}
-use Rattle.nut_client.specs.declared.failure.Failure.{Failure}
-use Rattle.nut_client.specs.declared.failure.Failure.TheVariants as failures
+use Rattle.nut_client.specs.declared.failure.ToolFailure.{ToolFailure}
+use Rattle.nut_client.specs.declared.failure.ToolFailure.TheVariants as failures
 use Rattle.nut_client.proofs.Runs.{after-append, settled-append}
 
 stays : (ls : List LineText) (queries : List ℕ) (s : Standing) → is_over s ≡ true → after ls (record { queries = queries; standing = s }) ≡ record { queries = queries; standing = s }
@@ -22,17 +22,17 @@ more_bytes script bytes more over =
     ∙ after-append (settled_lines bytes) behind.0 (begin [] script)
     ∙ stays behind.0 (run_of script bytes).queries (run_of script bytes).standing over
 
-Decides : Script → Result (List ℕ) Failure → List ℕ → List ℕ → List ℕ → List ℕ → Type 0
+Decides : Script → Result (List ℕ) ToolFailure → List ℕ → List ℕ → List ℕ → List ℕ → Type 0
 Decides script result bytes heard left written =
     (result ≡ Err failures.Memory)
     ⊎ ((result ≡ Err failures.ConnectionLost) × (Some left ≡ Some [] → length written < length (run_of script heard).queries)
     ⊎ (result ≡ ending (run_of script bytes).standing))
 
 -- If the connection was lost, all that was read was heard, or a query was sent only in part.
-HasReason : Script → Result (List ℕ) Failure → List ℕ → List ℕ → List ℕ → Type 0
+HasReason : Script → Result (List ℕ) ToolFailure → List ℕ → List ℕ → List ℕ → Type 0
 HasReason script result heard unheard written = IfErr result (λ failure. failure ≡ failures.ConnectionLost → (unheard ≡ []) ⊎ (length written < length (run_of script heard).queries))
 
-by_waiting : (script : Script) (result : Result (List ℕ) Failure) (heard unheard left written : List ℕ) → result ≡ ending (run_of script heard).standing → result ≡ Err failures.ConnectionLost
+by_waiting : (script : Script) (result : Result (List ℕ) ToolFailure) (heard unheard left written : List ℕ) → result ≡ ending (run_of script heard).standing → result ≡ Err failures.ConnectionLost
     → HasReason script result heard unheard written → Decides script result (heard ++ (unheard ++ left)) heard left written
 unfolding Decides HasReason
 by_waiting script result heard unheard (x ∷ left) written ends lost why = inr (inl (lost, λ is. absurd (cc)))
@@ -41,7 +41,7 @@ by_waiting script result heard unheard [] written ends lost why = elim (subst (�
   | inr short ↦ inr (inl (lost, λ is. short))
 ]
 
-by_heard : (script : Script) (result : Result (List ℕ) Failure) (heard unheard left written : List ℕ) (s : Standing) → (run_of script heard).standing ≡ s → result ≡ ending s
+by_heard : (script : Script) (result : Result (List ℕ) ToolFailure) (heard unheard left written : List ℕ) (s : Standing) → (run_of script heard).standing ≡ s → result ≡ ending s
     → HasReason script result heard unheard written → Decides script result (heard ++ (unheard ++ left)) heard left written
 unfolding Decides
 by_heard script result heard unheard left written (Waits e next) is ends why = by_waiting script result heard unheard left written (ends ∙ ap ending (sym is)) ends why

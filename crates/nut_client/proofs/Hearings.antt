@@ -11,8 +11,8 @@ use Rattle.nut_proto.specs.declared.request.Request.{Request}
 use Rattle.nut_proto.specs.Requests.{request_line}
 use Rattle.nut_link.specs.Exchange.{Exchange, Stage}
 use Rattle.nut_link.specs.Exchange as stages
-use Rattle.nut_client.specs.declared.failure.Failure.{Failure}
-use Rattle.nut_client.specs.declared.failure.Failure.TheVariants as failures
+use Rattle.nut_client.specs.declared.failure.ToolFailure.{ToolFailure}
+use Rattle.nut_client.specs.declared.failure.ToolFailure.TheVariants as failures
 use Rattle.nut_link.specs.declared.fault.LinkFault.{LinkFault}
 use Rattle.nut_link.specs.declared.fault.LinkFault.TheVariants as faults
 use Rattle.nut_link.specs.declared.fault.LinkFault.TheVariants.{Memory}
@@ -87,7 +87,7 @@ fault_at None fault is = absurd (cc)
 fault_at (Some other) fault is = cc
 
 -- The link failed at the part.
-pub hears_fault : (v v1 : LinkValue) (p : List ℕ) (n' done : ℕ) (result : Result (Unit {0}) LinkFault) (fault : LinkFault) (failure : Failure)
+pub hears_fault : (v v1 : LinkValue) (p : List ℕ) (n' done : ℕ) (result : Result (Unit {0}) LinkFault) (fault : LinkFault) (failure : ToolFailure)
     → Feeds v p done result v1 → result ≡ Err fault → failure ≡ failure_of fault → HearsPart v p (Err failure) v1 n'
 hears_fault v v1 p n' done result fault failure feeds failed is =
     let at : v1.exchange.fault ≡ Some fault = fault_at v1.exchange.fault fault (sym failed ∙ feeds.answered) in
@@ -98,7 +98,7 @@ hears_fault v v1 p n' done result fault failure feeds failed is =
           inl (is ∙ sym (ap (λ o. option_map_or failure_of o failures.Memory) memory))
     ]
 
-pub never_lost : (fault : LinkFault) (failure : Failure) → failure ≡ failure_of fault → failure ≡ failures.ConnectionLost → ⊥
+pub never_lost : (fault : LinkFault) (failure : ToolFailure) → failure ≡ failure_of fault → failure ≡ failures.ConnectionLost → ⊥
 never_lost faults.Memory failure is lost = let never : failures.Memory ≡ failures.ConnectionLost = sym is ∙ lost in absurd (cc)
 never_lost fault failure is lost = let never : failure_of fault ≡ failures.ConnectionLost = sym is ∙ lost in absurd (cc)
 
@@ -216,7 +216,7 @@ answers link link' n n' outcome p p' a h script next input before l =
     }
 
 -- The part makes the query fail.
-spoilt : (link : LinkValue) (n : ℕ) (part : List ℕ) (failure : Failure) → Awaits link n → IsUnbroken part ⊎ IsWhole part → Spoils link part failure → (script : Script) (heard queries : List ℕ) (next : Outcome → Script)
+spoilt : (link : LinkValue) (n : ℕ) (part : List ℕ) (failure : ToolFailure) → Awaits link n → IsUnbroken part ⊎ IsWhole part → Spoils link part failure → (script : Script) (heard queries : List ℕ) (next : Outcome → Script)
     → link.rest ≡ rest heard → run_of script heard ≡ waiting_run queries link.exchange next → run_of script (heard ++ part) ≡ record { queries = queries; standing = Failed failure }
 spoilt link n part failure a broken (inl bad) script heard queries next here runs =
     fails link heard part n here a.short broken a.waits bad.0 bad.1 (begin [] script) queries next runs ∙ ap (λ f. record { queries = queries; standing = Failed f }) (sym bad.2)
@@ -224,11 +224,11 @@ spoilt link n part failure a broken (inr long) script heard queries next here ru
     too_long link heard part n here a.short long.1 long.2 a.waits (begin [] script) queries next runs ∙ ap (λ f. record { queries = queries; standing = Failed f }) (sym long.0)
 
 -- how a run ended, and what was asked till then
-EndsAs : Script → Result (List ℕ) Failure → Failure → List ℕ → List ℕ → Type 0
+EndsAs : Script → Result (List ℕ) ToolFailure → ToolFailure → List ℕ → List ℕ → Type 0
 EndsAs script result failure heard queries =
     ((result ≡ Err failures.Memory) ⊎ (result ≡ ending (run_of script heard).standing)) × WasWrittenBy failure queries (run_of script heard).queries
 
-ends_as : (link : LinkValue) (n n' : ℕ) (part : List ℕ) (failure : Failure) (link' : LinkValue) → Awaits link n → IsUnbroken part ⊎ IsWhole part → HearsPart link part (Err failure) link' n' → (script : Script) (heard queries : List ℕ)
+ends_as : (link : LinkValue) (n n' : ℕ) (part : List ℕ) (failure : ToolFailure) (link' : LinkValue) → Awaits link n → IsUnbroken part ⊎ IsWhole part → HearsPart link part (Err failure) link' n' → (script : Script) (heard queries : List ℕ)
     (next : Outcome → Script) → link.rest ≡ rest heard → run_of script heard ≡ waiting_run queries link.exchange next → EndsAs script (Err failure) failure (heard ++ part) queries
 unfolding EndsAs
 ends_as link n n' part failure link' a broken (inl lacks) script heard queries next here runs =
@@ -242,7 +242,7 @@ ends_as link n n' part failure link' a broken (inr (inr spoils)) script heard qu
     (inr (ap (λ r. ending r.standing) (sym over)), ([], ap (λ r. r.queries) over ∙ sym (append-nil queries), λ whole. refl))
 
 -- The link failed, the connection was lost, or memory ran out.
-unanswered_ends : (link link' : LinkValue) (n n' : ℕ) (failure : Failure) (p p' : Point) → Awaits link n → Hears link p (Err failure) link' n' p' → (script : Script) (next : Outcome → Script)
+unanswered_ends : (link link' : LinkValue) (n n' : ℕ) (failure : ToolFailure) (p p' : Point) → Awaits link n → Hears link p (Err failure) link' n' p' → (script : Script) (next : Outcome → Script)
     (input before : Option (List ℕ)) → Listens script next input before link p → Ends script (Err failure) input p'.remaining before p'.taken
 unfolding EndsAs
 unanswered_ends link link' n n' failure p p' a h script next input before l =
@@ -264,7 +264,7 @@ broken_off : (queries front back all : List ℕ) → all ≡ queries ++ (front +
 broken_off queries front back all is some = omega (arith, ap length is, length-append queries (front ++ back), length-append front back, length-append queries front, some)
 
 -- The query couldn't be sent.
-unsent_ends : (request : Request) (failure : Failure) (link : LinkValue) (p p' : Point) → Sends request (Err failure) link p.taken p'.taken p'.has_ended → p'.unread ≡ p.unread → p'.remaining ≡ p.remaining
+unsent_ends : (request : Request) (failure : ToolFailure) (link : LinkValue) (p p' : Point) → Sends request (Err failure) link p.taken p'.taken p'.has_ended → p'.unread ≡ p.unread → p'.remaining ≡ p.remaining
     → (script : Script) (next : Outcome → Script) (input before : Option (List ℕ)) → IsAt script (Asks request next) input before p → Ends script (Err failure) input p'.remaining before p'.taken
 unsent_ends request failure link p p' sends unread remaining script next input before at =
     let read : input ≡ prepend_known (at.heard ++ p'.unread) p'.remaining = at.read ∙ ap₂ (λ u r. prepend_known (at.heard ++ u) r) (sym unread) (sym remaining) in
@@ -300,7 +300,7 @@ unsent_ends request failure link p p' sends unread remaining script next input b
     ]
 
 -- A query that couldn't be sent, as a part of the work.
-pub unsent : (request : Request) (failure : Failure) (link : LinkValue) (p p' : Point) → Sends request (Err failure) link p.taken p'.taken p'.has_ended → p'.unread ≡ p.unread → p'.remaining ≡ p.remaining
+pub unsent : (request : Request) (failure : ToolFailure) (link : LinkValue) (p p' : Point) → Sends request (Err failure) link p.taken p'.taken p'.has_ended → p'.unread ≡ p.unread → p'.remaining ≡ p.remaining
     → (next : Outcome → Script) → Goes (Asks request next) next (Err failure) p p'
 unsent request failure link p p' sends unread remaining next = record {
   leads = λ script input before at. unsent_ends request failure link p p' sends unread remaining script next input before at;
@@ -319,7 +319,7 @@ answered request link link' n n' came outcome p0 p p' some a asking h next = rec
 }
 
 -- A query that wasn't.
-pub unanswered_so : (request : Request) (link link' : LinkValue) (n n' : ℕ) (failure : Failure) (p0 p p' : Point) → Awaits link n → Asking request p0 link p → Hears link p (Err failure) link' n' p'
+pub unanswered_so : (request : Request) (link link' : LinkValue) (n n' : ℕ) (failure : ToolFailure) (p0 p p' : Point) → Awaits link n → Asking request p0 link p → Hears link p (Err failure) link' n' p'
     → (next : Outcome → Script) → Goes (Asks request next) next (Err failure) p0 p'
 unanswered_so request link link' n n' failure p0 p p' a asking h next = record {
   leads = λ script input before at. unanswered_ends link link' n n' failure p p' a h script next input before (asking script next input before at);

@@ -7,13 +7,13 @@ use Rattle.nut_proto.specs.declared.request.Request.{Request}
 use Rattle.nut_proto.specs.Requests.{request_line}
 use Rattle.nut_client.specs.Forcing.{in_turn, query_lines}
 use Rattle.nut_client.specs.Script.{Asks, on_done}
-use Rattle.nut_client.specs.declared.failure.Failure.{Failure}
+use Rattle.nut_client.specs.declared.failure.ToolFailure.{ToolFailure}
 use Rattle.nut_client.specs.inside.Between.{Goes, Point}
 use Rattle.nut_client.proofs.Parts.{drop_at, follows}
 use Rattle.nut_client.proofs.Runs.{append_twice}
 
 -- A query was asked after those before it.
-pub goes_on : (queries : List Request) (i : ℕ) (query : Request) (result : Result (Unit {0}) Failure) (p p' p'' : Point) → i < length queries → query ≡ get_or queries i query
+pub goes_on : (queries : List Request) (i : ℕ) (query : Request) (result : Result (Unit {0}) ToolFailure) (p p' p'' : Point) → i < length queries → query ≡ get_or queries i query
     → Goes (in_turn queries) (λ (done : Unit {0}). in_turn (drop i queries)) (Ok tt) p p' → Goes (Asks query (on_done (in_turn (drop (i + 1) queries)))) (λ (done : Unit {0}). in_turn (drop (i + 1) queries)) result p' p''
     → Goes (in_turn queries) (λ (done : Unit {0}). in_turn (drop (i + 1) queries)) result p p''
 goes_on queries i query result p p' p'' within is first more =

@@ -8,10 +8,10 @@ use Rattle.nut_client.specs.Script.{Script}
 use Rattle.nut_client.specs.Tool.{RunsAs, refuses, explains}
 use Rattle.nut_client.specs.declared.command_line.Refusal.{Refusal}
 use Rattle.nut_client.specs.declared.command_line.Refusal.TheVariants.{Failed, Usage}
-use Rattle.nut_client.specs.declared.failure.Failure.{Failure}
-use Rattle.nut_client.specs.declared.failure.Failure.TheVariants.{Memory}
+use Rattle.nut_client.specs.declared.failure.ToolFailure.{ToolFailure}
+use Rattle.nut_client.specs.declared.failure.ToolFailure.TheVariants.{Memory}
 
-pub refused : (line : CommandLine) (ends : Script → Result (List ℕ) Failure → Type 0) (unused : Type 0) (is_unused : unused) (refusal : Refusal) (status : ℕ) (out err : Written)
+pub refused : (line : CommandLine) (ends : Script → Result (List ℕ) ToolFailure → Type 0) (unused : Type 0) (is_unused : unused) (refusal : Refusal) (status : ℕ) (out err : Written)
     → IsRead line (Err refusal) → TellsRefusal refusal status out err → RunsAs line ends unused status out err
 refused line ends unused is_unused (Usage error) status out err read told = elim told [
   | inl text ↦ explains read.0 (kind_of error) read.1 read.2 is_unused text

@@ -11,11 +11,11 @@ use Rattle.clap.specs.declared.builder.ArgAction.TheVariants.{SetTrue}
 use Rattle.nut_conf.specs.Target.{parted, target}
 use Rattle.nut_conf.specs.declared.target.NameFault.{NameFault}
 use Rattle.nut_client.specs.declared.destination.Destination.{Destination}
-use Rattle.nut_client.specs.declared.failure.Failure.{Failure}
-use Rattle.nut_client.specs.declared.failure.Failure.TheVariants.{BadArguments, BadName}
+use Rattle.nut_client.specs.declared.failure.ToolFailure.{ToolFailure}
+use Rattle.nut_client.specs.declared.failure.ToolFailure.TheVariants.{BadArguments, BadName}
 use Rattle.nut_client.specs.declared.tool.Tool.{Tool}
 use Rattle.nut_client.specs.declared.tool.Tool.TheVariants.{Upsc, Upsrw, Upscmd}
-use Rattle.nut_client.specs.declared.wanted.Deed.TheVariants as deeds
+use Rattle.nut_client.specs.declared.wanted.UpsDeed.TheVariants as deeds
 use Rattle.nut_client.specs.declared.wanted.Until.{Until}
 use Rattle.nut_client.specs.declared.wanted.Until.TheVariants as untils
 use Rattle.nut_client.specs.declared.wanted.Wanted.{Wanted}
@@ -57,10 +57,10 @@ pub record Options : Type 0 where
 -- A command line asks for something; or it is no combination that the tool knows, or has an invalid name; or clap finds
 -- faults of these kinds.
 abbrev pub CommandLine : Type 0
-CommandLine = Result (Result Options Failure) Kinds
+CommandLine = Result (Result Options ToolFailure) Kinds
 
 -- what is wanted at a place, if that is valid
-abbrev pub options_at : Wanted → Result (List ℕ × List ℕ × ℕ) NameFault → Result Options Failure
+abbrev pub options_at : Wanted → Result (List ℕ × List ℕ × ℕ) NameFault → Result Options ToolFailure
 options_at wanted (Ok place) = Ok (record { ups = place.0; host = place.1; port = place.2; wanted = wanted })
 options_at wanted (Err fault) = Err BadName
 
@@ -76,7 +76,7 @@ at_server None = codes "u"
 at_server (Some server) = codes "u@" ++ server
 
 -- A name is needed, unless only a server is asked.
-abbrev pub options_of : Option Wanted → Option (List ℕ) → Result Options Failure
+abbrev pub options_of : Option Wanted → Option (List ℕ) → Result Options ToolFailure
 options_of None name = Err BadArguments
 options_of (Some wanted) name =
     if names_server wanted then options_at wanted (target (at_server name))

@@ -10,17 +10,17 @@ use Rattle.nut_proto.specs.declared.request.Request.TheVariants as requests
 use Rattle.nut_proto.specs.declared.tracking.TrackingStatus.{TrackingStatus}
 use Rattle.nut_proto.specs.declared.tracking.TrackingStatus.TheVariants as statuses
 use Rattle.nut_proto.specs.Tracking.{tracking_number, tracking_status}
-use Rattle.nut_client.specs.declared.failure.Failure.{Failure}
-use Rattle.nut_client.specs.declared.failure.Failure.TheVariants as failures
+use Rattle.nut_client.specs.declared.failure.ToolFailure.{ToolFailure}
+use Rattle.nut_client.specs.declared.failure.ToolFailure.TheVariants as failures
 use Rattle.nut_link.specs.declared.outcome.Outcome.{Outcome}
 use Rattle.nut_link.specs.declared.outcome.Outcome.TheVariants as outcomes
-use Rattle.nut_client.specs.declared.printing.Form.{Form}
-use Rattle.nut_client.specs.declared.printing.Form.TheVariants.{Pairs, Firsts, Options, Ranges}
-use Rattle.nut_client.specs.declared.printing.Values.{Values}
-use Rattle.nut_client.specs.declared.printing.Values.TheVariants as values
+use Rattle.nut_client.specs.declared.printing.RowForm.{RowForm}
+use Rattle.nut_client.specs.declared.printing.RowForm.TheVariants.{Pairs, Firsts, Options, Ranges}
+use Rattle.nut_client.specs.declared.printing.AllowedValues.{AllowedValues}
+use Rattle.nut_client.specs.declared.printing.AllowedValues.TheVariants as values
 use Rattle.nut_client.specs.declared.deeds.TheConstants.{PAUSES_MAX}
-use Rattle.nut_client.specs.declared.wanted.Deed.{Deed}
-use Rattle.nut_client.specs.declared.wanted.Deed.TheVariants as deeds
+use Rattle.nut_client.specs.declared.wanted.UpsDeed.{UpsDeed}
+use Rattle.nut_client.specs.declared.wanted.UpsDeed.TheVariants as deeds
 use Rattle.nut_client.specs.declared.wanted.Until.{Until}
 use Rattle.nut_client.specs.declared.wanted.Until.TheVariants as untils
 use Rattle.nut_client.specs.declared.wanted.Wanted.{Wanted}
@@ -31,7 +31,7 @@ use Rattle.nut_client.specs.Json.{json_object}
 -- and continue.
 pub data Script : Type 0 where
   Prints : List ℕ → Script
-  Fails : Failure → Script
+  Fails : ToolFailure → Script
   Asks : Request → (Outcome → Script) → Script
   Pauses : Script → Script
 
@@ -66,17 +66,17 @@ abbrev pub line : List (List ℕ) → List ℕ
 line parts = flat_map (λ part. part) parts ++ 10 ∷ []
 
 -- the line that shows a row
-abbrev pub row_line : Form → List (List ℕ) → List ℕ
+abbrev pub row_line : RowForm → List (List ℕ) → List ℕ
 row_line Pairs row = line (word 0 row ∷ codes ": " ∷ word 1 row ∷ [])
 row_line Firsts row = line (word 0 row ∷ [])
 row_line Options row = line (codes "Option: " ∷ word 0 row ∷ [])
 row_line Ranges row = line (codes "Range: " ∷ word 0 row ∷ codes ".." ∷ word 1 row ∷ [])
 
-abbrev pub row_lines : Form → List (List (List ℕ)) → List ℕ
+abbrev pub row_lines : RowForm → List (List (List ℕ)) → List ℕ
 row_lines form rows = flat_map (row_line form) rows
 
 -- lists that print a line for each row
-abbrev pub lists : Request → Form → Script
+abbrev pub lists : Request → RowForm → Script
 lists query form = Asks query (on_rows (λ rows. Prints (row_lines form rows)))
 
 -- `Type:`, and each word of a variable's type after a blank
@@ -87,11 +87,11 @@ abbrev pub has_word : List ℕ → List (List ℕ) → Bool
 has_word wanted words = list_any (λ w. bytes_eq w wanted) words
 
 -- whether a variable of this type has listed values, ranges or neither
-abbrev pub values_of : List (List ℕ) → Values
+abbrev pub values_of : List (List ℕ) → AllowedValues
 values_of kind = if has_word (codes "ENUM") kind then values.Enum else (if has_word (codes "RANGE") kind then values.Range else values.Free)
 
 -- Asks which values a variable may have, and continues with the text and these.
-abbrev pub with_values : List ℕ → List ℕ → Values → List ℕ → (List ℕ → Script) → Script
+abbrev pub with_values : List ℕ → List ℕ → AllowedValues → List ℕ → (List ℕ → Script) → Script
 with_values ups variable values.Enum text next =
     Asks (requests.List (queries.Enum ups variable)) (on_rows (λ rows. next (text ++ row_lines Options rows)))
 with_values ups variable values.Range text next =
@@ -118,11 +118,11 @@ commands ups text (row ∷ rows) =
     commands ups (text ++ line (word 0 row ∷ codes " - " ∷ word 0 words ∷ [])) rows))
 
 -- the query that makes the UPS do something
-abbrev pub deed_query : List ℕ → Deed → Request
+abbrev pub deed_query : List ℕ → UpsDeed → Request
 deed_query ups (deeds.Set variable value) = requests.SetVar ups variable value
 deed_query ups (deeds.Command command parameter) = requests.InstCmd ups command parameter
 
-abbrev pub does : List ℕ → Deed → Script
+abbrev pub does : List ℕ → UpsDeed → Script
 does ups deed = Asks (deed_query ups deed) (on_done (Prints (line (codes "OK" ∷ []))))
 
 -- Continues with the number of a tracked request. A refusal ends the tool, and so does an OK without a number.
@@ -153,14 +153,14 @@ if_pending number (suc pauses) = Pauses (asks_status number (if_pending number p
 abbrev pub waits : ℕ → Script
 waits number = asks_status number (if_pending number PAUSES_MAX)
 
-abbrev pub does_tracked : List ℕ → Deed → Script
+abbrev pub does_tracked : List ℕ → UpsDeed → Script
 does_tracked ups deed = Asks (deed_query ups deed) (on_number waits)
 
-abbrev pub does_until : List ℕ → Deed → Until → Script
+abbrev pub does_until : List ℕ → UpsDeed → Until → Script
 does_until ups deed untils.Accepted = does ups deed
 does_until ups deed untils.Ended = Asks (requests.SetTracking true) (on_done (does_tracked ups deed))
 
-abbrev pub gives_password : List ℕ → List ℕ → Deed → Until → Script
+abbrev pub gives_password : List ℕ → List ℕ → UpsDeed → Until → Script
 gives_password ups password deed until = Asks (requests.Password password) (on_done (does_until ups deed until))
 
 -- What a tool does that is asked for this of a UPS.

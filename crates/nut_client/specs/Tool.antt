@@ -15,8 +15,8 @@ use Rattle.nut_proto.specs.Requests.{request_line}
 use Rattle.nut_proto.specs.Tracking.{status_word}
 use Rattle.nut_link.specs.Exchange.{Exchange}
 use Rattle.nut_link.specs.Exchange as stages
-use Rattle.nut_client.specs.declared.failure.Failure.{Failure}
-use Rattle.nut_client.specs.declared.failure.Failure.TheVariants as failures
+use Rattle.nut_client.specs.declared.failure.ToolFailure.{ToolFailure}
+use Rattle.nut_client.specs.declared.failure.ToolFailure.TheVariants as failures
 use Rattle.nut_link.specs.declared.fault.LinkFault.{LinkFault}
 use Rattle.nut_link.specs.declared.fault.LinkFault.TheVariants as faults
 use Rattle.nut_link.specs.declared.outcome.Outcome.{Outcome}
@@ -31,7 +31,7 @@ use Rattle.nut_client.specs.Script.{Script, Prints, Fails, Asks, Pauses, script}
 pub data Standing : Type 0 where
   Waits : Exchange → (Outcome → Script) → Standing
   Printed : List ℕ → Standing
-  Failed : Failure → Standing
+  Failed : ToolFailure → Standing
 
 -- A tool's run so far: the lines of the queries that it asked, joined, and how far it has come.
 pub record Run : Type 0 where
@@ -43,7 +43,7 @@ abbrev pub sent : Request → Exchange
 sent request = record { stage = stages.Asked (record (query_of request) { waits = [] }); fault = None }
 
 -- the failure with which a link's fault ends a tool
-abbrev pub failure_of : LinkFault → Failure
+abbrev pub failure_of : LinkFault → ToolFailure
 failure_of faults.NotMine = failures.BadAnswer
 failure_of faults.BadLine = failures.BadAnswer
 failure_of faults.OutOfOrder = failures.BadAnswer
@@ -95,7 +95,7 @@ run_of script bytes = after (settled_lines bytes) (begin [] script)
 
 -- How a tool ends if nothing more comes: with a text to print, or with a failure. If it still waits, it has lost its
 -- connection.
-abbrev pub ending : Standing → Result (List ℕ) Failure
+abbrev pub ending : Standing → Result (List ℕ) ToolFailure
 ending (Waits e next) = Err failures.ConnectionLost
 ending (Printed text) = Ok text
 ending (Failed failure) = Err failure
@@ -119,7 +119,7 @@ abbrev pub IsReadInTime : (List ℕ → Run) → List ℕ → Type 0
 IsReadInTime run bytes = (bytes ≡ []) ⊎ LastRead run bytes
 
 -- whether a query may have been sent in part at this failure
-abbrev pub breaks_off : Failure → Bool
+abbrev pub breaks_off : ToolFailure → Bool
 breaks_off failures.BadArguments = false
 breaks_off failures.BadName = false
 breaks_off failures.NoConnection = false
@@ -134,16 +134,16 @@ breaks_off failures.OutputFailed = false
 
 -- These bytes of the queries were written: all of them; or, if the connection was lost or memory could not be
 -- allocated, perhaps only a beginning.
-abbrev pub WasWrittenBy : Failure → List ℕ → List ℕ → Type 0
+abbrev pub WasWrittenBy : ToolFailure → List ℕ → List ℕ → Type 0
 WasWrittenBy failure written queries = (back : List ℕ) × (queries ≡ written ++ back) × (breaks_off failure ≡ false → back ≡ [])
 
-abbrev pub WasWritten : {A : Type 0} → Result A Failure → List ℕ → List ℕ → Type 0
+abbrev pub WasWritten : {A : Type 0} → Result A ToolFailure → List ℕ → List ℕ → Type 0
 WasWritten (Ok done) written queries = queries ≡ written
 WasWritten (Err failure) written queries = WasWrittenBy failure written queries
 
 -- A tool ends as its run over the bytes that it heard, unless memory could not be allocated. Of a connection whose
 -- bytes are known, it heard the first, perhaps left some unheard that were read with them, and wrote its queries.
-pub record Ends (script : Script) (result : Result (List ℕ) Failure) (input left : Option (List ℕ))
+pub record Ends (script : Script) (result : Result (List ℕ) ToolFailure) (input left : Option (List ℕ))
     (before after : Option (List ℕ)) : Type 0 where
   pub heard : List ℕ
   pub unheard : List ℕ
@@ -158,12 +158,12 @@ pub record Ends (script : Script) (result : Result (List ℕ) Failure) (input le
       → (unheard ≡ []) ⊎ (length written < length (run_of script heard).queries))
 
 -- why the words of a command line are not available, by the kind of error with which their reading ended
-abbrev pub words_failure : IoErrorKind → Failure
+abbrev pub words_failure : IoErrorKind → ToolFailure
 words_failure io_kinds.OutOfMemory = failures.Memory
 words_failure kind = failures.BadArguments
 
 -- what is written of a failure to standard error
-abbrev pub reason : Failure → List ℕ
+abbrev pub reason : ToolFailure → List ℕ
 reason failures.BadArguments = codes "bad arguments"
 reason failures.BadName = codes "bad UPS name"
 reason failures.NoConnection = codes "connection failed"
@@ -176,10 +176,10 @@ reason failures.BadQuery = codes "bad query"
 reason failures.Memory = codes "out of memory"
 reason failures.OutputFailed = codes "output failed"
 
-abbrev pub error_text : Failure → List ℕ
+abbrev pub error_text : ToolFailure → List ℕ
 error_text failure = codes "Error: " ++ reason failure ++ 10 ∷ []
 
-abbrev pub status_of : Failure → ℕ
+abbrev pub status_of : ToolFailure → ℕ
 status_of failures.BadArguments = 2
 status_of failures.BadName = 1
 status_of failures.NoConnection = 1
@@ -193,13 +193,13 @@ status_of failures.Memory = 1
 status_of failures.OutputFailed = 1
 
 -- A failure's line is written to the error output.
-abbrev pub Reports : Failure → ℕ → Written → Type 0
+abbrev pub Reports : ToolFailure → ℕ → Written → Type 0
 Reports failure status err = (status ≡ status_of failure) × HasText (error_text failure) err
 
 -- What a tool prints, and its status. A text is written to the output, with status 0; if the output fails, a beginning
 -- of the text was written there, and that is reported. A failure is reported, and then nothing is written to the
 -- output.
-abbrev pub Tells : Result (List ℕ) Failure → ℕ → Written → Written → Type 0
+abbrev pub Tells : Result (List ℕ) ToolFailure → ℕ → Written → Written → Type 0
 Tells (Ok text) status out err =
     ((status ≡ 0) × HasAll text out × IsUntouched err)
     ⊎ (IsCutShort text out × Reports failures.OutputFailed status err)
@@ -222,13 +222,13 @@ Back S = Unit {0} ⊎ ((MutBor S × Unit {0}) ⊎ ⊥)
 
 module _ {S : Type 0} (remaining taken : S → Option (List ℕ)) (has_ended : S → Type 0) where
   -- How a tool ends over a connection, by its states before and after. A connection that was lost has ended or failed.
-  abbrev pub EndsOver : S → S → Script → Result (List ℕ) Failure → Type 0
+  abbrev pub EndsOver : S → S → Script → Result (List ℕ) ToolFailure → Type 0
   EndsOver before after script result =
       Ends script result (remaining before) (remaining after) (taken before) (taken after)
       × IfErr result (λ failure. failure ≡ failures.ConnectionLost → has_ended after)
 
   -- How a tool ends that was lent a connection, or none.
-  abbrev pub EndsBy : Option (MutBor S) → Back S → Script → Result (List ℕ) Failure → Type 0
+  abbrev pub EndsBy : Option (MutBor S) → Back S → Script → Result (List ℕ) ToolFailure → Type 0
   EndsBy (Some stream) (inr (inl back)) script result = EndsOver stream.now back.0.now script result
   EndsBy (Some stream) back script result = ⊥
   EndsBy None back script result = result ≡ Err failures.NoConnection
@@ -242,11 +242,11 @@ IsUnused None back = ⊤
 -- How a program ends. It did what its command line asks for, and tells the result. Or memory could not be allocated, or
 -- its words are no such command line, and it tells that. Or clap finds a fault in the words, and its text is printed.
 -- If nothing was asked, the connection isn't used.
-pub data RunsAs (line : CommandLine) (ends : Script → Result (List ℕ) Failure → Type 0) (unused : Type 0)
+pub data RunsAs (line : CommandLine) (ends : Script → Result (List ℕ) ToolFailure → Type 0) (unused : Type 0)
     (status : ℕ) (out err : Written) : Type 0 where
-  asks : (options : Options) → line ≡ Ok (Ok options) → (result : Result (List ℕ) Failure)
+  asks : (options : Options) → line ≡ Ok (Ok options) → (result : Result (List ℕ) ToolFailure)
       → ends (script options.ups options.wanted) result → Tells result status out err → RunsAs line ends unused status out err
-  refuses : (failure : Failure) → (failure ≡ failures.Memory) ⊎ (line ≡ Ok (Err failure)) → unused
+  refuses : (failure : ToolFailure) → (failure ≡ failures.Memory) ⊎ (line ≡ Ok (Err failure)) → unused
       → Tells (Err failure) status out err → RunsAs line ends unused status out err
   explains : (faults : Kinds) (kind : ErrorKind) → line ≡ Err faults → IsAmong kind faults → unused
       → Explains (is_asked_for kind) status out err → RunsAs line ends unused status out err

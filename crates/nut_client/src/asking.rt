@@ -7,9 +7,9 @@ ghost use Rattle.nut_client.specs.declared.wanted.Wanted.TheVariants.{Commands, 
 ghost use Rattle.nut_proto.specs.declared.request.Request.TheVariants.{List as Lists};
 
 use crate::conversation::Conversation;
-use crate::failure::Failure;
+use crate::failure::ToolFailure;
 use crate::json::{put_object, put_object_of_one};
-use crate::printing::{Form, Values, put_heading, put_line, put_rows, values_of};
+use crate::printing::{AllowedValues, RowForm, put_heading, put_line, put_rows, values_of};
 use crate::stream::Stream;
 use crate::wanted::Wanted;
 use nut_link::{Fields, Text};
@@ -18,7 +18,7 @@ use std::alloc::Global;
 use std::time::Clock;
 
 /// Returns the lines that show these rows.
-fn rows_text(alloc: Global, form: Form, rows: &[Fields]) -> Result<Text, Failure>
+fn rows_text(alloc: Global, form: RowForm, rows: &[Fields]) -> Result<Text, ToolFailure>
     ensures { IsMade (row_lines form rows.now) result }
 {
     let mut text = Vec::new(alloc);
@@ -27,7 +27,7 @@ fn rows_text(alloc: Global, form: Form, rows: &[Fields]) -> Result<Text, Failure
 }
 
 /// Returns the rows as a JSON object.
-fn object_text(alloc: Global, rows: &[Fields]) -> Result<Text, Failure>
+fn object_text(alloc: Global, rows: &[Fields]) -> Result<Text, ToolFailure>
     ensures { IsMade (json_object rows.now) result }
 {
     let mut text = Vec::new(alloc);
@@ -36,7 +36,7 @@ fn object_text(alloc: Global, rows: &[Fields]) -> Result<Text, Failure>
 }
 
 /// Returns a name and its value as a JSON object.
-fn member_text(alloc: Global, name: &[u8], value: &[u8]) -> Result<Text, Failure>
+fn member_text(alloc: Global, name: &[u8], value: &[u8]) -> Result<Text, ToolFailure>
     ensures { IsMade (json_object ((name.now ∷ value.now ∷ []) ∷ [])) result }
 {
     let mut text = Vec::new(alloc);
@@ -45,7 +45,7 @@ fn member_text(alloc: Global, name: &[u8], value: &[u8]) -> Result<Text, Failure
 }
 
 /// Returns the line of a word.
-pub(crate) fn line_text(alloc: Global, word: &[u8]) -> Result<Text, Failure>
+pub(crate) fn line_text(alloc: Global, word: &[u8]) -> Result<Text, ToolFailure>
     ensures { IsMade (line (word.now ∷ [])) result }
 {
     let mut text = Vec::new(alloc);
@@ -68,19 +68,19 @@ impl Conversation {
         stream: &mut S,
         ups: Word<'_>,
         wanted: Wanted<'_>,
-    ) -> Result<Text, Failure>
+    ) -> Result<Text, ToolFailure>
         ensures { Goes (script ups.entry wanted.entry) Prints result
             (point S.remaining S.taken S.has_ended self.old.unread stream.old)
             (point S.remaining S.taken S.has_ended self.new.unread stream.new) }
     {
         match wanted {
-            Wanted::Variables => self.list(stream, ListQuery::Var { ups }, Form::Pairs),
+            Wanted::Variables => self.list(stream, ListQuery::Var { ups }, RowForm::Pairs),
             Wanted::Object => self.object(stream, ups),
             Wanted::Value(variable) => self.value(stream, ups, variable),
             Wanted::Member(variable) => self.member(stream, ups, variable),
-            Wanted::Names => self.list(stream, ListQuery::Ups, Form::Firsts),
-            Wanted::Descriptions => self.list(stream, ListQuery::Ups, Form::Pairs),
-            Wanted::Clients => self.list(stream, ListQuery::Client { ups }, Form::Firsts),
+            Wanted::Names => self.list(stream, ListQuery::Ups, RowForm::Firsts),
+            Wanted::Descriptions => self.list(stream, ListQuery::Ups, RowForm::Pairs),
+            Wanted::Clients => self.list(stream, ListQuery::Client { ups }, RowForm::Firsts),
             Wanted::Settings => self.settings(stream, ups),
             Wanted::Commands => self.commands(stream, ups),
             Wanted::Does(user, password, deed, until) => {
@@ -94,8 +94,8 @@ impl Conversation {
         &mut self,
         stream: &mut S,
         query: ListQuery<'_>,
-        form: Form,
-    ) -> Result<Text, Failure>
+        form: RowForm,
+    ) -> Result<Text, ToolFailure>
         ensures { Goes (lists (Lists query.entry) form) Prints result
             (point S.remaining S.taken S.has_ended self.old.unread stream.old)
             (point S.remaining S.taken S.has_ended self.new.unread stream.new) }
@@ -105,7 +105,7 @@ impl Conversation {
     }
 
     /// Shows all variables as a JSON object.
-    fn object<S: Stream>(&mut self, stream: &mut S, ups: Word<'_>) -> Result<Text, Failure>
+    fn object<S: Stream>(&mut self, stream: &mut S, ups: Word<'_>) -> Result<Text, ToolFailure>
         ensures { Goes (script ups.entry Object) Prints result
             (point S.remaining S.taken S.has_ended self.old.unread stream.old)
             (point S.remaining S.taken S.has_ended self.new.unread stream.new) }
@@ -120,7 +120,7 @@ impl Conversation {
         stream: &mut S,
         ups: Word<'_>,
         variable: Word<'_>,
-    ) -> Result<Text, Failure>
+    ) -> Result<Text, ToolFailure>
         ensures { Goes (script ups.entry (Value variable.entry)) Prints result
             (point S.remaining S.taken S.has_ended self.old.unread stream.old)
             (point S.remaining S.taken S.has_ended self.new.unread stream.new) }
@@ -135,7 +135,7 @@ impl Conversation {
         stream: &mut S,
         ups: Word<'_>,
         variable: Word<'_>,
-    ) -> Result<Text, Failure>
+    ) -> Result<Text, ToolFailure>
         ensures { Goes (script ups.entry (Member variable.entry)) Prints result
             (point S.remaining S.taken S.has_ended self.old.unread stream.old)
             (point S.remaining S.taken S.has_ended self.new.unread stream.new) }
@@ -146,7 +146,7 @@ impl Conversation {
     }
 
     /// Shows all writable variables, each with the values that it may have.
-    fn settings<S: Stream>(&mut self, stream: &mut S, ups: Word<'_>) -> Result<Text, Failure>
+    fn settings<S: Stream>(&mut self, stream: &mut S, ups: Word<'_>) -> Result<Text, ToolFailure>
         ensures { Goes (script ups.entry Settings) Prints result
             (point S.remaining S.taken S.has_ended self.old.unread stream.old)
             (point S.remaining S.taken S.has_ended self.new.unread stream.new) }
@@ -164,7 +164,7 @@ impl Conversation {
         ups: &Word<'_>,
         rows: &[Fields],
         text: &mut Vec<u8>,
-    ) -> Result<(), Failure>
+    ) -> Result<(), ToolFailure>
         ensures { Goes (settings ups.now text.old.items rows.now) (λ _. Prints text.new.items) result
             (point S.remaining S.taken S.has_ended self.old.unread stream.old)
             (point S.remaining S.taken S.has_ended self.new.unread stream.new) }
@@ -182,7 +182,7 @@ impl Conversation {
         ups: &Word<'_>,
         row: &Fields,
         text: &mut Vec<u8>,
-    ) -> Result<(), Failure>
+    ) -> Result<(), ToolFailure>
         ensures { (rows : List (List (List ℕ)))
             → Goes (settings ups.now text.old.items (row.now ∷ rows)) (λ _. settings ups.now text.new.items rows) result
             (point S.remaining S.taken S.has_ended self.old.unread stream.old)
@@ -210,7 +210,7 @@ impl Conversation {
         row: &Fields,
         kind: &Fields,
         text: &mut Vec<u8>,
-    ) -> Result<(), Failure>
+    ) -> Result<(), ToolFailure>
         ensures { (next : List ℕ → Script)
             → Goes (with_values ups.now (word 0 row.now) (values_meant kind.now) text.old.items next) (λ _. next text.new.items) result
             (point S.remaining S.taken S.has_ended self.old.unread stream.old)
@@ -218,23 +218,23 @@ impl Conversation {
     {
         let (ups, variable) = (ups.copy(), name_of(row));
         match values_of(kind) {
-            Values::Enum => {
+            AllowedValues::Enum => {
                 self.put_list(
                     stream,
                     ListQuery::Enum { ups, variable },
-                    Form::Options,
+                    RowForm::Options,
                     text,
                 )
             }
-            Values::Range => {
+            AllowedValues::Range => {
                 self.put_list(
                     stream,
                     ListQuery::Range { ups, variable },
-                    Form::Ranges,
+                    RowForm::Ranges,
                     text,
                 )
             }
-            Values::Free => Ok(()),
+            AllowedValues::Free => Ok(()),
         }
     }
 
@@ -243,9 +243,9 @@ impl Conversation {
         &mut self,
         stream: &mut S,
         query: ListQuery<'_>,
-        form: Form,
+        form: RowForm,
         text: &mut Vec<u8>,
-    ) -> Result<(), Failure>
+    ) -> Result<(), ToolFailure>
         ensures { (next : List ℕ → Script)
             → Goes (Asks (Lists query.entry) (on_rows (λ rows. next (text.old.items ++ row_lines form rows))))
             (λ _. next text.new.items) result
@@ -258,7 +258,7 @@ impl Conversation {
     }
 
     /// Shows all commands, each with its description.
-    fn commands<S: Stream>(&mut self, stream: &mut S, ups: Word<'_>) -> Result<Text, Failure>
+    fn commands<S: Stream>(&mut self, stream: &mut S, ups: Word<'_>) -> Result<Text, ToolFailure>
         ensures { Goes (script ups.entry Commands) Prints result
             (point S.remaining S.taken S.has_ended self.old.unread stream.old)
             (point S.remaining S.taken S.has_ended self.new.unread stream.new) }
@@ -276,7 +276,7 @@ impl Conversation {
         ups: &Word<'_>,
         rows: &[Fields],
         text: &mut Vec<u8>,
-    ) -> Result<(), Failure>
+    ) -> Result<(), ToolFailure>
         ensures { Goes (commands ups.now text.old.items rows.now) (λ _. Prints text.new.items) result
             (point S.remaining S.taken S.has_ended self.old.unread stream.old)
             (point S.remaining S.taken S.has_ended self.new.unread stream.new) }
@@ -294,7 +294,7 @@ impl Conversation {
         ups: &Word<'_>,
         row: &Fields,
         text: &mut Vec<u8>,
-    ) -> Result<(), Failure>
+    ) -> Result<(), ToolFailure>
         ensures { (rows : List (List (List ℕ)))
             → Goes (commands ups.now text.old.items (row.now ∷ rows)) (λ _. commands ups.now text.new.items rows) result
             (point S.remaining S.taken S.has_ended self.old.unread stream.old)

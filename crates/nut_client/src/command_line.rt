@@ -5,12 +5,12 @@ ghost use Rattle.nut_conf.specs.Target.{parted as parted_at};
 ghost use Rattle.nut_client.specs.CommandLine.{is_given as given, names_server as server_named, options_of as options_meant, until as until_meant};
 ghost use Rattle.nut_client.specs.inside.Reading.{AreOptions, IsReadBy, IsRefusalOf};
 ghost use Rattle.nut_client.specs.declared.command_line.Refusal.TheVariants.{Failed};
-ghost use Rattle.nut_client.specs.declared.failure.Failure.TheVariants.{BadArguments, BadName, Memory};
+ghost use Rattle.nut_client.specs.declared.failure.ToolFailure.TheVariants.{BadArguments, BadName, Memory};
 ghost use Rattle.nut_client.specs.declared.wanted.Wanted.TheVariants.{Does};
 
 use crate::destination::{read_server, read_target};
-use crate::failure::Failure;
-use crate::wanted::{Deed, Until, Wanted};
+use crate::failure::ToolFailure;
+use crate::wanted::{Until, UpsDeed, Wanted};
 use clap::{ArgMatches, Command};
 use nut_conf::Target;
 use nut_proto::Word;
@@ -30,7 +30,7 @@ pub(crate) enum Refusal {
     /// It cannot be read, or asks for the help or the version. clap has the text to print.
     Usage(clap::Error),
     /// It was read, and this is wrong with it.
-    Failed(Failure),
+    Failed(ToolFailure),
 }
 
 impl Refusal {
@@ -38,14 +38,14 @@ impl Refusal {
     pub fn is_bad_name(&self) -> bool
         ensures { result ≡ true → self.now ≡ Failed BadName }
     {
-        matches!(self, Refusal::Failed(Failure::BadName))
+        matches!(self, Refusal::Failed(ToolFailure::BadName))
     }
 
     /// Whether the words were read, but are no combination that the tool knows.
     pub fn is_bad_combination(&self) -> bool
         ensures { result ≡ true → self.now ≡ Failed BadArguments }
     {
-        matches!(self, Refusal::Failed(Failure::BadArguments))
+        matches!(self, Refusal::Failed(ToolFailure::BadArguments))
     }
 }
 
@@ -54,7 +54,7 @@ impl From<clap::Error> for Refusal {
 
     fn from(error: clap::Error) -> Self {
         if error.kind() == clap::error::ErrorKind::OutOfMemory {
-            Refusal::Failed(Failure::Memory)
+            Refusal::Failed(ToolFailure::Memory)
         } else {
             Refusal::Usage(error)
         }
@@ -65,14 +65,14 @@ impl From<AllocError> for Refusal {
     ghost from_gives = { λ _ refusal. refusal ≡ Failed Memory };
 
     fn from(_: AllocError) -> Self {
-        Refusal::Failed(Failure::Memory)
+        Refusal::Failed(ToolFailure::Memory)
     }
 }
 
-impl From<Failure> for Refusal {
+impl From<ToolFailure> for Refusal {
     ghost from_gives = { λ failure refusal. refusal ≡ Failed failure };
 
-    fn from(failure: Failure) -> Self {
+    fn from(failure: ToolFailure) -> Self {
         Refusal::Failed(failure)
     }
 }
@@ -122,14 +122,14 @@ pub(crate) fn options_of<'a>(
     ensures { AreOptions (options_meant wanted.entry (option_map (λ s. s.now) name.entry)) result }
 {
     let Some(wanted) = wanted else {
-        return Err(Refusal::Failed(Failure::BadArguments));
+        return Err(Refusal::Failed(ToolFailure::BadArguments));
     };
     let target = if names_server(&wanted) {
         read_server(name)?
     } else if let Some(name) = name {
-        read_target(name)?
+        read_target(name.as_bytes())?
     } else {
-        return Err(Refusal::Failed(Failure::BadArguments));
+        return Err(Refusal::Failed(ToolFailure::BadArguments));
     };
     Ok(Options { target, wanted })
 }
@@ -156,7 +156,7 @@ pub(crate) fn parted_at_equals(bytes: &[u8]) -> Option<(&[u8], &[u8])>
 pub(crate) fn deed_by<'a>(
     user: &'a str,
     password: &'a str,
-    deed: Deed<'a>,
+    deed: UpsDeed<'a>,
     wait: bool,
 ) -> Wanted<'a>
     ensures { result ≡ Does user.entry.now password.entry.now deed.entry (until_meant wait) }

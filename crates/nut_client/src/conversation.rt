@@ -9,10 +9,10 @@ ghost use Rattle.nut_link.specs.Link.{fresh};
 ghost use Rattle.nut_link.specs.declared.outcome.Outcome.{Outcome as Came};
 ghost use Rattle.nut_proto.specs.Requests.{request_line};
 ghost use Rattle.nut_proto.specs.declared.request.Request.TheVariants.{List as Lists};
-ghost use Rattle.nut_client.specs.declared.failure.Failure.TheVariants.{ConnectionLost};
+ghost use Rattle.nut_client.specs.declared.failure.ToolFailure.TheVariants.{ConnectionLost};
 
 use crate::answers::{done_of, number_of, rows_of, words_of};
-use crate::failure::Failure;
+use crate::failure::ToolFailure;
 use crate::stream::{Moved, Stream};
 use crate::unread::Unread;
 use nut_link::{Fields, Link, Outcome, Rows};
@@ -44,7 +44,7 @@ impl Conversation {
         &mut self,
         stream: &mut S,
         request: &Request<'_>,
-    ) -> Result<Outcome, Failure>
+    ) -> Result<Outcome, ToolFailure>
         ensures goes { (next : Came → Script) → Goes (Asks request.now next) next result
             (point S.remaining S.taken S.has_ended self.old.unread stream.old)
             (point S.remaining S.taken S.has_ended self.new.unread stream.new) }
@@ -59,7 +59,7 @@ impl Conversation {
         &mut self,
         stream: &mut S,
         query: ListQuery<'_>,
-    ) -> Result<Rows, Failure>
+    ) -> Result<Rows, ToolFailure>
         ensures { (next : List (List (List ℕ)) → Script) → Goes (Asks (Lists query.entry) (on_rows next)) next result
             (point S.remaining S.taken S.has_ended self.old.unread stream.old)
             (point S.remaining S.taken S.has_ended self.new.unread stream.new) }
@@ -73,7 +73,7 @@ impl Conversation {
         &mut self,
         stream: &mut S,
         request: &Request<'_>,
-    ) -> Result<Fields, Failure>
+    ) -> Result<Fields, ToolFailure>
         ensures { (next : List (List ℕ) → Script) → Goes (Asks request.now (on_words next)) next result
             (point S.remaining S.taken S.has_ended self.old.unread stream.old)
             (point S.remaining S.taken S.has_ended self.new.unread stream.new) }
@@ -87,7 +87,7 @@ impl Conversation {
         &mut self,
         stream: &mut S,
         request: &Request<'_>,
-    ) -> Result<u32, Failure>
+    ) -> Result<u32, ToolFailure>
         ensures { (next : ℕ → Script) → Goes (Asks request.now (on_number next)) next result
             (point S.remaining S.taken S.has_ended self.old.unread stream.old)
             (point S.remaining S.taken S.has_ended self.new.unread stream.new) }
@@ -101,7 +101,7 @@ impl Conversation {
         &mut self,
         stream: &mut S,
         request: &Request<'_>,
-    ) -> Result<(), Failure>
+    ) -> Result<(), ToolFailure>
         ensures goes { (next : Script) → Goes (Asks request.now (on_done next)) (λ _. next) result
             (point S.remaining S.taken S.has_ended self.old.unread stream.old)
             (point S.remaining S.taken S.has_ended self.new.unread stream.new) }
@@ -119,7 +119,7 @@ fn ask_over<S: Stream>(
     link: &mut Link,
     unread: &mut Unread,
     request: &Request<'_>,
-) -> Result<Outcome, Failure>
+) -> Result<Outcome, ToolFailure>
     requires { link.old ≡ fresh }
     ensures goes { (next : Came → Script) → Goes (Asks request.now next) next result
         (point S.remaining S.taken S.has_ended unread.old stream.old)
@@ -141,7 +141,11 @@ fn ask_over<S: Stream>(
 
 /// Sends all bytes of a query over a link on which nothing was said.
 #[tactic(auto, using(std::proofs::lemmas::Grind::common_steps))]
-fn send<S: Stream>(stream: &mut S, link: &mut Link, request: &Request<'_>) -> Result<(), Failure>
+fn send<S: Stream>(
+    stream: &mut S,
+    link: &mut Link,
+    request: &Request<'_>,
+) -> Result<(), ToolFailure>
     requires { link.old ≡ fresh }
     ensures sends { Sends request.now result link.new (S.taken stream.old) (S.taken stream.new) (S.has_ended stream.new) }
     ensures remaining { S.remaining stream.new ≡ S.remaining stream.old }
@@ -154,7 +158,7 @@ fn send<S: Stream>(stream: &mut S, link: &mut Link, request: &Request<'_>) -> Re
         match stream.write(link.waiting()) {
             Moved::Bytes(n) => link.took(n).unwrap(),
             Moved::Again => {}
-            Moved::Lost => return Err(Failure::ConnectionLost),
+            Moved::Lost => return Err(ToolFailure::ConnectionLost),
         }
     }
     Ok(())
@@ -167,25 +171,25 @@ fn hear<S: Stream>(
     link: &mut Link,
     unread: &mut Unread,
     length: &mut usize,
-) -> Result<Option<Outcome>, Failure>
+) -> Result<Option<Outcome>, ToolFailure>
     requires { Awaits link.old length.old }
     ensures hears { Hears link.old (point S.remaining S.taken S.has_ended unread.old stream.old) result
         link.new length.new (point S.remaining S.taken S.has_ended unread.new stream.new) }
     ensures lowers { OnOk result (steps_left (S.calls_left stream.new) unread.new < steps_left (S.calls_left stream.old) unread.old) }
 {
     if !unread.fill(stream) {
-        return Err(Failure::ConnectionLost);
+        return Err(ToolFailure::ConnectionLost);
     }
     let (part, is_ended) = unread.line_part();
     let used = part.len();
     let fed = link.feed(part);
     unread.take(used);
     if let Err(fault) = fed {
-        return Err(Failure::from(fault));
+        return Err(ToolFailure::from(fault));
     }
     *length = length_after(*length, used, is_ended);
     if *length > LINE_MAX {
-        return Err(Failure::BadAnswer);
+        return Err(ToolFailure::BadAnswer);
     }
     Ok(link.answer())
 }

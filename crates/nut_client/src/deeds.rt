@@ -7,9 +7,9 @@ ghost use Rattle.nut_client.specs.declared.wanted.Wanted.TheVariants.{Does};
 
 use crate::asking::line_text;
 use crate::conversation::Conversation;
-use crate::failure::Failure;
+use crate::failure::ToolFailure;
 use crate::stream::Stream;
-use crate::wanted::{Deed, Until};
+use crate::wanted::{Until, UpsDeed};
 use nut_link::Text;
 use nut_proto::{Request, TrackingStatus, Word, tracking_status};
 use std::thread;
@@ -22,16 +22,16 @@ pub(crate) const PAUSES_MAX: u32 = 10;
 const PAUSE: u64 = 1;
 
 /// Returns the query that makes the UPS do something.
-fn deed_query<'t>(ups: &'t Word<'t>, deed: &'t Deed<'t>) -> Request<'t>
+fn deed_query<'t>(ups: &'t Word<'t>, deed: &'t UpsDeed<'t>) -> Request<'t>
     ensures { result ≡ deed_query ups.now deed.now }
 {
     match deed {
-        Deed::Set(variable, value) => Request::SetVar {
+        UpsDeed::Set(variable, value) => Request::SetVar {
             ups: ups.copy(),
             variable: variable.copy(),
             value: value.copy(),
         },
-        Deed::Command(command, parameter) => Request::InstCmd {
+        UpsDeed::Command(command, parameter) => Request::InstCmd {
             ups: ups.copy(),
             command: command.copy(),
             parameter: parameter.as_ref().map(Word::copy),
@@ -48,9 +48,9 @@ impl Conversation {
         ups: Word<'_>,
         user: Word<'_>,
         password: Word<'_>,
-        deed: Deed<'_>,
+        deed: UpsDeed<'_>,
         until: Until,
-    ) -> Result<Text, Failure>
+    ) -> Result<Text, ToolFailure>
         ensures { Goes (script ups.entry (Does user.entry password.entry deed.entry until)) Prints result
             (point S.remaining S.taken S.has_ended self.old.unread stream.old)
             (point S.remaining S.taken S.has_ended self.new.unread stream.new) }
@@ -68,8 +68,8 @@ impl Conversation {
         &mut self,
         stream: &mut S,
         ups: &Word<'_>,
-        deed: &Deed<'_>,
-    ) -> Result<Text, Failure>
+        deed: &UpsDeed<'_>,
+    ) -> Result<Text, ToolFailure>
         ensures { Goes (does ups.now deed.now) Prints result
             (point S.remaining S.taken S.has_ended self.old.unread stream.old)
             (point S.remaining S.taken S.has_ended self.new.unread stream.new) }
@@ -84,8 +84,8 @@ impl Conversation {
         rt: &impl Clock,
         stream: &mut S,
         ups: &Word<'_>,
-        deed: &Deed<'_>,
-    ) -> Result<Text, Failure>
+        deed: &UpsDeed<'_>,
+    ) -> Result<Text, ToolFailure>
         ensures { Goes (does_until ups.now deed.now Ended) Prints result
             (point S.remaining S.taken S.has_ended self.old.unread stream.old)
             (point S.remaining S.taken S.has_ended self.new.unread stream.new) }
@@ -102,7 +102,7 @@ impl Conversation {
         rt: &impl Clock,
         stream: &mut S,
         number: u32,
-    ) -> Result<(), Failure>
+    ) -> Result<(), ToolFailure>
         ensures { Goes (waits number) (λ _. Prints (line (codes "SUCCESS" ∷ []))) result
             (point S.remaining S.taken S.has_ended self.old.unread stream.old)
             (point S.remaining S.taken S.has_ended self.new.unread stream.new) }
@@ -116,12 +116,12 @@ impl Conversation {
         if self.has_succeeded(stream, number)? {
             Ok(())
         } else {
-            Err(Failure::Unconfirmed(TrackingStatus::Pending))
+            Err(ToolFailure::Unconfirmed(TrackingStatus::Pending))
         }
     }
 
     /// Asks whether the request of this number has succeeded. If not, it is pending.
-    fn has_succeeded<S: Stream>(&mut self, stream: &mut S, number: u32) -> Result<bool, Failure>
+    fn has_succeeded<S: Stream>(&mut self, stream: &mut S, number: u32) -> Result<bool, ToolFailure>
         ensures { (pending : Script) → Goes (asks_status number pending)
             (λ done. if done then Prints (line (codes "SUCCESS" ∷ [])) else pending) result
             (point S.remaining S.taken S.has_ended self.old.unread stream.old)
@@ -131,9 +131,9 @@ impl Conversation {
         match tracking_status(words.get(0)) {
             Some(TrackingStatus::Success) => Ok(true),
             Some(TrackingStatus::Pending) => Ok(false),
-            Some(TrackingStatus::Failed) => Err(Failure::Unconfirmed(TrackingStatus::Failed)),
-            Some(TrackingStatus::Unknown) => Err(Failure::Unconfirmed(TrackingStatus::Unknown)),
-            None => Err(Failure::BadAnswer),
+            Some(TrackingStatus::Failed) => Err(ToolFailure::Unconfirmed(TrackingStatus::Failed)),
+            Some(TrackingStatus::Unknown) => Err(ToolFailure::Unconfirmed(TrackingStatus::Unknown)),
+            None => Err(ToolFailure::BadAnswer),
         }
     }
 }

@@ -4,7 +4,7 @@ ghost use Rattle.nut_client.specs.CommandLine.{at_server};
 ghost use Rattle.nut_client.specs.inside.Reading.{IsTarget};
 ghost use Rattle.nut_conf.specs.Target.{target};
 
-use crate::failure::Failure;
+use crate::failure::ToolFailure;
 use arrayvec::ArrayVec;
 use nut_conf::{Host, Port, Target};
 
@@ -29,33 +29,27 @@ impl Destination {
 }
 
 /// Reads `ups[@host[:port]]`.
-pub(crate) fn read_target(name: &str) -> Result<Target, Failure>
-    ensures { IsTarget (target name.now) result }
-{
-    read_bytes(name.as_bytes())
-}
-
-fn read_bytes(name: &[u8]) -> Result<Target, Failure>
+pub(crate) fn read_target(name: &[u8]) -> Result<Target, ToolFailure>
     ensures { IsTarget (target name.now) result }
 {
     match Target::read(name) {
         Ok(target) => Ok(target),
-        Err(_) => Err(Failure::BadName),
+        Err(_) => Err(ToolFailure::BadName),
     }
 }
 
 /// Reads `host[:port]` as the part after `@` in the name of a UPS, which is called `u`. If no server is given, the host
 /// is `localhost`.
-pub(crate) fn read_server(server: Option<&str>) -> Result<Target, Failure>
+pub(crate) fn read_server(server: Option<&str>) -> Result<Target, ToolFailure>
     ensures { IsTarget (target (at_server (option_map (λ s. s.now) server.entry))) result }
 {
     let Some(server) = server else {
-        return read_bytes(b"u");
+        return read_target(b"u");
     };
     let mut name: ArrayVec<u8, 128> = ArrayVec::new();
     name.try_extend_from_slice(b"u@").unwrap();
     match name.try_extend_from_slice(server.as_bytes()) {
-        Ok(()) => read_bytes(name.as_slice()),
-        Err(_) => Err(Failure::BadName),
+        Ok(()) => read_target(name.as_slice()),
+        Err(_) => Err(ToolFailure::BadName),
     }
 }

@@ -6,19 +6,19 @@ ghost use Rattle.nut_client.specs.Output.{HasText, Puts, written};
 ghost use Rattle.nut_client.specs.inside.Reading.{TellsRefusal};
 ghost use Rattle.nut_client.specs.Script.{script};
 ghost use Rattle.nut_client.specs.Tool.{Ends, Explains, Reports, Tells, error_text, is_asked_for as asked_for, words_failure};
-ghost use Rattle.nut_client.specs.declared.failure.Failure.TheVariants.{ConnectionLost, Memory};
+ghost use Rattle.nut_client.specs.declared.failure.ToolFailure.TheVariants.{ConnectionLost, Memory};
 
-use crate::clap_text::clap_text;
 use crate::command_line::Refusal;
 use crate::conversation::Conversation;
-use crate::failure::Failure;
+use crate::failure::ToolFailure;
 use crate::output::Output;
 use crate::stream::{Moved, Stream};
 use crate::wanted::Wanted;
 use clap::error::ErrorKind;
 use nut_link::Text;
+use nut_program::UNKNOWN_OPTION;
 use nut_proto::Word;
-use std::alloc::Global;
+use std::alloc::{AllocError, Global};
 use std::io;
 use std::time::Clock;
 
@@ -37,7 +37,7 @@ pub fn ask_server<S: Stream>(
     ups: Word<'_>,
     wanted: Wanted<'_>,
     stream: &mut S,
-) -> Result<Text, Failure>
+) -> Result<Text, ToolFailure>
     ensures ends { Ends (script ups.entry wanted.entry) result
         (S.remaining stream.old) (S.remaining stream.new) (S.taken stream.old) (S.taken stream.new) }
     ensures lost { IfErr result (λ failure. failure ≡ ConnectionLost → S.has_ended stream.new) }
@@ -72,7 +72,7 @@ pub(crate) fn put_all<O: Output>(output: &mut O, bytes: &[u8]) -> bool
 }
 
 /// Writes to the error output why there is no output, or only a part of it.
-fn put_failure<E: Output>(err: &mut E, failure: &Failure)
+fn put_failure<E: Output>(err: &mut E, failure: &ToolFailure)
     ensures { HasText (error_text failure.now) (written E.contents E.has_failed err.old err.new) }
 {
     if !put_all(err, b"Error: ") {
@@ -85,7 +85,7 @@ fn put_failure<E: Output>(err: &mut E, failure: &Failure)
 }
 
 /// Writes to the error output why there is no output, or only a part of it. Returns the exit status.
-pub(crate) fn fail<E: Output>(failure: Failure, err: &mut E) -> u8
+pub(crate) fn fail<E: Output>(failure: ToolFailure, err: &mut E) -> u8
     ensures { Reports failure result (written E.contents E.has_failed err.old err.new) }
 {
     put_failure(err, &failure);
@@ -94,7 +94,7 @@ pub(crate) fn fail<E: Output>(failure: Failure, err: &mut E) -> u8
 
 /// Prints the text of a tool, or writes why there is none. Returns the exit status.
 pub(crate) fn tell<O: Output, E: Output>(
-    printed: Result<Text, Failure>,
+    printed: Result<Text, ToolFailure>,
     out: &mut O,
     err: &mut E,
 ) -> u8
@@ -105,7 +105,7 @@ pub(crate) fn tell<O: Output, E: Output>(
             if put_all(out, text.as_bytes()) {
                 return 0;
             }
-            fail(Failure::OutputFailed, err)
+            fail(ToolFailure::OutputFailed, err)
         }
         Err(failure) => fail(failure, err),
     }
@@ -147,6 +147,20 @@ fn tell_fault<E: Output>(text: &Text, err: &mut E) -> u8
     2
 }
 
+/// Returns clap's text, as the tool of this name writes it. If a word is unknown, a last line says where to read about the
+/// options of NUT that are not supported.
+///
+/// # Errors
+///
+/// [`AllocError`] if memory for it cannot be allocated.
+fn clap_text(alloc: Global, name: &str, error: &clap::Error) -> Result<Text, AllocError> {
+    let mut text = nut_program::clap_text(alloc, error)?;
+    if error.kind() == ErrorKind::UnknownArgument {
+        writeln!(text, "{name}: {UNKNOWN_OPTION}")?;
+    }
+    Ok(Text::of(text.into_bytes()))
+}
+
 /// Writes clap's text for the tool of this name: the help and the version to `out`, as a tool's output is written, and a
 /// fault to `err`, with status 2. If memory for the text cannot be allocated, writes that to `err`, with status 1.
 fn tell_usage<O: Output, E: Output>(
@@ -162,7 +176,7 @@ fn tell_usage<O: Output, E: Output>(
         (written O.contents O.has_failed out.old out.new) (written E.contents E.has_failed err.old err.new) }
 {
     let Ok(text) = clap_text(alloc, name, error) else {
-        return tell(Err(Failure::Memory), out, err);
+        return tell(Err(ToolFailure::Memory), out, err);
     };
     if is_asked_for(error) {
         tell(Ok(text), out, err)
@@ -172,12 +186,12 @@ fn tell_usage<O: Output, E: Output>(
 }
 
 /// Returns why the words of the command line are not available.
-fn words_failure(error: &io::Error) -> Failure
+fn words_failure(error: &io::Error) -> ToolFailure
     ensures { result ≡ words_failure (error_kind error.now) }
 {
     match error.kind() {
-        io::ErrorKind::OutOfMemory => Failure::Memory,
-        _ => Failure::BadArguments,
+        io::ErrorKind::OutOfMemory => ToolFailure::Memory,
+        _ => ToolFailure::BadArguments,
     }
 }
 

@@ -1,7 +1,7 @@
 //! Why a tool ends without its output, or with only a part of it.
 ghost use Rattle.std.specs.Prelude.{◌≡◌};
 ghost use Rattle.nut_client.specs.Tool.{failure_of, reason, status_of};
-ghost use Rattle.nut_client.specs.declared.failure.Failure.TheVariants.{Memory};
+ghost use Rattle.nut_client.specs.declared.failure.ToolFailure.TheVariants.{Memory};
 
 use nut_link::{LinkFault, Text};
 use nut_proto::TrackingStatus;
@@ -9,7 +9,7 @@ use std::alloc::AllocError;
 
 /// Why a tool ends without its output, or with only a part of it.
 #[derive(Drop)]
-pub enum Failure {
+pub enum ToolFailure {
     /// The command line can be read, but is no combination that the tool knows.
     BadArguments,
     /// The name of the UPS, its host or its port isn't valid.
@@ -34,15 +34,15 @@ pub enum Failure {
     OutputFailed,
 }
 
-impl From<AllocError> for Failure {
+impl From<AllocError> for ToolFailure {
     ghost from_gives = { λ _ failure. failure ≡ Memory };
 
     fn from(_: AllocError) -> Self {
-        Failure::Memory
+        ToolFailure::Memory
     }
 }
 
-impl From<LinkFault> for Failure {
+impl From<LinkFault> for ToolFailure {
     ghost from_gives = { λ fault failure. failure ≡ failure_of fault };
 
     fn from(fault: LinkFault) -> Self {
@@ -50,30 +50,30 @@ impl From<LinkFault> for Failure {
             LinkFault::NotMine
             | LinkFault::BadLine
             | LinkFault::OutOfOrder
-            | LinkFault::TooMuchTaken => Failure::BadAnswer,
-            LinkFault::Memory => Failure::Memory,
-            LinkFault::BadQuery => Failure::BadQuery,
+            | LinkFault::TooMuchTaken => ToolFailure::BadAnswer,
+            LinkFault::Memory => ToolFailure::Memory,
+            LinkFault::BadQuery => ToolFailure::BadQuery,
         }
     }
 }
 
-impl Failure {
+impl ToolFailure {
     /// Returns what is written of it to standard error: a tool writes it after `Error: `.
     pub fn reason(&self) -> &[u8]
         ensures { result.now ≡ reason self.now }
     {
         match self {
-            Failure::BadArguments => b"bad arguments",
-            Failure::BadName => b"bad UPS name",
-            Failure::NoConnection => b"connection failed",
-            Failure::ConnectionLost => b"connection lost",
-            Failure::Refused(name) => name.as_bytes(),
-            Failure::BadAnswer => b"bad answer",
-            Failure::Untracked => b"not tracked",
-            Failure::Unconfirmed(status) => status.word(),
-            Failure::BadQuery => b"bad query",
-            Failure::Memory => b"out of memory",
-            Failure::OutputFailed => b"output failed",
+            ToolFailure::BadArguments => b"bad arguments",
+            ToolFailure::BadName => b"bad UPS name",
+            ToolFailure::NoConnection => b"connection failed",
+            ToolFailure::ConnectionLost => b"connection lost",
+            ToolFailure::Refused(name) => name.as_bytes(),
+            ToolFailure::BadAnswer => b"bad answer",
+            ToolFailure::Untracked => b"not tracked",
+            ToolFailure::Unconfirmed(status) => status.word(),
+            ToolFailure::BadQuery => b"bad query",
+            ToolFailure::Memory => b"out of memory",
+            ToolFailure::OutputFailed => b"output failed",
         }
     }
 
@@ -82,17 +82,17 @@ impl Failure {
         ensures { result ≡ status_of self.now }
     {
         match self {
-            Failure::BadArguments => 2,
-            Failure::BadName
-            | Failure::NoConnection
-            | Failure::ConnectionLost
-            | Failure::Refused(_)
-            | Failure::BadAnswer
-            | Failure::Untracked
-            | Failure::Unconfirmed(_)
-            | Failure::BadQuery
-            | Failure::Memory
-            | Failure::OutputFailed => 1,
+            ToolFailure::BadArguments => 2,
+            ToolFailure::BadName
+            | ToolFailure::NoConnection
+            | ToolFailure::ConnectionLost
+            | ToolFailure::Refused(_)
+            | ToolFailure::BadAnswer
+            | ToolFailure::Untracked
+            | ToolFailure::Unconfirmed(_)
+            | ToolFailure::BadQuery
+            | ToolFailure::Memory
+            | ToolFailure::OutputFailed => 1,
         }
     }
 }

@@ -1,14 +1,14 @@
 //! Forcing the shutdown of a UPS by hand.
 ghost use Rattle.std.specs.Prelude.{◌≡◌, [], IfErr, IfOk};
 ghost use Rattle.std.specs.Io.KnownBytes.{append_known};
-ghost use Rattle.nut_client.specs.Forcing.{forcing_queries, in_turn, login_queries, query_lines, without_text};
+ghost use Rattle.nut_client.specs.Forcing.{forcing_queries, in_turn, login_queries, query_lines, user_queries, without_text};
 ghost use Rattle.nut_client.specs.Script.{Prints};
 ghost use Rattle.nut_client.specs.Tool.{Ends};
 ghost use Rattle.nut_client.specs.inside.Between.{Goes, point};
-ghost use Rattle.nut_client.specs.declared.failure.Failure.TheVariants.{ConnectionLost};
+ghost use Rattle.nut_client.specs.declared.failure.ToolFailure.TheVariants.{ConnectionLost};
 
 use crate::conversation::Conversation;
-use crate::failure::Failure;
+use crate::failure::ToolFailure;
 use crate::stream::Stream;
 use nut_proto::{Request, Word};
 use std::alloc::Global;
@@ -28,16 +28,14 @@ pub fn force_shutdown<S: Stream>(
     user: Word<'_>,
     password: Word<'_>,
     stream: &mut S,
-) -> Result<(), Failure>
+) -> Result<(), ToolFailure>
     ensures ends { Ends (in_turn (forcing_queries ups.entry user.entry password.entry)) (without_text result)
         (S.remaining stream.old) (S.remaining stream.new) (S.taken stream.old) (S.taken stream.new) }
     ensures asked { IfOk result (λ _. S.taken stream.new
         ≡ append_known (S.taken stream.old) (query_lines (forcing_queries ups.entry user.entry password.entry))) }
     ensures lost { IfErr result (λ failure. failure ≡ ConnectionLost → S.has_ended stream.new) }
 {
-    let mut conversation = Conversation::new(alloc);
-    let queries = forcing_queries(ups, user, password);
-    ask_in_turn(&mut conversation, stream, &queries)
+    ask_as_user(alloc, user, password, Request::Fsd { ups }, stream)
 }
 
 /// Logs in to the UPS of this name, as this user: asks USERNAME, PASSWORD and LOGIN, each once the query before it was
@@ -52,38 +50,37 @@ pub fn log_in<S: Stream>(
     user: Word<'_>,
     password: Word<'_>,
     stream: &mut S,
-) -> Result<(), Failure>
+) -> Result<(), ToolFailure>
     ensures ends { Ends (in_turn (login_queries ups.entry user.entry password.entry)) (without_text result)
         (S.remaining stream.old) (S.remaining stream.new) (S.taken stream.old) (S.taken stream.new) }
     ensures asked { IfOk result (λ _. S.taken stream.new
         ≡ append_known (S.taken stream.old) (query_lines (login_queries ups.entry user.entry password.entry))) }
     ensures lost { IfErr result (λ failure. failure ≡ ConnectionLost → S.has_ended stream.new) }
 {
+    ask_as_user(alloc, user, password, Request::Login { ups }, stream)
+}
+
+/// Asks USERNAME and PASSWORD for this user, and then this query, each once the query before it was answered `OK`.
+fn ask_as_user<S: Stream>(
+    alloc: Global,
+    user: Word<'_>,
+    password: Word<'_>,
+    last: Request<'_>,
+    stream: &mut S,
+) -> Result<(), ToolFailure>
+    ensures ends { Ends (in_turn (user_queries user.entry password.entry last.entry)) (without_text result)
+        (S.remaining stream.old) (S.remaining stream.new) (S.taken stream.old) (S.taken stream.new) }
+    ensures asked { IfOk result (λ _. S.taken stream.new
+        ≡ append_known (S.taken stream.old) (query_lines (user_queries user.entry password.entry last.entry))) }
+    ensures lost { IfErr result (λ failure. failure ≡ ConnectionLost → S.has_ended stream.new) }
+{
     let mut conversation = Conversation::new(alloc);
-    let logins = login_queries(ups, user, password);
-    ask_in_turn(&mut conversation, stream, &logins)
-}
-
-/// Returns what is asked to log in to the UPS of this name.
-fn login_queries<'t>(ups: Word<'t>, user: Word<'t>, password: Word<'t>) -> [Request<'t>; 3]
-    ensures { result ≡ login_queries ups.entry user.entry password.entry }
-{
-    [
+    let queries = [
         Request::Username { name: user },
         Request::Password { password },
-        Request::Login { ups },
-    ]
-}
-
-/// Returns what is asked to force the shutdown of the UPS of this name.
-fn forcing_queries<'t>(ups: Word<'t>, user: Word<'t>, password: Word<'t>) -> [Request<'t>; 3]
-    ensures { result ≡ forcing_queries ups.entry user.entry password.entry }
-{
-    [
-        Request::Username { name: user },
-        Request::Password { password },
-        Request::Fsd { ups },
-    ]
+        last,
+    ];
+    ask_in_turn(&mut conversation, stream, &queries)
 }
 
 /// Asks these queries in turn, each once the one before it was answered `OK`.
@@ -91,7 +88,7 @@ fn ask_in_turn<S: Stream>(
     conversation: &mut Conversation,
     stream: &mut S,
     queries: &[Request<'_>],
-) -> Result<(), Failure>
+) -> Result<(), ToolFailure>
     ensures goes { Goes (in_turn queries.now) (λ _. Prints []) result
         (point S.remaining S.taken S.has_ended conversation.old.unread stream.old)
         (point S.remaining S.taken S.has_ended conversation.new.unread stream.new) }

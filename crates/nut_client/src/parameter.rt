@@ -1,7 +1,7 @@
 //! What the command lines of the tools may hold.
 ghost use Rattle.std.specs.Prelude.{◌≡◌, [], IfOk, false, fold};
 ghost use Rattle.clap.specs.Words.{app_of, rule_of};
-ghost use Rattle.nut_client.specs.CommandLine.{argument as argument_rule, command as command_rule, flag as flag_rule, valued as valued_rule};
+ghost use Rattle.nut_client.specs.CommandLine.{command as command_rule};
 ghost use Rattle.nut_client.specs.inside.Parameters.{rule_at, with_parameter};
 
 use clap::{Arg, ArgAction, Command};
@@ -69,14 +69,22 @@ impl Parameter {
         ensures local { result.global ≡ false }
     {
         match self {
-            Parameter::Flag { id, letter, help } => flag(alloc, id, letter, help),
+            Parameter::Flag { id, letter, help } => Arg::new(alloc, id)
+                .short(letter)
+                .action(ArgAction::SetTrue)
+                .help(help),
             Parameter::Valued {
                 id,
                 letter,
                 kind,
                 help,
-            } => valued(alloc, id, letter, kind, help),
-            Parameter::Argument { id, kind, help } => argument(alloc, id, kind, help),
+            } => Arg::new(alloc, id)
+                .short(letter)
+                .value_name(kind)
+                .help(help),
+            Parameter::Argument { id, kind, help } => {
+                Arg::new(alloc, id).value_name(kind).help(help)
+            }
         }
     }
 }
@@ -107,34 +115,4 @@ fn begun<'a>(alloc: Global, name: &'a str, about: &'a str, usage: &'a str) -> Co
         .version(VERSION)
         .about(about)
         .override_usage(usage)
-}
-
-/// Makes a flag.
-fn flag<'a>(alloc: Global, id: &'a str, letter: char, help: &'a str) -> Arg<'a>
-    ensures rule { rule_of result ≡ flag_rule id.entry.now letter }
-    ensures local { result.global ≡ false }
-{
-    Arg::new(alloc, id)
-        .short(letter)
-        .action(ArgAction::SetTrue)
-        .help(help)
-}
-
-/// Makes an option with a value of this kind.
-fn valued<'a>(alloc: Global, id: &'a str, letter: char, kind: &'a str, help: &'a str) -> Arg<'a>
-    ensures rule { rule_of result ≡ valued_rule id.entry.now letter }
-    ensures local { result.global ≡ false }
-{
-    Arg::new(alloc, id)
-        .short(letter)
-        .value_name(kind)
-        .help(help)
-}
-
-/// Makes an argument of this kind.
-fn argument<'a>(alloc: Global, id: &'a str, kind: &'a str, help: &'a str) -> Arg<'a>
-    ensures rule { rule_of result ≡ argument_rule id.entry.now }
-    ensures local { result.global ≡ false }
-{
-    Arg::new(alloc, id).value_name(kind).help(help)
 }

@@ -8,7 +8,7 @@ use std::alloc::AllocError;
 
 /// How a row is printed.
 #[derive(Clone, Copy)]
-pub enum Form {
+pub enum RowForm {
     /// Its first two words with `: ` between them.
     Pairs,
     /// Its first word.
@@ -21,7 +21,7 @@ pub enum Form {
 
 /// The values that a variable may have.
 #[derive(Clone, Copy)]
-pub enum Values {
+pub enum AllowedValues {
     /// The values that the server lists.
     Enum,
     /// The ranges that the server lists.
@@ -43,20 +43,20 @@ pub(crate) fn put_line(out: &mut Vec<u8>, parts: &[&[u8]]) -> Result<(), AllocEr
 
 /// Appends the line that shows a row.
 #[tactic(auto, using(std::proofs::lemmas::Grind::common_steps))]
-fn put_row(out: &mut Vec<u8>, form: Form, row: &Fields) -> Result<(), AllocError>
+fn put_row(out: &mut Vec<u8>, form: RowForm, row: &Fields) -> Result<(), AllocError>
     ensures { OnOk result (out.new.items ≡ out.old.items ++ row_line form row.now) }
 {
     match form {
-        Form::Pairs => put_line(out, &[row.get(0), b": ", row.get(1)]),
-        Form::Firsts => put_line(out, &[row.get(0)]),
-        Form::Options => put_line(out, &[b"Option: ", row.get(0)]),
-        Form::Ranges => put_line(out, &[b"Range: ", row.get(0), b"..", row.get(1)]),
+        RowForm::Pairs => put_line(out, &[row.get(0), b": ", row.get(1)]),
+        RowForm::Firsts => put_line(out, &[row.get(0)]),
+        RowForm::Options => put_line(out, &[b"Option: ", row.get(0)]),
+        RowForm::Ranges => put_line(out, &[b"Range: ", row.get(0), b"..", row.get(1)]),
     }
 }
 
 /// Appends the lines that show all rows.
 #[tactic(auto, using(std::proofs::lemmas::Grind::common_steps))]
-pub(crate) fn put_rows(out: &mut Vec<u8>, form: Form, rows: &[Fields]) -> Result<(), AllocError>
+pub(crate) fn put_rows(out: &mut Vec<u8>, form: RowForm, rows: &[Fields]) -> Result<(), AllocError>
     ensures { OnOk result (out.new.items ≡ out.old.items ++ row_lines form rows.now) }
 {
     for row in rows {
@@ -103,14 +103,14 @@ fn has_word(words: &Fields, wanted: &[u8]) -> bool
 }
 
 /// Returns the values that a variable of this type may have.
-pub(crate) fn values_of(kind: &Fields) -> Values
+pub(crate) fn values_of(kind: &Fields) -> AllowedValues
     ensures { result ≡ values_of kind.now }
 {
     if has_word(kind, b"ENUM") {
-        Values::Enum
+        AllowedValues::Enum
     } else if has_word(kind, b"RANGE") {
-        Values::Range
+        AllowedValues::Range
     } else {
-        Values::Free
+        AllowedValues::Free
     }
 }

@@ -2,7 +2,7 @@
 use crate::command_line::{Options, Refusal};
 use crate::dialing::dial_host;
 use crate::engine::{fail, put_all, refuse_words, tell_refusal};
-use crate::failure::Failure;
+use crate::failure::ToolFailure;
 use crate::output::{Output, WriterOutput};
 use crate::password::with_password;
 use crate::tool::{Tool, run_options};
@@ -45,7 +45,8 @@ pub fn run_tool<R: Clock + Env + Files + Input + Net + Print + AllocGlobal, E: P
     ExitCode::from(status)
 }
 
-/// Runs a tool with the words of the command line. The standard streams that are closed are held meanwhile.
+/// Runs a tool with the words of the command line. The standard streams that are closed are held meanwhile. Returns the exit
+/// status.
 ///
 /// # Errors
 ///
@@ -56,18 +57,10 @@ where
 {
     let _held = hold_closed_streams(rt, rt.alloc())?;
     let words: Vec<String> = env::args(rt)?.collect(rt.alloc())?;
-    Ok(run_words(rt, tool, words.as_slice(), err))
-}
-
-/// Runs a tool with these words, the program's name first. Returns the exit status.
-fn run_words<R, E: Output>(rt: &R, tool: Tool, words: &[String], err: &mut E) -> u8
-where
-    R: Clock + Input + Net + Print + AllocGlobal,
-{
-    match tool.read_options(rt.alloc(), words) {
+    Ok(match tool.read_options(rt.alloc(), words.as_slice()) {
         Ok(options) => run_with_password(rt, tool, options, err),
-        Err(refusal) => refuse(rt, tool, words, refusal, err),
-    }
+        Err(refusal) => refuse(rt, tool, words.as_slice(), refusal, err),
+    })
 }
 
 /// Reads the password if the options ask for that, and runs a tool with them. Returns the exit status.
@@ -79,7 +72,7 @@ where
     let Options { target, wanted } = options;
     match with_password(wanted, rt, &mut line) {
         Ok(wanted) => run_over_tcp(rt, tool, Options { target, wanted }, err),
-        Err(error) if error.kind() == ErrorKind::OutOfMemory => fail(Failure::Memory, err),
+        Err(error) if error.kind() == ErrorKind::OutOfMemory => fail(ToolFailure::Memory, err),
         Err(_) => {
             put_line(tool, "no password on standard input", err);
             1
@@ -100,7 +93,7 @@ where
             run_options(rt, rt.alloc(), options, &mut stream, &mut out, err)
         }
         Err(error) => {
-            let status = fail(Failure::NoConnection, err);
+            let status = fail(ToolFailure::NoConnection, err);
             let name = tool.name();
             let host = str::from_utf8(host.as_bytes()).unwrap_or("");
             if let Ok(line) = format!(in rt.alloc(); "{name}: {host}:{}: {error}\n", port.number) {

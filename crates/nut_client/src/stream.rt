@@ -54,7 +54,7 @@ pub trait Stream {
 /// `u64::MAX` calls, which no run makes, and then counts as lost.
 #[derive(Drop)]
 pub struct ByteStream<T> {
-    inner: T,
+    pub(crate) inner: T,
     calls_left: u64,
 }
 
@@ -67,13 +67,6 @@ impl<T> ByteStream<T> {
             inner,
             calls_left: u64::MAX,
         }
-    }
-
-    /// Returns what the connection is over.
-    pub(crate) fn inner(&self) -> &T
-        ensures { result.now ≡ self.now.inner }
-    {
-        &self.inner
     }
 
     /// Counts a call. Returns whether it may be made.

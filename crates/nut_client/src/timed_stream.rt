@@ -40,7 +40,7 @@ impl<'r, R: Net + Clock> TimedStream<'r, R> {
         ensures { self.new.bytes ≡ self.old.bytes }
     {
         match self.time_left() {
-            Ok(left) => limit(self.bytes.inner(), left).is_ok(),
+            Ok(left) => limit(&self.bytes.inner, left).is_ok(),
             Err(_) => false,
         }
     }

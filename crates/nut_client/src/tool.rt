@@ -5,12 +5,12 @@ ghost use Rattle.nut_client.specs.CommandLine.{command_of, dialed, line_of, targ
 ghost use Rattle.nut_client.specs.Output.{written};
 ghost use Rattle.nut_client.specs.inside.Reading.{IsRead, options_view};
 ghost use Rattle.nut_client.specs.Tool.{EndsOver, RunsAs};
-ghost use Rattle.nut_client.specs.declared.failure.Failure.TheVariants.{NoConnection};
+ghost use Rattle.nut_client.specs.declared.failure.ToolFailure.TheVariants.{NoConnection};
 
 use crate::command_line::{Options, Refusal, options_of, parse, value};
 use crate::destination::Destination;
 use crate::engine::{ask_server, tell, tell_refusal};
-use crate::failure::Failure;
+use crate::failure::ToolFailure;
 use crate::output::Output;
 use crate::parameter::tool_command;
 use crate::stream::Stream;
@@ -117,7 +117,7 @@ impl Tool {
     {
         match self.read_options(alloc, words) {
             Ok(Options { target, .. }) => Ok(Some(Destination::of(target))),
-            Err(Refusal::Failed(Failure::Memory)) => Err(AllocError),
+            Err(Refusal::Failed(ToolFailure::Memory)) => Err(AllocError),
             Err(Refusal::Failed(_failure)) => Ok(None),
             Err(Refusal::Usage(_error)) => Ok(None),
         }
@@ -155,7 +155,7 @@ impl Tool {
             result (written O.contents O.has_failed out.old out.new) (written E.contents E.has_failed err.old err.new) }
     {
         match self.read_options(alloc, words) {
-            Ok(_) => tell(Err(Failure::NoConnection), out, err),
+            Ok(_) => tell(Err(ToolFailure::NoConnection), out, err),
             Err(refusal) => tell_refusal(alloc, self.name(), refusal, out, err),
         }
     }

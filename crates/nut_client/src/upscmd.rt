@@ -12,7 +12,7 @@ use crate::output::Output;
 use crate::parameter::{NAME, PASSWORD, Parameter, USER, WAIT};
 use crate::stream::Stream;
 use crate::tool::Tool;
-use crate::wanted::{Deed, Wanted};
+use crate::wanted::{UpsDeed, Wanted};
 use clap::ArgMatches;
 use nut_proto::Word;
 use std::alloc::{AllocError, Global};
@@ -82,7 +82,7 @@ fn wanted_by<'a>(
         (true, false, None, None, None, None) => Some(Wanted::Commands),
         (false, wait, Some(command), parameter, Some(user), Some(password)) => {
             let parameter = parameter.map(|text| Word::new(text.as_bytes()));
-            let deed = Deed::Command(Word::new(command.as_bytes()), parameter);
+            let deed = UpsDeed::Command(Word::new(command.as_bytes()), parameter);
             Some(deed_by(user, password, deed, wait))
         }
         _ => None,

@@ -12,7 +12,7 @@ use crate::output::Output;
 use crate::parameter::{NAME, PASSWORD, Parameter, USER, WAIT};
 use crate::stream::Stream;
 use crate::tool::Tool;
-use crate::wanted::{Deed, Wanted};
+use crate::wanted::{UpsDeed, Wanted};
 use clap::ArgMatches;
 use nut_proto::Word;
 use std::alloc::{AllocError, Global};
@@ -74,7 +74,7 @@ fn wanted_by<'a>(
         (None, false, None, None) => Some(Wanted::Settings),
         (Some(setting), wait, Some(user), Some(password)) => {
             let (variable, value) = parted_at_equals(setting.as_bytes())?;
-            let deed = Deed::Set(Word::new(variable), Word::new(value));
+            let deed = UpsDeed::Set(Word::new(variable), Word::new(value));
             Some(deed_by(user, password, deed, wait))
         }
         _ => None,

@@ -23,7 +23,7 @@ pub enum Wanted<'a> {
     /// All commands of the UPS with their descriptions: `upscmd -l NAME`.
     Commands,
     /// Something that the UPS does for the user of this name and password: `upsrw -s`, `upscmd`.
-    Does(Word<'a>, Word<'a>, Deed<'a>, Until),
+    Does(Word<'a>, Word<'a>, UpsDeed<'a>, Until),
 }
 
 /// How long a tool stays if it has a UPS do something.
@@ -38,7 +38,7 @@ pub enum Until {
 
 /// Something that a UPS is told to do.
 #[derive(Drop)]
-pub enum Deed<'a> {
+pub enum UpsDeed<'a> {
     /// Set this variable to this value.
     Set(Word<'a>, Word<'a>),
     /// Carry out this instant command, with this parameter if there is one.

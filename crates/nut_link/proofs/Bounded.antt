@@ -16,8 +16,8 @@ use Rattle.nut_proto.specs.Requests.{request_parts}
 use Rattle.nut_proto.specs.Lines.{message}
 use Rattle.nut_link.specs.Exchange.{Exchange, Stage}
 use Rattle.nut_link.specs.Exchange as stages
-use Rattle.nut_link.specs.declared.expected.Kind.{Kind}
-use Rattle.nut_link.specs.declared.expected.Kind.TheVariants as kinds
+use Rattle.nut_link.specs.declared.expected.AnswerKind.{AnswerKind}
+use Rattle.nut_link.specs.declared.expected.AnswerKind.TheVariants as kinds
 use Rattle.nut_link.specs.declared.fault.LinkFault.{LinkFault}
 use Rattle.nut_link.specs.declared.fault.LinkFault.TheVariants.{OutOfOrder, BadQuery}
 use Rattle.nut_link.specs.Asking.{Asked, is_writable, query_of}
@@ -45,7 +45,7 @@ few_if : (b : Bool) (p q : Result Progress LinkFault) → (b ≡ true → HasFew
 few_if true p q x y = x refl
 few_if false p q x y = y
 
-few_first : (kind : Kind) (heading : List (List ℕ)) (answer : Answer) → HasFew (first kind heading answer)
+few_first : (kind : AnswerKind) (heading : List (List ℕ)) (answer : Answer) → HasFew (first kind heading answer)
 few_first kind heading (answers.Err name) = none
 few_first kinds.Success heading (answers.Ok words) = none
 few_first kinds.NumberedSuccess heading (answers.Ok words) = few_if (is_numbered words) _ _ (λ is. none) none
@@ -54,7 +54,7 @@ few_first kinds.AnyLine heading (answers.Row words) = none
 few_first (kinds.Listing count) heading (answers.Begin words) = few_if (is_heading heading words) _ _ (λ is. none) tt
 few_first kind heading answer = tt
 
-few_next : (kind : Kind) (heading : List (List ℕ)) (rows : List (List (List ℕ))) (answer : Answer) → length rows ≤ ROWS_MAX → HasFew (next kind heading rows answer)
+few_next : (kind : AnswerKind) (heading : List (List ℕ)) (rows : List (List (List ℕ))) (answer : Answer) → length rows ≤ ROWS_MAX → HasFew (next kind heading rows answer)
 few_next (kinds.Listing count) heading rows (answers.Row words) few =
     few_if (is_row heading count words) _ _ (λ is. few_if (nat_lt (length rows) ROWS_MAX) _ _
     (λ less. omega (arith, ltb-true (length rows) ROWS_MAX less, length-append rows (drop (length heading) words ∷ []))) tt) tt

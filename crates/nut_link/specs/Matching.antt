@@ -15,8 +15,8 @@ use Rattle.nut_proto.specs.Positions.{word_at}
 use Rattle.nut_proto.specs.Requests.{query_parts, request_parts}
 use Rattle.nut_proto.specs.Tracking.{tracking_number}
 use Rattle.nut_link.specs.declared.expected.Expected.{Expected}
-use Rattle.nut_link.specs.declared.expected.Kind.{Kind}
-use Rattle.nut_link.specs.declared.expected.Kind.TheVariants as kinds
+use Rattle.nut_link.specs.declared.expected.AnswerKind.{AnswerKind}
+use Rattle.nut_link.specs.declared.expected.AnswerKind.TheVariants as kinds
 use Rattle.nut_link.specs.declared.expected.More.{More}
 use Rattle.nut_link.specs.declared.expected.More.TheVariants as mores
 use Rattle.nut_link.specs.declared.fault.LinkFault.{LinkFault}
@@ -51,7 +51,7 @@ abbrev pub listing : ListQuery → Expected
 listing query = record { kind = kinds.Listing (columns query); heading = message_words (query_parts query) }
 
 -- an answer that repeats no words
-abbrev pub unheaded : Kind → Expected
+abbrev pub unheaded : AnswerKind → Expected
 unheaded kind = record { kind = kind; heading = [] }
 
 -- What a request expects. The commands that are answered `OK`: that, for SET VAR and INSTCMD perhaps with the number under
@@ -107,7 +107,7 @@ abbrev pub is_line : List (List ℕ) → More → List (List ℕ) → Bool
 is_line heading more words = begins heading words && has_more more (drop (length heading) words)
 
 -- What the first line does to a query. A refusal answers any query.
-abbrev pub first : Kind → List (List ℕ) → Answer → Result Progress LinkFault
+abbrev pub first : AnswerKind → List (List ℕ) → Answer → Result Progress LinkFault
 first kind heading (answers.Err name) = Ok (Complete (outcomes.Refused name))
 first kinds.Success heading (answers.Ok words) = Ok (Complete outcomes.Done)
 first kinds.NumberedSuccess heading (answers.Ok words) =
@@ -119,7 +119,7 @@ first (kinds.Listing count) heading (answers.Begin words) = if is_heading headin
 first kind heading answer = Err NotMine
 
 -- What a line behind the beginning of a list makes of it, which has these rows so far: one more, of ROWS_MAX, or its end.
-abbrev pub next : Kind → List (List ℕ) → List (List (List ℕ)) → Answer → Result Progress LinkFault
+abbrev pub next : AnswerKind → List (List ℕ) → List (List (List ℕ)) → Answer → Result Progress LinkFault
 next (kinds.Listing count) heading rows (answers.Row words) =
     if is_row heading count words
     then (if nat_lt (length rows) ROWS_MAX then Ok (Listing (rows ++ drop (length heading) words ∷ [])) else Err BadLine)

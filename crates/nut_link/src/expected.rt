@@ -12,6 +12,7 @@ use crate::copied::Fields;
 use crate::fault::LinkFault;
 use crate::heading::Heading;
 use crate::outcome::Outcome;
+use AnswerKind::{Line, Listing};
 use nut_proto::{ListQuery, Request, Rest, decimal, tracking_number};
 use nut_words::is_natural;
 use std::alloc::Global;
@@ -29,7 +30,7 @@ pub enum More {
 
 /// The kind of answer that a query expects, unless it is refused.
 #[derive(Clone, Copy)]
-pub enum Kind {
+pub enum AnswerKind {
     /// `OK`, whatever follows.
     Success,
     /// `OK`, whatever follows. If `TRACKING` and a number follow, the number is what the server said.
@@ -48,7 +49,7 @@ pub enum Kind {
 /// The answer that a query expects: its kind, and the words that it repeats.
 #[derive(Drop)]
 pub struct Expected {
-    pub kind: Kind,
+    pub kind: AnswerKind,
     pub heading: Heading,
 }
 
@@ -86,7 +87,7 @@ impl Expected {
     /// Returns what nothing is expected by yet.
     pub(crate) fn empty() -> Expected {
         Expected {
-            kind: Kind::Refusal,
+            kind: AnswerKind::Refusal,
             heading: Heading::empty(),
         }
     }
@@ -99,31 +100,43 @@ impl Expected {
     {
         match request {
             Request::GetNumLogins { ups } => {
-                self.line(&[b"NUMLOGINS", ups.as_bytes()], More::Number)
+                self.expect(Line(More::Number), &[b"NUMLOGINS", ups.as_bytes()])
             }
-            Request::GetUpsDesc { ups } => self.line(&[b"UPSDESC", ups.as_bytes()], More::One),
+            Request::GetUpsDesc { ups } => self.expect(
+                Line(More::One),
+                &[b"UPSDESC", ups.as_bytes()],
+            ),
             Request::GetVar { ups, variable } => {
-                self.line(&[b"VAR", ups.as_bytes(), variable.as_bytes()], More::One)
+                self.expect(
+                    Line(More::One),
+                    &[b"VAR", ups.as_bytes(), variable.as_bytes()],
+                )
             }
             Request::GetType { ups, variable } => {
-                self.line(
+                self.expect(
+                    Line(More::OneOrMore),
                     &[b"TYPE", ups.as_bytes(), variable.as_bytes()],
-                    More::OneOrMore,
                 )
             }
             Request::GetDesc { ups, variable } => {
-                self.line(&[b"DESC", ups.as_bytes(), variable.as_bytes()], More::One)
+                self.expect(
+                    Line(More::One),
+                    &[b"DESC", ups.as_bytes(), variable.as_bytes()],
+                )
             }
             Request::GetCmdDesc { ups, command } => {
-                self.line(&[b"CMDDESC", ups.as_bytes(), command.as_bytes()], More::One)
+                self.expect(
+                    Line(More::One),
+                    &[b"CMDDESC", ups.as_bytes(), command.as_bytes()],
+                )
             }
-            Request::GetTracking => self.line(&[b"TRACKING"], More::One),
+            Request::GetTracking => self.expect(Line(More::One), &[b"TRACKING"]),
             Request::GetTrackingOf { number } => {
-                self.line(&[b"TRACKING", decimal(*number).as_slice()], More::One)
+                self.expect(Line(More::One), &[b"TRACKING", decimal(*number).as_slice()])
             }
             Request::List(query) => self.list(query),
             Request::SetVar { .. } | Request::InstCmd { .. } => {
-                self.expect(Kind::NumberedSuccess, &[])
+                self.expect(AnswerKind::NumberedSuccess, &[])
             }
             Request::SetTracking { .. }
             | Request::Username { .. }
@@ -131,9 +144,9 @@ impl Expected {
             | Request::Login { .. }
             | Request::Primary { .. }
             | Request::Fsd { .. }
-            | Request::Logout => self.expect(Kind::Success, &[]),
-            Request::Ver | Request::NetVer | Request::Help => self.expect(Kind::AnyLine, &[]),
-            Request::StartTls => self.expect(Kind::Refusal, &[]),
+            | Request::Logout => self.expect(AnswerKind::Success, &[]),
+            Request::Ver | Request::NetVer | Request::Help => self.expect(AnswerKind::AnyLine, &[]),
+            Request::StartTls => self.expect(AnswerKind::Refusal, &[]),
         }
     }
 
@@ -143,41 +156,23 @@ impl Expected {
         ensures long { result ≡ false → IsTrue (list_any is_long (message_words (query_parts query.now))) }
     {
         match query {
-            ListQuery::Ups => self.rows(&[b"UPS"], 2),
-            ListQuery::Var { ups } => self.rows(&[b"VAR", ups.as_bytes()], 2),
-            ListQuery::Rw { ups } => self.rows(&[b"RW", ups.as_bytes()], 2),
-            ListQuery::Cmd { ups } => self.rows(&[b"CMD", ups.as_bytes()], 1),
+            ListQuery::Ups => self.expect(Listing(2), &[b"UPS"]),
+            ListQuery::Var { ups } => self.expect(Listing(2), &[b"VAR", ups.as_bytes()]),
+            ListQuery::Rw { ups } => self.expect(Listing(2), &[b"RW", ups.as_bytes()]),
+            ListQuery::Cmd { ups } => self.expect(Listing(1), &[b"CMD", ups.as_bytes()]),
             ListQuery::Enum { ups, variable } => {
-                self.rows(&[b"ENUM", ups.as_bytes(), variable.as_bytes()], 1)
+                self.expect(Listing(1), &[b"ENUM", ups.as_bytes(), variable.as_bytes()])
             }
             ListQuery::Range { ups, variable } => {
-                self.rows(&[b"RANGE", ups.as_bytes(), variable.as_bytes()], 2)
+                self.expect(Listing(2), &[b"RANGE", ups.as_bytes(), variable.as_bytes()])
             }
-            ListQuery::Client { ups } => self.rows(&[b"CLIENT", ups.as_bytes()], 1),
+            ListQuery::Client { ups } => self.expect(Listing(1), &[b"CLIENT", ups.as_bytes()]),
         }
-    }
-
-    /// Expects a line that begins with these words.
-    fn line(&mut self, words: &[&[u8]], more: More) -> bool
-        requires { length words.now ≤ 3 }
-        ensures set { IsTrue result → self.new ≡ record { kind = Kind.Line more; heading = texts words.now } }
-        ensures long { result ≡ false → IsTrue (list_any is_long (texts words.now)) }
-    {
-        self.expect(Kind::Line(more), words)
-    }
-
-    /// Expects a list of these words, with rows of `count` further ones.
-    fn rows(&mut self, words: &[&[u8]], count: u8) -> bool
-        requires { length words.now ≤ 3 }
-        ensures set { IsTrue result → self.new ≡ record { kind = Kind.Listing count; heading = texts words.now } }
-        ensures long { result ≡ false → IsTrue (list_any is_long (texts words.now)) }
-    {
-        self.expect(Kind::Listing(count), words)
     }
 
     /// Expects this kind of answer, which repeats these words. Returns false only if one of them is longer than a line may
     /// be.
-    fn expect(&mut self, kind: Kind, words: &[&[u8]]) -> bool
+    fn expect(&mut self, kind: AnswerKind, words: &[&[u8]]) -> bool
         requires { length words.now ≤ 3 }
         ensures set { IsTrue result → self.new ≡ record { kind = kind; heading = texts words.now } }
         ensures long { result ≡ false → IsTrue (list_any is_long (texts words.now)) }
@@ -192,20 +187,21 @@ impl Expected {
         ensures { Gives (first self.now.kind self.now.heading (answers.Row words.now)) (answers.Row words.now) result [] }
     {
         match self.kind {
-            Kind::Line(more) => {
+            AnswerKind::Line(more) => {
                 if !is_line(&self.heading, more, words) {
                     return Err(LinkFault::NotMine);
                 }
                 let fields = Fields::copy(alloc, words, self.heading.len())?;
                 Ok(Some(Outcome::Said(fields)))
             }
-            Kind::AnyLine => {
+            AnswerKind::AnyLine => {
                 let fields = Fields::copy(alloc, words, 0)?;
                 Ok(Some(Outcome::Said(fields)))
             }
-            Kind::Success | Kind::NumberedSuccess | Kind::Listing(_) | Kind::Refusal => {
-                Err(LinkFault::NotMine)
-            }
+            AnswerKind::Success
+            | AnswerKind::NumberedSuccess
+            | AnswerKind::Listing(_)
+            | AnswerKind::Refusal => { Err(LinkFault::NotMine) }
         }
     }
 
@@ -218,14 +214,15 @@ impl Expected {
         ensures { Gives (first self.now.kind self.now.heading (answers.Ok words.now)) (answers.Ok words.now) result [] }
     {
         match self.kind {
-            Kind::NumberedSuccess if is_numbered(words) => {
+            AnswerKind::NumberedSuccess if is_numbered(words) => {
                 let number = Fields::copy(alloc, words, 1)?;
                 Ok(Some(Outcome::Said(number)))
             }
-            Kind::Success | Kind::NumberedSuccess => Ok(Some(Outcome::Done)),
-            Kind::Line(_) | Kind::AnyLine | Kind::Listing(_) | Kind::Refusal => {
-                Err(LinkFault::NotMine)
-            }
+            AnswerKind::Success | AnswerKind::NumberedSuccess => Ok(Some(Outcome::Done)),
+            AnswerKind::Line(_)
+            | AnswerKind::AnyLine
+            | AnswerKind::Listing(_)
+            | AnswerKind::Refusal => { Err(LinkFault::NotMine) }
         }
     }
 
@@ -234,13 +231,13 @@ impl Expected {
         ensures { Gives (first self.now.kind self.now.heading (answers.Begin words.now)) (answers.Begin words.now) result [] }
     {
         match self.kind {
-            Kind::Listing(_) if self.heading.is_heading(words) => Ok(None),
-            Kind::Listing(_)
-            | Kind::Success
-            | Kind::NumberedSuccess
-            | Kind::Line(_)
-            | Kind::AnyLine
-            | Kind::Refusal => Err(LinkFault::NotMine),
+            AnswerKind::Listing(_) if self.heading.is_heading(words) => Ok(None),
+            AnswerKind::Listing(_)
+            | AnswerKind::Success
+            | AnswerKind::NumberedSuccess
+            | AnswerKind::Line(_)
+            | AnswerKind::AnyLine
+            | AnswerKind::Refusal => Err(LinkFault::NotMine),
         }
     }
 }

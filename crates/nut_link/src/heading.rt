@@ -11,11 +11,11 @@ use std::marker::Model;
 
 /// A word of at most [`LINE_MAX`] bytes, since no line has more.
 #[derive(Drop)]
-pub struct Name {
+pub struct HeadingWord {
     bytes: ArrayVec<u8, LINE_MAX>,
 }
 
-impl Model for Name {
+impl Model for HeadingWord {
     ghost use Rattle.std.specs.Prelude.{List, ℕ};
 
     ghost Value = { List ℕ };
@@ -23,9 +23,9 @@ impl Model for Name {
     ghost view = { λ n. n.bytes.items };
 }
 
-impl Name {
-    fn empty() -> Name {
-        Name {
+impl HeadingWord {
+    fn empty() -> HeadingWord {
+        HeadingWord {
             bytes: ArrayVec::new(),
         }
     }
@@ -50,7 +50,7 @@ impl Name {
 /// place of its own, which stays for the next query.
 #[derive(Drop)]
 pub struct Heading {
-    words: [Name; 3],
+    words: [HeadingWord; 3],
     count: usize,
 }
 
@@ -68,7 +68,11 @@ impl Heading {
     /// Returns no words.
     pub(crate) fn empty() -> Heading {
         Heading {
-            words: [Name::empty(), Name::empty(), Name::empty()],
+            words: [
+                HeadingWord::empty(),
+                HeadingWord::empty(),
+                HeadingWord::empty(),
+            ],
             count: 0,
         }
     }
@@ -107,7 +111,7 @@ impl Heading {
         true
     }
 
-    fn as_slice(&self) -> &[Name]
+    fn as_slice(&self) -> &[HeadingWord]
         ensures { result.now ≡ self.now }
     {
         &self.words[..self.count]

@@ -17,12 +17,12 @@ mod outcome;
 mod query;
 
 pub use copied::{Fields, Rows, Text};
-pub use exchange::{Exchange, Stage, State};
-pub use expected::{Expected, Kind, More};
+pub use exchange::{Exchange, QueryState};
+pub use expected::{AnswerKind, Expected, More};
 pub use fault::LinkFault;
-pub use heading::{Heading, Name};
+pub use heading::{Heading, HeadingWord};
 pub use laws::{bounds_stay, cuts_do_not_matter, ok_takes_no_memory, replies_match, rests_stay};
 pub use limits::{QUERY_MAX, query_limits};
 pub use link::Link;
 pub use outcome::Outcome;
-pub use query::Query;
+pub use query::AskedQuery;

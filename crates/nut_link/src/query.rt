@@ -8,7 +8,7 @@ ghost use Rattle.nut_link.specs.Matching.{first, next};
 ghost use Rattle.nut_link.specs.declared.fault.LinkFault.TheVariants.{BadLine, Memory};
 
 use crate::copied::{Fields, Rows, Text};
-use crate::expected::{Expected, Kind};
+use crate::expected::{AnswerKind, Expected};
 use crate::fault::LinkFault;
 use crate::limits::QUERY_MAX;
 use crate::outcome::Outcome;
@@ -22,14 +22,14 @@ use std::mem;
 /// A query that was asked: what it expects, its line, and how much of that the server has accepted. Once a list has
 /// begun, also its rows so far.
 #[derive(Drop)]
-pub struct Query {
+pub struct AskedQuery {
     expected: Expected,
     line: ArrayVec<u8, QUERY_MAX>,
     taken: usize,
     rows: Option<Rows>,
 }
 
-impl Model for Query {
+impl Model for AskedQuery {
     ghost use Rattle.std.specs.Prelude.{◌≤◌, drop};
     ghost use Rattle.arrayvec.specs.ArrayVec.{array_vec_len};
     ghost use Rattle.nut_link.specs.Asking.{Asked, HasFewRows};
@@ -53,10 +53,10 @@ fn is_printing_line(line: &[u8]) -> bool
     }
 }
 
-impl Query {
+impl AskedQuery {
     /// Returns a place for queries.
-    pub(crate) fn empty() -> Query {
-        Query {
+    pub(crate) fn empty() -> AskedQuery {
+        AskedQuery {
             expected: Expected::empty(),
             line: ArrayVec::new(),
             taken: 0,
@@ -153,7 +153,7 @@ fn hear_next(
     ensures gives { Gives (next expected.now.kind expected.now.heading rows.old answer.now) answer.now result rows.new }
     ensures few { length rows.old ≤ ROWS_MAX → length rows.new ≤ ROWS_MAX }
 {
-    let Kind::Listing(count) = expected.kind else {
+    let AnswerKind::Listing(count) = expected.kind else {
         return Err(LinkFault::NotMine);
     };
     let heading = &expected.heading;

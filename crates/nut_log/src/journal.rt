@@ -30,15 +30,11 @@ pub fn is_journal<R: Env + Files>(rt: &R, descriptor: i32) -> bool {
     }
 }
 
-/// Returns what the variable names.
+/// Returns the device and the inode that the variable has in decimal digits, with a colon between them.
 fn node_of_environment(env: &impl Env) -> Option<Node> {
     let mut value = [0; VALUE_MAX];
     let length = env.var(VARIABLE, &mut value).ok()?;
-    node_in(str::from_utf8(&value[..length]).ok()?)
-}
-
-/// Returns the device and the inode that a text has in decimal digits, with a colon between them.
-fn node_in(text: &str) -> Option<Node> {
+    let text = str::from_utf8(&value[..length]).ok()?;
     let (device, inode) = text.split_once(':')?;
     Some(Node {
         device: device.parse().ok()?,

@@ -15,7 +15,7 @@ use Rattle.nut_monitor_spec.specs.machine.Machine.{advance, settled, told_heard,
 use Rattle.nut_monitor_spec.specs.Outcome.{IsRefusal, MayRunOut, MayRunOutIn}
 use Rattle.nut_monitor_spec.specs.declared.MonitorFault.TheVariants as refusals
 use Rattle.nut_monitor_spec.specs.declared.Notice.{Notice}
-use Rattle.nut_monitor.specs.declared.answer.Scene.{Scene}
+use Rattle.nut_monitor.specs.declared.answer.AnswerScene.{AnswerScene}
 use Rattle.nut_monitor.specs.inside.Hearing.{HearsPiece}
 use Rattle.nut_monitor.specs.inside.Sound.{is_memory, lacks_memory}
 use Rattle.nut_monitor.specs.Bounds.{AreLinksBounded, IsLinkBounded}
@@ -38,7 +38,7 @@ lacking r (Some fault) is h = ap Some (memory_is fault (sym (ap lacks_memory is)
 not_lacking : (r : Result (Unit {0}) LinkFault) (f : Option LinkFault) → r ≡ answer_by f → f ≡ Some Memory → lacks_memory r ≡ true
 not_lacking r f is memory = ap lacks_memory is ∙ ap (λ f. lacks_memory (answer_by f)) memory
 
-module _ (s : Content) (i : ℕ) (p : List ℕ) (w w' : Watch) (scene : Scene) (r : ℕ × Result (Unit {0}) LinkFault) (news : List Notice)
+module _ (s : Content) (i : ℕ) (p : List ℕ) (w w' : Watch) (scene : AnswerScene) (r : ℕ × Result (Unit {0}) LinkFault) (news : List Notice)
     (lt : i < length s.watches) (is : w ≡ slice_index_or s.watches i w) (linked : is_linked (watch_at i s.watches) ≡ true)
     (short : length p ≤ PIECE_MAX) (free : length s.notices ≤ 0)
     (seen : scene ≡ record { line = i; clock = s.clock; watching = is_none s.begun })
@@ -79,7 +79,7 @@ module _ (s : Content) (i : ℕ) (p : List ℕ) (w w' : Watch) (scene : Scene) (
       (bytes_free, (refl, subst (MayRunOutIn r.0 p) (sym at) runs))
 
 -- the link of a line that hears a piece stays within its bounds
-pub piece_bounded : (s : Content) (i : ℕ) (p : List ℕ) (w w' : Watch) (scene : Scene) (r : ℕ × Result (Unit {0}) LinkFault) (news : List Notice) → i < length s.watches → w ≡ slice_index_or s.watches i w
+pub piece_bounded : (s : Content) (i : ℕ) (p : List ℕ) (w w' : Watch) (scene : AnswerScene) (r : ℕ × Result (Unit {0}) LinkFault) (news : List Notice) → i < length s.watches → w ≡ slice_index_or s.watches i w
     → is_linked (watch_at i s.watches) ≡ true → ((v : LinkValue) → w.link ≡ Some v → HearsPiece s.configuration scene p v w s.notices r w' news) → AreLinksBounded s.watches → IsLinkBounded w'.link
 piece_bounded s i p w w' scene r news lt is linked hears bounded =
     let found = some_of w.link (linked_here (watch_at i s.watches) w true (here i s.watches w lt is) linked) in

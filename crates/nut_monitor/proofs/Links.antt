@@ -15,8 +15,8 @@ use Rattle.nut_link.specs.Matching.{Progress, Listing, Complete, begins, first, 
 use Rattle.nut_link.specs.Exchange.{Exchange, Stage}
 use Rattle.nut_link.specs.Exchange as stages
 use Rattle.nut_link.specs.declared.expected.Expected.{Expected}
-use Rattle.nut_link.specs.declared.expected.Kind.{Kind}
-use Rattle.nut_link.specs.declared.expected.Kind.TheVariants as kinds
+use Rattle.nut_link.specs.declared.expected.AnswerKind.{AnswerKind}
+use Rattle.nut_link.specs.declared.expected.AnswerKind.TheVariants as kinds
 use Rattle.nut_link.specs.declared.expected.More.TheVariants as mores
 use Rattle.nut_link.specs.declared.fault.LinkFault.{LinkFault}
 use Rattle.nut_link.specs.declared.fault.LinkFault.TheVariants.{NotMine, BadLine, OutOfOrder, Memory}
@@ -162,7 +162,7 @@ nm_any : (b : Bool) (p q : Outcome) → Fed (if b then Ok (Complete p) else Ok (
 nm_any true p q = tt
 nm_any false p q = tt
 
-nm_first : (kind : Kind) (heading : List (List ℕ)) (a : Answer) → Fed (first kind heading a)
+nm_first : (kind : AnswerKind) (heading : List (List ℕ)) (a : Answer) → Fed (first kind heading a)
 nm_first kind heading (answers.Err name) = tt
 nm_first kinds.Success heading (answers.Ok words) = tt
 nm_first kinds.NumberedSuccess heading (answers.Ok words) = nm_any (is_numbered words) (outcomes.Said (drop 1 words)) outcomes.Done
@@ -171,7 +171,7 @@ nm_first kinds.AnyLine heading (answers.Row words) = tt
 nm_first (kinds.Listing count) heading (answers.Begin words) = nm_if (is_heading heading words) (Ok (Listing [])) tt
 nm_first kind heading answer = tt
 
-nm_next : (kind : Kind) (heading : List (List ℕ)) (rows : List (List (List ℕ))) (a : Answer) → Fed (next kind heading rows a)
+nm_next : (kind : AnswerKind) (heading : List (List ℕ)) (rows : List (List (List ℕ))) (a : Answer) → Fed (next kind heading rows a)
 nm_next (kinds.Listing count) heading rows (answers.Row words) = nm_row heading count rows words (is_row heading count words) (nat_lt (length rows) ROWS_MAX)
 nm_next (kinds.Listing count) heading rows (answers.End words) = nm_if (is_heading heading words) (Ok (Complete (outcomes.List rows))) tt
 nm_next kind heading rows answer = tt

@@ -22,7 +22,7 @@ pub const ANSWER_NOTICES_MAX: usize = 6;
 
 /// The line and the time at which an answer is heard.
 #[derive(Clone, Copy)]
-pub struct Scene {
+pub struct AnswerScene {
     /// The number of the MONITOR line.
     pub line: usize,
     pub clock: u64,
@@ -72,7 +72,7 @@ fn tells_replace(config: &MonConfig, clock: u64, known: Known, flags: StatusFlag
 /// Queues the notices that a status gives.
 fn tell_status(
     config: &MonConfig,
-    scene: Scene,
+    scene: AnswerScene,
     known: Known,
     flags: StatusFlags,
     notices: &mut Notices,
@@ -114,7 +114,7 @@ fn is_restored(known: Known, flags: StatusFlags) -> bool
 }
 
 /// Returns what is known after a status.
-fn with_status(config: &MonConfig, scene: Scene, known: Known, flags: StatusFlags) -> Known
+fn with_status(config: &MonConfig, scene: AnswerScene, known: Known, flags: StatusFlags) -> Known
     ensures { result ≡ with_flags (configuration_of config.now) scene.clock scene.watching flags known }
 {
     let worn = scene.watching && tells_replace(config, scene.clock, known, flags);
@@ -140,7 +140,7 @@ fn with_status(config: &MonConfig, scene: Scene, known: Known, flags: StatusFlag
 }
 
 /// Queues COMMBAD if communication wasn't bad before, and no shutdown has begun.
-pub fn tell_loss(scene: Scene, known: Known, notices: &mut Notices)
+pub fn tell_loss(scene: AnswerScene, known: Known, notices: &mut Notices)
     requires { length notices.old < NOTICES_MAX }
     ensures few { length notices.new ≤ length notices.old + 1 }
     ensures told { notices.new ≡ notices.old ++ (if scene.watching then loss_notices scene.line known.communication else []) }
@@ -164,7 +164,7 @@ pub fn with_loss(known: Known) -> Known
 /// Takes in the words of a status and queues the notices that they give. Returns what is known after it.
 fn hear_status(
     config: &MonConfig,
-    scene: Scene,
+    scene: AnswerScene,
     known: Known,
     fields: &Fields,
     notices: &mut Notices,
@@ -203,7 +203,7 @@ fn count_said(fields: &Fields, before: Option<u32>) -> Option<u32>
 /// Takes in the outcome of a query for the status and queues the notices that it gives. Returns what is known after it.
 fn hear_status_outcome(
     config: &MonConfig,
-    scene: Scene,
+    scene: AnswerScene,
     known: Known,
     outcome: &Outcome,
     notices: &mut Notices,
@@ -245,7 +245,7 @@ fn count_after(outcome: &Outcome, before: Option<u32>) -> Option<u32>
 /// Takes in the outcome of a query and queues the notices that it gives. Returns what is known after it.
 pub fn hear(
     config: &MonConfig,
-    scene: Scene,
+    scene: AnswerScene,
     known: Known,
     query: Query,
     outcome: &Outcome,

@@ -14,7 +14,7 @@ ghost use Rattle.nut_monitor.specs.inside.Hearing.{HearsPiece, IsFed};
 ghost use Rattle.nut_monitor.specs.inside.Inside.{to_lose, unwatched};
 ghost use Rattle.nut_monitor.specs.inside.Sound.{IsCountAfter, IsSound};
 
-use crate::answer::{ANSWER_NOTICES_MAX, Scene, hear, on_line, tell_loss, with_loss};
+use crate::answer::{ANSWER_NOTICES_MAX, AnswerScene, hear, on_line, tell_loss, with_loss};
 use crate::notices::Notices;
 use crate::query::{next_query, request};
 use crate::time::{is_over, is_past};
@@ -91,7 +91,7 @@ fn cut(link: &mut Option<Link>)
 /// Returns what is known after the answer to the last query, if both are there, and queues the notices that it gives.
 fn hear_answer(
     config: &MonConfig,
-    scene: Scene,
+    scene: AnswerScene,
     known: Known,
     last: Option<LastQuery>,
     outcome: &Option<Outcome>,
@@ -215,7 +215,7 @@ impl MonitorLine {
     }
 
     /// Drops its link, and queues COMMBAD if communication wasn't bad before.
-    pub fn lose(&mut self, scene: Scene, notices: &mut Notices)
+    pub fn lose(&mut self, scene: AnswerScene, notices: &mut Notices)
         requires { length notices.old < NOTICES_MAX }
         ensures line { self.new ≡ lost self.old }
         ensures told { notices.new ≡ notices.old ++ (if scene.watching then loss_told scene.line self.old else []) }
@@ -240,7 +240,7 @@ impl MonitorLine {
     pub fn hear(
         &mut self,
         config: &MonConfig,
-        scene: Scene,
+        scene: AnswerScene,
         piece: &[u8],
         notices: &mut Notices,
     ) -> (usize, Result<(), LinkFault>)

@@ -116,7 +116,10 @@ impl Monitor {
         ensures told { (configuration : Configuration) (events : List Events) → Tells configuration events self.now.content
             → result ≡ is_there i (trace configuration events) }
     {
-        self.state.is_linked(i)
+        match self.state.watch(i) {
+            Some(line) => line.is_linked(),
+            None => false,
+        }
     }
 
     /// Returns the bytes that wait for the server of the MONITOR line with this number: what it hasn't taken of the
@@ -128,14 +131,17 @@ impl Monitor {
         ensures told { (configuration : Configuration) (events : List Events) → Tells configuration events self.now.content
             → result.now ≡ waits configuration i (trace configuration events) }
     {
-        self.state.waiting(i)
+        match self.state.watch(i) {
+            Some(line) => line.waiting(),
+            None => &[],
+        }
     }
 
     /// Returns what is known of the UPS of the MONITOR line with this number; `None` for an unknown number.
     pub fn known(&self, i: usize) -> Option<Known>
         ensures { result ≡ option_map (λ w. w.known) (watch_at i self.now.content.watches) }
     {
-        self.state.known(i)
+        Some(self.state.watch(i)?.known())
     }
 
     /// Returns the last query put on the link of the MONITOR line with this number since it was last made, and when.
@@ -143,7 +149,7 @@ impl Monitor {
     pub fn last_query(&self, i: usize) -> Option<LastQuery>
         ensures { result ≡ last_on (watch_at i self.now.content.watches) }
     {
-        self.state.last_query(i)
+        self.state.watch(i)?.last_query()
     }
 
     /// Returns the last answer on the link of the MONITOR line with this number since it was last made, and the query that
@@ -155,7 +161,7 @@ impl Monitor {
         ensures told { (configuration : Configuration) (events : List Events) → Tells configuration events self.now.content
             → i < length configuration.lines → option_map (λ a. a.now) result ≡ last_answer i (trace configuration events) }
     {
-        self.state.last_answer(i)
+        self.state.watch(i)?.last_answer()
     }
 
     /// Returns how far the shutdown has come.

@@ -11,7 +11,7 @@ ghost use Rattle.nut_monitor.specs.inside.Sound.{lacks_memory};
 ghost use Rattle.nut_monitor.specs.inside.Steps.{Steps, checked_fault, content_in};
 ghost use Rattle.nut_monitor.specs.Monitors.{last_on};
 
-use crate::answer::Scene;
+use crate::answer::AnswerScene;
 use crate::event::Event;
 use crate::line::MonitorLine;
 use crate::notices::Notices;
@@ -126,10 +126,10 @@ impl State {
     }
 
     /// Returns the scene in which an answer on a line is heard.
-    fn scene(&self, line: usize) -> Scene
+    fn scene(&self, line: usize) -> AnswerScene
         ensures { result ≡ record { line = line; clock = self.now.clock; watching = is_none self.now.begun } }
     {
-        Scene {
+        AnswerScene {
             line,
             clock: self.clock,
             watching: self.begun.is_none(),
@@ -186,60 +186,10 @@ impl State {
     }
 
     /// Returns the line with this number, if there is one.
-    fn watch(&self, i: usize) -> Option<&MonitorLine>
+    pub fn watch(&self, i: usize) -> Option<&MonitorLine>
         ensures { option_map (λ w. w.now) result ≡ watch_at i self.now.watches.items }
     {
         self.watches.get(i)
-    }
-
-    /// Whether the link of a line is up.
-    pub fn is_linked(&self, i: usize) -> bool
-        ensures { result ≡ is_linked (watch_at i self.now.watches.items) }
-    {
-        match self.watch(i) {
-            Some(watch) => watch.is_linked(),
-            None => false,
-        }
-    }
-
-    /// Returns the bytes that wait on the link of a line.
-    pub fn waiting(&self, i: usize) -> &[u8]
-        ensures { result.now ≡ waiting_on (watch_at i self.now.watches.items) }
-    {
-        match self.watch(i) {
-            Some(watch) => watch.waiting(),
-            None => &[],
-        }
-    }
-
-    /// Returns what is known of the UPS of a line.
-    pub fn known(&self, i: usize) -> Option<Known>
-        ensures { result ≡ option_map (λ w. w.known) (watch_at i self.now.watches.items) }
-    {
-        match self.watch(i) {
-            Some(watch) => Some(watch.known()),
-            None => None,
-        }
-    }
-
-    /// Returns the last query since the link of a line was made.
-    pub fn last_query(&self, i: usize) -> Option<LastQuery>
-        ensures { result ≡ last_on (watch_at i self.now.watches.items) }
-    {
-        match self.watch(i) {
-            Some(watch) => watch.last_query(),
-            None => None,
-        }
-    }
-
-    /// Returns the last answer since the link of a line was made.
-    pub fn last_answer(&self, i: usize) -> Option<&LastAnswer>
-        ensures { option_map (λ a. a.now) result ≡ answer_on (watch_at i self.now.watches.items) }
-    {
-        match self.watch(i) {
-            Some(watch) => watch.last_answer(),
-            None => None,
-        }
     }
 
     /// Refuses a number that no line has with `NoSuchLink`, and with `WrongLinkState` a line whose link is up though

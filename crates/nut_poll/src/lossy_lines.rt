@@ -7,10 +7,8 @@ use arrayvec::ArrayVec;
 use libc::net::{POLLOUT, poll};
 use libc::types::pollfd;
 use nut_log::{Level, Lines, LogStream, Style};
-use std::alloc::Global;
 use std::io;
 use std::io::{Stderr, Stdout, Write};
-use std::net::Net;
 use std::os::fd::AsRawFd;
 
 /// The most bytes of a line that are written, with the line feed. A longer line loses its end.
@@ -63,19 +61,15 @@ pub type OutputLines = LossyLines<Stdout>;
 pub type ErrorLines = LossyLines<Stderr>;
 
 impl<S: Write + AsRawFd + Copy> LossyLines<S> {
-    /// Returns the lines on a stream. Asking the system takes neither a descriptor nor memory, so this always succeeds.
-    ///
-    /// # Errors
-    ///
-    /// None.
-    pub fn new(_net: &impl Net, _alloc: Global, log: LogStream<S>) -> io::Result<LossyLines<S>> {
+    /// Returns the lines on a stream.
+    pub fn new(log: LogStream<S>) -> LossyLines<S> {
         let style = log.style();
-        Ok(LossyLines {
+        LossyLines {
             stream: log.stream(),
             style,
             line: ArrayVec::new(),
             lost: 0,
-        })
+        }
     }
 }
 

@@ -145,7 +145,8 @@ impl<'r, R: Processes, T: Drop> Questions<'r, R, T> {
 
     /// Takes a question that has ended, if one has.
     pub fn take(&mut self) -> Option<Question<R::Started, T>> {
-        let at = first_ended(&mut self.going)?;
+        let mut going = self.going.iter_mut();
+        let at = going.position(|question| !matches!(question.child.try_wait(), Ok(None)))?;
         if self.going.len() <= at {
             return None;
         }
@@ -179,11 +180,4 @@ impl<P: OpenProcess, T> Question<P, T> {
         let length = output.read(buffer).ok()?;
         buffer.get(1..length)
     }
-}
-
-/// Returns the place of the first question that has ended, if one has.
-fn first_ended<P: OpenProcess + Drop, T: Drop>(going: &mut [Question<P, T>]) -> Option<usize> {
-    going
-        .iter_mut()
-        .position(|question| !matches!(question.child.try_wait(), Ok(None)))
 }

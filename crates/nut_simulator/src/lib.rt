@@ -10,4 +10,4 @@ mod progress;
 mod room;
 mod run;
 
-pub use run::{run_nutsim, run_nutsim_on_terminal};
+pub use run::{run_nutsim, run_nutsim_showing};

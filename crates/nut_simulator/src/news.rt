@@ -24,7 +24,12 @@ pub fn write_news<O: Write>(
             out.write_all(b"\n")
         }
         News::Phase(monitor, phase) => {
-            let phase = phase_word(phase);
+            let phase = match phase {
+                Phase::Watching => "Watching",
+                Phase::Forcing => "Forcing",
+                Phase::Final => "Final",
+                Phase::Halted { .. } => "Halted",
+            };
             writeln!(out, "{number}: monitor {monitor} phase {phase}")
         }
     }
@@ -35,13 +40,4 @@ fn target_of(fleet: &Fleet, monitor: usize, line: Option<usize>) -> Option<&[u8]
     let config = fleet.config(monitor)?;
     let monitored = config.monitors.lines.get(line?)?;
     Some(monitored.written.as_slice())
-}
-
-fn phase_word(phase: Phase) -> &'static str {
-    match phase {
-        Phase::Watching => "Watching",
-        Phase::Forcing => "Forcing",
-        Phase::Final => "Final",
-        Phase::Halted { .. } => "Halted",
-    }
 }

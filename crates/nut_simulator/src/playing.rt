@@ -12,7 +12,7 @@ use std::slice;
 
 /// Why the playing of a schedule stops before its end.
 #[derive(Clone, Copy)]
-enum Halt {
+enum Stop {
     /// The line with this number isn't a step that fits the room.
     BadStep(u64),
     /// Memory could not be allocated.
@@ -25,7 +25,7 @@ enum Halt {
 
 /// A room, and what its news are written to.
 #[derive(Drop)]
-struct Stage<'a, O, E> {
+struct Playing<'a, O, E> {
     fleet: &'a mut Fleet,
     alloc: Global,
     /// The number of lines of the schedule that were begun.
@@ -48,17 +48,10 @@ pub fn play_schedule<'a, R: BufRead, O: Write, E: Write>(
     let mut out = BufWriter::new(alloc, out)?;
     match play_and_flush(alloc, fleet, schedule, &mut out, err, is_terminal) {
         Ok(()) => Ok(()),
-        Err(halt) => Err(failure_of(halt, path)),
-    }
-}
-
-/// Returns why nutsim ends if the playing of the schedule with this path stops.
-fn failure_of<'a>(halt: Halt, path: &'a str) -> Failure<NutsimFault<'a>> {
-    match halt {
-        Halt::BadStep(number) => Failure::Own(NutsimFault::BadStep(path, number)),
-        Halt::Memory => Failure::Memory,
-        Halt::Input => Failure::Own(NutsimFault::CannotRead(path, None)),
-        Halt::Output => Failure::Io,
+        Err(Stop::BadStep(number)) => Err(Failure::Own(NutsimFault::BadStep(path, number))),
+        Err(Stop::Memory) => Err(Failure::Memory),
+        Err(Stop::Input) => Err(Failure::Own(NutsimFault::CannotRead(path, None))),
+        Err(Stop::Output) => Err(Failure::Io),
     }
 }
 
@@ -70,45 +63,33 @@ fn play_and_flush<R: BufRead, O: Write, E: Write>(
     out: &mut O,
     err: &mut E,
     is_terminal: bool,
-) -> Result<(), Halt> {
-    let played = play_on(alloc, fleet, schedule, out, err, is_terminal);
-    let flushed = out.flush();
-    played?;
-    match flushed {
-        Ok(()) => Ok(()),
-        Err(_) => Err(Halt::Output),
-    }
-}
-
-/// Plays the lines of a schedule in a room.
-fn play_on<R: BufRead, O: Write, E: Write>(
-    alloc: Global,
-    fleet: &mut Fleet,
-    schedule: &mut R,
-    out: &mut O,
-    err: &mut E,
-    is_terminal: bool,
-) -> Result<(), Halt> {
-    let mut stage = Stage {
+) -> Result<(), Stop> {
+    let mut playing = Playing {
         fleet,
         alloc,
         number: 0,
         out,
         progress: Progress::new(err, is_terminal),
     };
-    let played = stage.play_lines(schedule);
-    stage.progress.clear();
-    played
+    let played = playing.play_lines(schedule);
+    playing.progress.clear();
+    let is_flushed = playing.out.flush().is_ok();
+    played?;
+    if is_flushed {
+        Ok(())
+    } else {
+        Err(Stop::Output)
+    }
 }
 
-impl<'a, O: Write, E: Write> Stage<'a, O, E> {
+impl<'a, O: Write, E: Write> Playing<'a, O, E> {
     /// Plays all lines of a schedule. Bytes after the last line feed are a line, too.
-    fn play_lines<R: BufRead>(&mut self, schedule: &mut R) -> Result<(), Halt> {
+    fn play_lines<R: BufRead>(&mut self, schedule: &mut R) -> Result<(), Stop> {
         let mut cutter = LineCutter::new();
         let mut is_line_open = false;
         for _ in 0..u64::MAX {
             let Ok(piece) = schedule.fill_buf() else {
-                return Err(Halt::Input);
+                return Err(Stop::Input);
             };
             let Some(last) = piece.last() else {
                 break;
@@ -125,7 +106,7 @@ impl<'a, O: Write, E: Write> Stage<'a, O, E> {
     }
 
     /// Plays the lines that a piece of the schedule completes.
-    fn play_piece(&mut self, cutter: &mut LineCutter, piece: &[u8]) -> Result<(), Halt> {
+    fn play_piece(&mut self, cutter: &mut LineCutter, piece: &[u8]) -> Result<(), Stop> {
         let mut left = piece;
         while !left.is_empty() {
             let (line, used) = cutter.feed(left);
@@ -137,60 +118,49 @@ impl<'a, O: Write, E: Write> Stage<'a, O, E> {
         Ok(())
     }
 
-    /// Plays a line.
-    fn play_line(&mut self, line: Line<'_>) -> Result<(), Halt> {
+    /// Plays the step of a line, and writes its news and, if that is due, how far the schedule has been played.
+    fn play_line(&mut self, line: Line<'_>) -> Result<(), Stop> {
         self.number = self.number.saturating_add(1);
         let step = self.read(line)?;
-        self.play_step(&step)
-    }
-
-    /// Plays a step, and writes its news and, if that is due, how far the schedule has been played.
-    fn play_step(&mut self, step: &Step) -> Result<(), Halt> {
         self.play(step)?;
         if self.progress.is_due(self.number) {
-            self.show_progress()?;
+            if self.out.flush().is_err() {
+                return Err(Stop::Output);
+            }
+            self.progress.show(self.number);
         }
         Ok(())
     }
 
     /// Reads the step of a line.
-    fn read(&self, line: Line<'_>) -> Result<Step, Halt> {
+    fn read(&self, line: Line<'_>) -> Result<Step, Stop> {
         let Line::Text(text) = line else {
-            return Err(Halt::BadStep(self.number));
+            return Err(Stop::BadStep(self.number));
         };
         match read_step(self.alloc, text) {
             Ok(step) => Ok(step),
-            Err(StepFault::BadStep) => Err(Halt::BadStep(self.number)),
-            Err(StepFault::Memory) => Err(Halt::Memory),
+            Err(StepFault::BadStep) => Err(Stop::BadStep(self.number)),
+            Err(StepFault::Memory) => Err(Stop::Memory),
         }
     }
 
     /// Plays a step and writes its news.
-    fn play(&mut self, step: &Step) -> Result<(), Halt> {
-        match self.fleet.play(slice::from_ref(step)) {
+    fn play(&mut self, step: Step) -> Result<(), Stop> {
+        match self.fleet.play(slice::from_ref(&step)) {
             Ok(log) => self.write(log.as_slice()),
-            Err(FleetFault::BadStep(_)) => Err(Halt::BadStep(self.number)),
-            Err(FleetFault::Memory(_) | FleetFault::Failed) => Err(Halt::Memory),
+            Err(FleetFault::BadStep(_)) => Err(Stop::BadStep(self.number)),
+            Err(FleetFault::Memory(_) | FleetFault::Failed) => Err(Stop::Memory),
         }
     }
 
     /// Writes the news of a step.
-    fn write(&mut self, log: &[Logged]) -> Result<(), Halt> {
+    fn write(&mut self, log: &[Logged]) -> Result<(), Stop> {
         for logged in log {
             self.progress.clear();
             if write_news(self.out, self.fleet, self.number, logged).is_err() {
-                return Err(Halt::Output);
+                return Err(Stop::Output);
             }
         }
-        Ok(())
-    }
-
-    /// Writes how far the schedule has been played, after the news so far.
-    fn show_progress(&mut self) -> Result<(), Halt> {
-        if self.out.flush().is_err() {
-            return Err(Halt::Output);
-        }
-        self.progress.show(self.number);
         Ok(())
     }
 }

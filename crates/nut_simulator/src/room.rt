@@ -52,7 +52,7 @@ pub fn read_monitors<'a>(
     Ok(monitors)
 }
 
-/// Adds what the upsmon.conf of each monitor sets.
+/// Adds what the upsmon.conf of each monitor sets, whatever the file is called.
 fn add_monitors<'a>(
     files: &impl Files,
     alloc: Global,
@@ -60,7 +60,12 @@ fn add_monitors<'a>(
     monitors: &mut Vec<MonConfig>,
 ) -> Result<(), Failure<NutsimFault<'a>>> {
     for path in paths {
-        let monitor = read_monitor(files, alloc, path)?;
+        // a fault names the file without its directory
+        let name = match path.rsplit_once('/') {
+            Some((_, name)) => name,
+            None => *path,
+        };
+        let monitor = read_conf_at(files, alloc, path, name)?;
         add(monitors, monitor)?;
     }
     Ok(())
@@ -70,21 +75,4 @@ fn add_monitors<'a>(
 fn add(monitors: &mut Vec<MonConfig>, monitor: MonConfig) -> Result<(), AllocError> {
     monitors.push(monitor)?;
     Ok(())
-}
-
-/// Reads an upsmon.conf, whatever the file is called. A fault names it without its directory.
-fn read_monitor<'a>(
-    files: &impl Files,
-    alloc: Global,
-    path: &'a str,
-) -> Result<MonConfig, Failure<NutsimFault<'a>>> {
-    Ok(read_conf_at(files, alloc, path, name_of(path))?)
-}
-
-/// Returns a path without its directory.
-fn name_of(path: &str) -> &str {
-    match path.rsplit_once('/') {
-        Some((_, name)) => name,
-        None => path,
-    }
 }

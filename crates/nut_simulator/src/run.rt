@@ -39,22 +39,12 @@ pub fn run_nutsim<S: AsStr, O: Write, E: Write>(
     out: &mut O,
     err: &mut E,
 ) -> u8 {
-    run_showing(files, alloc, words, out, err, false)
+    run_nutsim_showing(files, alloc, words, out, err, false)
 }
 
-/// Does what [`run_nutsim`] does, for an `err` that is a terminal: a line there says how far a schedule of at least 100,000
-/// steps has been played.
-pub fn run_nutsim_on_terminal<S: AsStr, O: Write, E: Write>(
-    files: &impl Files,
-    alloc: Global,
-    words: &[S],
-    out: &mut O,
-    err: &mut E,
-) -> u8 {
-    run_showing(files, alloc, words, out, err, true)
-}
-
-fn run_showing<S: AsStr, O: Write, E: Write>(
+/// Does what [`run_nutsim`] does. If `err` is a terminal, a line there says how far a schedule of at least 100,000 steps has
+/// been played.
+pub fn run_nutsim_showing<S: AsStr, O: Write, E: Write>(
     files: &impl Files,
     alloc: Global,
     words: &[S],
@@ -117,19 +107,6 @@ fn play_room<'a, O: Write, E: Write>(
     is_terminal: bool,
 ) -> Result<(), Failure<NutsimFault<'a>>> {
     let config = read_config(files, alloc, names.folder)?;
-    play_on_server(files, alloc, config, names, out, err, is_terminal)
-}
-
-/// Reads the other files of a room with this server, and plays its schedule.
-fn play_on_server<'a, O: Write, E: Write>(
-    files: &impl Files,
-    alloc: Global,
-    config: Config,
-    names: Names<'a, '_>,
-    out: &mut O,
-    err: &mut E,
-    is_terminal: bool,
-) -> Result<(), Failure<NutsimFault<'a>>> {
     match read_rest(files, alloc, names) {
         Ok((mut schedule, monitors)) => {
             let made = Fleet::new(alloc, config, monitors);

@@ -2,7 +2,7 @@
 #![tactic(auto)]
 
 use nut_program::{NamedLines, refuse_start};
-use nut_simulator::{run_nutsim, run_nutsim_on_terminal};
+use nut_simulator::run_nutsim_showing;
 use std::io::IsTerminal;
 use std::process::ExitCode;
 use std::{env, io};
@@ -10,10 +10,17 @@ use std::{env, io};
 fn main(rt: HostRuntime) -> ExitCode {
     let (mut out, mut err) = (rt.stdout(), rt.stderr());
     let status = match words(&rt) {
-        Ok(words) if err.is_terminal() => {
-            run_nutsim_on_terminal(&rt, rt.alloc(), words.as_slice(), &mut out, &mut err)
+        Ok(words) => {
+            let is_terminal = err.is_terminal();
+            run_nutsim_showing(
+                &rt,
+                rt.alloc(),
+                words.as_slice(),
+                &mut out,
+                &mut err,
+                is_terminal,
+            )
         }
-        Ok(words) => run_nutsim(&rt, rt.alloc(), words.as_slice(), &mut out, &mut err),
         Err(error) => refuse_start(&error, &mut NamedLines::new("nutsim", &mut err)),
     };
     ExitCode::from(status)

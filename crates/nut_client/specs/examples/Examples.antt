@@ -5,10 +5,10 @@ use Rattle.nut_client.specs.CommandLine.{CommandLine, line_of, target_of}
 use Rattle.nut_client.specs.Forcing.{forcing_queries, in_turn}
 use Rattle.nut_client.specs.Script.{Script, script}
 use Rattle.nut_client.specs.Tool.{Ends, Failed, Printed, ending, run_of}
-use Rattle.nut_client.specs.declared.failure.Failure.{Failure}
-use Rattle.nut_client.specs.declared.failure.Failure.TheVariants as failures
+use Rattle.nut_client.specs.declared.failure.ToolFailure.{ToolFailure}
+use Rattle.nut_client.specs.declared.failure.ToolFailure.TheVariants as failures
 use Rattle.nut_client.specs.declared.tool.Tool.TheVariants.{Upsc, Upsrw, Upscmd}
-use Rattle.nut_client.specs.declared.wanted.Deed.TheVariants as deeds
+use Rattle.nut_client.specs.declared.wanted.UpsDeed.TheVariants as deeds
 use Rattle.nut_client.specs.declared.wanted.Until.TheVariants as untils
 use Rattle.nut_proto.specs.declared.tracking.TrackingStatus.TheVariants as statuses
 use Rattle.nut_client.specs.declared.wanted.Wanted.{Wanted}
@@ -100,7 +100,7 @@ pub record RunExamples : Type 0 where
   pub no_right : run_of forces_u (codes "OK\nOK\nERR ACCESS-DENIED\nOK\n") ≡ record { queries = codes "USERNAME a\nPASSWORD p\nFSD u\n"; standing = Failed (failures.Refused (codes "ACCESS-DENIED")) }
   pub not_answered : ending (run_of forces_u (codes "OK\nOK\nOK FSD-SET")).standing ≡ Err failures.ConnectionLost
   -- Every run over a stream with these bytes ends so, unless memory or the connection is lacking.
-  pub decided : (result : Result (List ℕ) Failure) (left before after : Option (List ℕ)) → (e : Ends value_of_v result (Some (codes "VAR u v \"1 2\"\nERR DATA-STALE\nVA")) left before after)
+  pub decided : (result : Result (List ℕ) ToolFailure) (left before after : Option (List ℕ)) → (e : Ends value_of_v result (Some (codes "VAR u v \"1 2\"\nERR DATA-STALE\nVA")) left before after)
       → (result ≡ Err failures.Memory)
       ⊎ ((result ≡ Err failures.ConnectionLost) × (left ≡ Some [] → length e.written < length (run_of value_of_v e.heard).queries)
       ⊎ (result ≡ Ok (codes "1 2\n")))

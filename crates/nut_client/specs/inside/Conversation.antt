@@ -7,8 +7,8 @@ use Rattle.nut_words.specs.declared.limits.TheConstants.{PIECE_MAX}
 use Rattle.nut_proto.specs.declared.request.Request.{Request}
 use Rattle.nut_proto.specs.Requests.{request_line}
 use Rattle.nut_link.specs.Exchange.{Exchange}
-use Rattle.nut_client.specs.declared.failure.Failure.{Failure}
-use Rattle.nut_client.specs.declared.failure.Failure.TheVariants.{BadAnswer, BadQuery, ConnectionLost, Memory}
+use Rattle.nut_client.specs.declared.failure.ToolFailure.{ToolFailure}
+use Rattle.nut_client.specs.declared.failure.ToolFailure.TheVariants.{BadAnswer, BadQuery, ConnectionLost, Memory}
 use Rattle.nut_link.specs.declared.fault.LinkFault.{LinkFault}
 use Rattle.nut_link.specs.declared.outcome.Outcome.{Outcome}
 use Rattle.nut_link.specs.Asking.{is_writable}
@@ -37,7 +37,7 @@ abbrev pub link_sent : Request → LinkValue
 link_sent request = record { rest = Text []; exchange = sent request }
 
 -- A query was sent; or it isn't writable; or the connection was lost before all of it was sent.
-abbrev pub Sends : Request → Result (Unit {0}) Failure → LinkValue → Option (List ℕ) → Option (List ℕ) → Type 0 → Type 0
+abbrev pub Sends : Request → Result (Unit {0}) ToolFailure → LinkValue → Option (List ℕ) → Option (List ℕ) → Type 0 → Type 0
 Sends request (Ok done) link before after lost =
     (is_writable request ≡ true) × (link ≡ link_sent request) × (after ≡ append_known before (request_line request))
 Sends request (Err failure) link before after lost =
@@ -47,20 +47,20 @@ Sends request (Err failure) link before after lost =
     × (after ≡ append_known before front) × (0 < length back))
 
 -- A part of a line, with or without its line feed, makes a query fail.
-abbrev pub Spoils : LinkValue → List ℕ → Failure → Type 0
+abbrev pub Spoils : LinkValue → List ℕ → ToolFailure → Type 0
 Spoils before part failure =
     ((fault : LinkFault) × ((fed part before).exchange.fault ≡ Some fault) × (failure ≡ failure_of fault))
     ⊎ ((failure ≡ BadAnswer) × IsUnbroken part × (joined before.rest part ≡ TooLong))
 
 -- The result of hearing such a part, after which this many bytes of an unfinished line were heard.
-abbrev pub HearsPart : LinkValue → List ℕ → Result (Option Outcome) Failure → LinkValue → ℕ → Type 0
+abbrev pub HearsPart : LinkValue → List ℕ → Result (Option Outcome) ToolFailure → LinkValue → ℕ → Type 0
 HearsPart before part (Ok None) after count = (after ≡ fed part before) × Awaits after count
 HearsPart before part (Ok (Some outcome)) after count = outcome_of (fed part before).exchange ≡ Some outcome
 HearsPart before part (Err failure) after count =
     (failure ≡ Memory) ⊎ ((failure ≡ ConnectionLost) × (part ≡ [])) ⊎ Spoils before part failure
 
 -- The next part of what the server sent was heard, at least a byte. More was read only if nothing was left to hear.
-pub record Hears (before : LinkValue) (p : Point) (result : Result (Option Outcome) Failure) (after : LinkValue) (count : ℕ) (p' : Point) : Type 0 where
+pub record Hears (before : LinkValue) (p : Point) (result : Result (Option Outcome) ToolFailure) (after : LinkValue) (count : ℕ) (p' : Point) : Type 0 where
   pub part : List ℕ
   pub read : prepend_known p.unread p.remaining ≡ prepend_known (part ++ p'.unread) p'.remaining
   pub broken : IsUnbroken part ⊎ IsWhole part

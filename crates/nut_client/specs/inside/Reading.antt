@@ -10,8 +10,8 @@ use Rattle.nut_conf.specs.declared.target.Target.{Target}
 use Rattle.nut_client.specs.declared.command_line.Options.{Options as Read}
 use Rattle.nut_client.specs.declared.command_line.Refusal.{Refusal}
 use Rattle.nut_client.specs.declared.command_line.Refusal.TheVariants.{Usage, Failed}
-use Rattle.nut_client.specs.declared.failure.Failure.{Failure}
-use Rattle.nut_client.specs.declared.failure.Failure.TheVariants.{BadName, Memory}
+use Rattle.nut_client.specs.declared.failure.ToolFailure.{ToolFailure}
+use Rattle.nut_client.specs.declared.failure.ToolFailure.TheVariants.{BadName, Memory}
 use Rattle.nut_client.specs.CommandLine.{CommandLine, Options}
 use Rattle.nut_client.specs.Output.{Written}
 use Rattle.nut_client.specs.Tool.{Explains, Tells, is_asked_for}
@@ -28,7 +28,7 @@ IsReadBy app words (Err (Usage error)) = IsAmong (kind_of error) (fault_of app w
 IsReadBy app words (Err (Failed failure)) = failure ≡ Memory
 
 -- the target that is meant
-abbrev pub IsTarget : Result (List ℕ × List ℕ × ℕ) NameFault → Result Target Failure → Type 0
+abbrev pub IsTarget : Result (List ℕ × List ℕ × ℕ) NameFault → Result Target ToolFailure → Type 0
 IsTarget meant (Ok target) = meant ≡ Ok (target_view target)
 IsTarget meant (Err failure) = (failure ≡ BadName) × IsErr meant
 
@@ -36,7 +36,7 @@ abbrev pub options_view : Read → Options
 options_view o = record { ups = o.target.ups.bytes.items; host = o.target.host.bytes.items; port = o.target.port.number; wanted = o.wanted }
 
 -- the options that are meant
-abbrev pub AreOptions : Result Options Failure → Result Read Refusal → Type 0
+abbrev pub AreOptions : Result Options ToolFailure → Result Read Refusal → Type 0
 AreOptions meant (Ok options) = meant ≡ Ok (options_view options)
 AreOptions meant (Err (Usage error)) = ⊥
 AreOptions meant (Err (Failed failure)) = meant ≡ Err failure

@@ -2,8 +2,8 @@
 use Rattle.std.specs.Prelude.{◌≡◌, ◌⊎◌, ◌<◌, ℕ, true, List, length, [], ◌++◌, Option, Some, Result, Err}
 use Rattle.nut_client.specs.Script.{Script}
 use Rattle.nut_client.specs.Tool.{Ends, ending, is_over, run_of}
-use Rattle.nut_client.specs.declared.failure.Failure.{Failure}
-use Rattle.nut_client.specs.declared.failure.Failure.TheVariants as failures
+use Rattle.nut_client.specs.declared.failure.ToolFailure.{ToolFailure}
+use Rattle.nut_client.specs.declared.failure.ToolFailure.TheVariants as failures
 
 -- Bytes after the last answer change nothing.
 abbrev pub MoreBytesAreIgnored : Type 0
@@ -15,7 +15,7 @@ MoreBytesAreIgnored =
 -- could not be allocated, or its connection was lost before they were all read or in the middle of a query.
 abbrev pub AllBytesDecide : Type 0
 AllBytesDecide =
-    (script : Script) (result : Result (List ℕ) Failure) (bytes : List ℕ) (left before after : Option (List ℕ))
+    (script : Script) (result : Result (List ℕ) ToolFailure) (bytes : List ℕ) (left before after : Option (List ℕ))
     → (e : Ends script result (Some bytes) left before after)
     → (result ≡ Err failures.Memory)
     ⊎ ((result ≡ Err failures.ConnectionLost) × (left ≡ Some [] → length e.written < length (run_of script e.heard).queries)

@@ -1,8 +1,8 @@
 -- How the parts of a link take in a line: as `Link` defines, unless memory runs out.
 use Rattle.std.specs.Prelude.{◌≡◌, ℕ, Bool, IsTrue, List, Option, Some, None, Result, Ok, Err, ◌⊎◌}
 use Rattle.nut_proto.specs.declared.answer.Answer.{Answer}
-use Rattle.nut_link.specs.declared.exchange.State.{State}
-use Rattle.nut_link.specs.declared.exchange.State.TheVariants as states
+use Rattle.nut_link.specs.declared.exchange.QueryState.{QueryState}
+use Rattle.nut_link.specs.declared.exchange.QueryState.TheVariants as states
 use Rattle.nut_link.specs.Exchange.{Stage}
 use Rattle.nut_link.specs.Exchange as stages
 use Rattle.nut_link.specs.declared.fault.LinkFault.{LinkFault}
@@ -14,7 +14,7 @@ use Rattle.nut_link.specs.Link.{left_of, progress_of}
 use Rattle.nut_link.specs.Matching.{Progress, Listing, Complete}
 
 -- the stage of an exchange in this state; its query counts while it has no complete answer
-abbrev pub stage_of : State → Asked → Stage
+abbrev pub stage_of : QueryState → Asked → Stage
 stage_of states.Idle query = stages.Idle
 stage_of states.Asked query = stages.Asked query
 stage_of (states.Answered outcome) query = stages.Answered outcome

@@ -8,7 +8,7 @@ use Rattle.nut_monitor_spec.specs.declared.Notice.{Notice}
 use Rattle.nut_monitor_spec.specs.Configuration.{Configuration}
 use Rattle.nut_monitor_spec.specs.Content.{Watch}
 use Rattle.nut_monitor_spec.specs.machine.Machine.{told_heard, watch_heard}
-use Rattle.nut_monitor.specs.declared.answer.Scene.{Scene}
+use Rattle.nut_monitor.specs.declared.answer.AnswerScene.{AnswerScene}
 
 -- A link is fed a piece. Its answer is taken out if one is complete, and the link is dropped if it failed.
 pub record IsFed (v : LinkValue) (piece : List ℕ) (done : ℕ) (result : Result (Unit {0}) LinkFault)
@@ -20,7 +20,7 @@ pub record IsFed (v : LinkValue) (piece : List ℕ) (done : ℕ) (result : Resul
 
 -- Fed the piece, the link becomes another. Then the answer that is complete is heard; and if the link failed, it is
 -- lost.
-pub record HearsPiece (configuration : Configuration) (scene : Scene) (piece : List ℕ) (v : LinkValue) (before : Watch)
+pub record HearsPiece (configuration : Configuration) (scene : AnswerScene) (piece : List ℕ) (v : LinkValue) (before : Watch)
     (told : List Notice) (result : ℕ × Result (Unit {0}) LinkFault) (after : Watch) (news : List Notice) : Type 0 where
   pub going : v.exchange.fault ≡ None
   pub link : LinkValue

@@ -8,7 +8,7 @@ use Rattle.nut_link.specs.Exchange.{Stage}
 use Rattle.nut_link.specs.Exchange as stages
 use Rattle.nut_link.specs.declared.fault.LinkFault.{LinkFault}
 use Rattle.nut_link.specs.declared.fault.LinkFault.TheVariants as faults
-use Rattle.nut_link.specs.declared.expected.Kind.TheVariants as kinds
+use Rattle.nut_link.specs.declared.expected.AnswerKind.TheVariants as kinds
 use Rattle.nut_link.specs.declared.expected.More.TheVariants as mores
 use Rattle.nut_link.specs.declared.outcome.Outcome.{Outcome}
 use Rattle.nut_link.specs.declared.outcome.Outcome.TheVariants as outcomes

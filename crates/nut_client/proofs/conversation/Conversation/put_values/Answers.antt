@@ -2,7 +2,7 @@ use Rattle.std.proofs.Common.{◌++◌, ap, ap₂, refl, sym, ◌∙◌}
 use Rattle.nut_proto.specs.declared.request.ListQuery.TheVariants as queries
 use Rattle.nut_proto.specs.declared.request.Request.TheVariants.{List}
 use Rattle.nut_client.specs.Script.{Asks, on_rows, row_lines, with_values, word}
-use Rattle.nut_client.specs.declared.printing.Form.TheVariants.{Options, Ranges}
+use Rattle.nut_client.specs.declared.printing.RowForm.TheVariants.{Options, Ranges}
 use Rattle.nut_client.proofs.Parts.{asked_as, stays}
 use Rattle.nut_client.proofs.conversation.Conversation.put_values.Goals as goal
 

@@ -2,7 +2,7 @@ use Rattle.std.proofs.Common.{◌≡◌, ◌++◌, ◌∷◌, [], ap, ◌∙◌}
 use Rattle.nut_proto.specs.Lines.{message}
 use Rattle.nut_proto.specs.Requests.{request_line, request_parts}
 use Rattle.nut_link.proofs.Writable.{line_is, unwritable_line, unwritable_word, when_err, when_ok, writable_line}
-use Rattle.nut_link.proofs.query.Query.ask.Goals as goal
+use Rattle.nut_link.proofs.query.AskedQuery.ask.Goals as goal
 
 pub returns-then-not-set-clause-exact : goal.returns-then-not-set-clause-exact
 returns-then-not-set-clause-exact c = unwritable_word c.args.request.now (c.set.ensures.long c.if-not-set.true)

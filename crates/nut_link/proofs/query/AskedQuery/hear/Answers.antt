@@ -1,7 +1,7 @@
 use Rattle.std.proofs.Common.{◌==◌, length, sym, ap, ◌∙◌}
-use Rattle.nut_link.specs.contracts.query.Query.{the_view}
+use Rattle.nut_link.specs.contracts.query.AskedQuery.{the_view}
 use Rattle.nut_link.proofs.Advancing.{advances_next}
-use Rattle.nut_link.proofs.query.Query.hear.Goals as goal
+use Rattle.nut_link.proofs.query.AskedQuery.hear.Goals as goal
 
 pub returns-in-Some : goal.returns-in-Some
 returns-in-Some c =
