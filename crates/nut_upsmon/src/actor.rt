@@ -1,6 +1,6 @@
 //! What upsmon does to its machine.
 
-ghost use Rattle.std.specs.Prelude.{◌≡◌, List, Option, IfOk, IfSome, IfNone, OnOk, OnErr};
+ghost use Rattle.std.specs.Prelude.{◌≡◌, List, Option, IfSome, IfNone, OnOk, OnErr};
 ghost use Rattle.nut_monitor.specs.Texts.{text_of};
 ghost use Rattle.nut_upsmon.specs.Acts.{Act, ClearedFlag, Readied, Changed, Printed, Called, TriedFlag, RanShutdown, does};
 
@@ -9,54 +9,21 @@ use crate::halt::HaltFault;
 use crate::power_down_flag::FlagFault;
 use nut_conf::MonConfig;
 use nut_monitor::{Monitor, Notice};
-use nut_poll::ErrorLines;
 use std::alloc::AllocError;
-use std::io;
-
-/// The lines of standard error. A bound in place of `ErrorLines`, since the borrow checker covers no call that names an
-/// actor with a lifetime and, in its signature, what is `'static`.
-pub trait Told {
-    /// Returns the lines.
-    fn lines(&mut self) -> &mut ErrorLines;
-}
-
-impl Told for ErrorLines {
-    fn lines(&mut self) -> &mut ErrorLines {
-        self
-    }
-}
-
-/// Whoever becomes an actor. A flag that an earlier shutdown left is removed before, since memory or descriptors may be
-/// lacking for an actor.
-pub trait Starter: Drop {
-    /// What it becomes.
-    type Actor: Actor;
-
-    /// What it did, the newest first; None if it tells nothing.
-    ghost log: { Self → Option (List Act) };
-
-    /// Tries to remove the POWERDOWNFLAG that this configuration names, if an earlier shutdown left it set. What came of
-    /// that is written to `err`.
-    ///
-    /// # Errors
-    ///
-    /// [`AllocError`] if memory cannot be allocated. Then nothing is removed.
-    fn clear_flag<E: Told>(&mut self, config: &MonConfig, err: &mut E) -> Result<(), AllocError>
-        ensures { OnOk result (log self.new ≡ does (ClearedFlag config.now) (log self.old)) };
-
-    /// Becomes an actor.
-    ///
-    /// # Errors
-    ///
-    /// If memory or descriptors are lacking.
-    fn begin(self) -> io::Result<Self::Actor>
-        ensures { IfOk result (λ actor. Self.Actor.log actor ≡ log self) };
-}
 
 /// Whoever acts on the machine for upsmon: reports notices, and halts.
 pub trait Actor: Drop {
     /// What it did, the newest first; None if it tells nothing.
     ghost log: { Self → Option (List Act) };
+
+    /// Tries to remove the POWERDOWNFLAG that this configuration names, if an earlier shutdown left it set. This comes before
+    /// all else, since memory or descriptors may be lacking for that.
+    ///
+    /// # Errors
+    ///
+    /// [`AllocError`] if memory cannot be allocated. Then nothing is removed.
+    fn clear_flag(&mut self, config: &MonConfig) -> Result<(), AllocError>
+        ensures { OnOk result (log self.new ≡ does (ClearedFlag config.now) (log self.old)) };
 
     /// Makes ready to halt and to tell by this configuration, the first one.
     ///

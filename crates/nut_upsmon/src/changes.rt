@@ -27,7 +27,7 @@ impl Changes {
             text: String::new(alloc),
         };
         changes.add_lines(&former.monitors.lines, &config.monitors.lines)?;
-        for (word, directive) in UPSMON_DIRECTIVES {
+        for (word, directive, _) in UPSMON_DIRECTIVES {
             let is_monitor = matches!(directive, UpsmonDirective::Monitor);
             if !is_monitor && !config.agrees(former, directive) {
                 changes.add(&[text_of(word), "changed"])?;

@@ -33,7 +33,7 @@ pub enum Task {
 
 /// What the words of a command line ask for.
 #[derive(Drop)]
-pub struct Order<'a> {
+pub struct CommandLine<'a> {
     pub task: Task,
     /// The folder of upsmon.conf.
     pub folder: String,
@@ -48,25 +48,25 @@ pub struct Order<'a> {
 /// # Errors
 ///
 /// `CommandLine` if clap refuses them, or they ask for the help or the version; `Memory` if memory cannot be allocated.
-pub fn order_of<'a, R: Env + Alloc, S: AsStr>(
+pub fn read_words<'a, R: Env + Alloc, S: AsStr>(
     rt: &R,
     alloc: Global,
     words: &'a [S],
-) -> Result<Order<'a>, Failure<UpsmonFault>> {
+) -> Result<CommandLine<'a>, Failure<UpsmonFault>> {
     let matches = upsmon_command(alloc)?.try_get_matches_from(words)?;
-    match order_by(rt, alloc, &matches) {
-        Ok(order) => Ok(order),
+    match asked_by(rt, alloc, &matches) {
+        Ok(asked) => Ok(asked),
         Err(AllocError) => Err(Failure::Memory),
     }
 }
 
 /// Returns what a command line asks for that clap has accepted.
-fn order_by<'a, R: Env + Alloc>(
+fn asked_by<'a, R: Env + Alloc>(
     rt: &R,
     alloc: Global,
     matches: &ArgMatches<'a>,
-) -> Result<Order<'a>, AllocError> {
-    Ok(Order {
+) -> Result<CommandLine<'a>, AllocError> {
+    Ok(CommandLine {
         task: task_of(matches),
         folder: conf_folder(rt, alloc, matches)?,
         machines: values_of(alloc, matches, "machines")?,
@@ -120,7 +120,10 @@ fn upsmon_command<'a>(alloc: Global) -> Result<Command<'a>, AllocError> {
 
 /// Adds the arguments, in the order in which the help names them.
 fn add_args<'a>(alloc: Global, args: &mut Vec<Arg<'a>>) -> Result<(), AllocError> {
-    args.push(conf_of_upsmon(alloc))?;
+    let conf = Arg::new(alloc, "conf").long("conf").value_name("DIR");
+    args.push(conf.help(
+        "The directory of upsmon.conf [default: that of NUT_CONFPATH, or /etc/nut]",
+    ))?;
     args.push(quiet_option(alloc, "Report no UPSes and servers that come and go"))?;
     args.push(check_option(
         alloc,
@@ -135,12 +138,6 @@ fn add_args<'a>(alloc: Global, args: &mut Vec<Arg<'a>>) -> Result<(), AllocError
     args.push(foreground_option(alloc))?;
     args.push(debug_option(alloc))?;
     Ok(())
-}
-
-fn conf_of_upsmon<'a>(alloc: Global) -> Arg<'a> {
-    Arg::new(alloc, "conf").long("conf").value_name("DIR").help(
-        "The directory of upsmon.conf [default: that of NUT_CONFPATH, or /etc/nut]",
-    )
 }
 
 fn machines<'a>(alloc: Global) -> Result<Arg<'a>, AllocError> {

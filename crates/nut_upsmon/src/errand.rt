@@ -1,12 +1,14 @@
 //! What is asked at the servers of MONITOR lines, at all of them at once.
 
-use nut_client::{Failure, MemoryStream, Text, Wanted, ask_server, force_shutdown, log_in};
+use nut_client::{MemoryStream, Text, ToolFailure, Wanted, ask_server, force_shutdown, log_in};
 use nut_conf::{Monitored, Role};
 use nut_io::{Piece, Written};
+use nut_log::{Level, Lines};
 use nut_monitor_sockets::{Visited, Visits};
-use nut_poll::text_of;
+use nut_poll::{ErrorLines, OutputLines, text_of};
 use nut_proto::Word;
 use std::alloc::{AllocError, Global};
+use std::io::Write;
 use std::net::Net;
 use std::process::Processes;
 use std::time::Clock;
@@ -30,9 +32,9 @@ pub enum Shortfall {
     /// The server wasn't reached.
     Unreached(io::Error),
     /// This query failed.
-    Failed(&'static str, Failure),
+    Failed(&'static str, ToolFailure),
     /// FSD is set, but no status shows it, for this reason.
-    Untold(Failure),
+    Untold(ToolFailure),
     /// FSD is set, but the status is this one.
     Unshown(Text),
 }
@@ -41,11 +43,11 @@ impl fmt::Display for Shortfall {
     fn fmt<W: fmt::Write>(&self, f: &mut fmt::Formatter<W>) -> fmt::Result {
         match self {
             Shortfall::Unreached(error) => write!(f, "connection failed: {error}"),
-            Shortfall::Failed(query, Failure::Refused(name)) => {
+            Shortfall::Failed(query, ToolFailure::Refused(name)) => {
                 write!(f, "{query} refused: {}", text_of(name.as_bytes()))
             }
             Shortfall::Failed(_, failure) => write!(f, "{}", text_of(failure.reason())),
-            Shortfall::Untold(Failure::Refused(name)) => write!(
+            Shortfall::Untold(ToolFailure::Refused(name)) => write!(
                 f,
                 "its machines don't hear of it: {}; they shut down once the driver is back",
                 text_of(name.as_bytes())
@@ -64,23 +66,13 @@ impl fmt::Display for Shortfall {
     }
 }
 
-/// Who hears how an errand ended.
-pub trait Teller {
-    /// Reports how the errand at the server of this line ended.
-    fn tell(&mut self, line: &Monitored, ended: &Result<(), Shortfall>);
-}
-
 impl Errand {
-    /// Whether the server of this line is asked.
-    fn concerns(self, line: &Monitored) -> bool {
-        self == Errand::LogIn || line.role == Role::Primary
-    }
-
     /// Does the errand over a connection.
     ///
     /// # Errors
     ///
-    /// What is missing. After `ConnectionLost` the end of the connection was met.
+    /// What is missing. `ConnectionLost` says that the end of the connection was met, and `Memory` that what is said can't be
+    /// kept.
     fn carry_out(
         self,
         clock: &impl Clock,
@@ -98,8 +90,39 @@ impl Errand {
         match asked {
             Ok(()) if self == Errand::Force => look_at_status(clock, alloc, ups, stream),
             Ok(()) => Ok(()),
+            Err(_) if stream.is_lost() => Err(Shortfall::Failed("", ToolFailure::Memory)),
             Err(failure) => Err(Shortfall::Failed(self.last_query(stream.asked()), failure)),
         }
+    }
+
+    /// Reports how the errand at the server of a line ended: on `out` that FSD is set, on `err` what is missing.
+    fn tell(
+        self,
+        line: &Monitored,
+        ended: &Result<(), Shortfall>,
+        out: &mut OutputLines,
+        err: &mut ErrorLines,
+    ) {
+        let ups = text_of(&line.written);
+        let _ = match (self, ended) {
+            (Errand::LogIn, Ok(())) => Ok(()),
+            (Errand::LogIn, Err(shortfall)) => {
+                writeln!(err.begin(Level::Warning), "UPS {ups}: {shortfall}")
+            }
+            (Errand::Force, Ok(())) => writeln!(out.mark(Level::Notice), "UPS {ups}: FSD set"),
+            (Errand::Force, Err(shortfall @ (Shortfall::Untold(_) | Shortfall::Unshown(_)))) => {
+                writeln!(
+                    err.begin(Level::Error),
+                    "UPS {ups}: FSD set, but {shortfall}"
+                )
+            }
+            (Errand::Force, Err(shortfall)) => {
+                writeln!(
+                    err.begin(Level::Error),
+                    "UPS {ups}: FSD failed: {shortfall}"
+                )
+            }
+        };
     }
 
     /// Returns the name of the last of these queries of it.
@@ -126,6 +149,7 @@ fn look_at_status(
     match ask_server(clock, alloc, ups, status, stream) {
         Ok(status) if shows_forced(status.as_bytes()) => Ok(()),
         Ok(status) => Err(Shortfall::Unshown(status)),
+        Err(_) if stream.is_lost() => Err(Shortfall::Failed("", ToolFailure::Memory)),
         Err(failure) => Err(Shortfall::Untold(failure)),
     }
 }
@@ -138,7 +162,7 @@ fn shows_forced(status: &[u8]) -> bool {
 
 /// What was said to a server and by it.
 #[derive(Drop)]
-struct Talk {
+pub struct Talk {
     /// What the server sent.
     heard: Vec<u8>,
     /// How many bytes it is to be asked, as far as is known.
@@ -147,6 +171,8 @@ struct Talk {
     sent: usize,
     /// Whether it was reached.
     is_up: bool,
+    /// Whether all was done.
+    pub is_done: bool,
 }
 
 impl Talk {
@@ -166,13 +192,10 @@ impl Talk {
     ) -> Option<Result<(), Shortfall>> {
         self.is_up = true;
         if self.heard.extend_from_slice(piece.as_slice()).is_err() {
-            return Some(Err(Shortfall::Failed("", Failure::Memory)));
+            return Some(Err(Shortfall::Failed("", ToolFailure::Memory)));
         }
         let mut stream = MemoryStream::new(alloc, self.heard.as_slice(), 1);
         let ended = errand.carry_out(rt, alloc, line, &mut stream);
-        if stream.is_lost() {
-            return Some(Err(Shortfall::Failed("", Failure::Memory)));
-        }
         let asked = stream.asked();
         if asked.len() > self.asked {
             self.asked = asked.len();
@@ -184,10 +207,7 @@ impl Talk {
         {
             self.sent = self.sent.saturating_add(count);
         }
-        if is_waiting(&ended) || (ended.is_ok() && self.sent < self.asked) {
-            return None;
-        }
-        Some(ended)
+        unless_waiting(ended, self.sent >= self.asked)
     }
 
     /// Returns how an errand ended whose connection did, for this reason.
@@ -204,26 +224,33 @@ impl Talk {
         }
         let mut stream = MemoryStream::new(alloc, self.heard.as_slice(), 1);
         match errand.carry_out(clock, alloc, line, &mut stream) {
-            Ok(()) => Err(Shortfall::Failed("", Failure::ConnectionLost)),
+            Ok(()) => Err(Shortfall::Failed("", ToolFailure::ConnectionLost)),
             Err(shortfall) => Err(shortfall),
         }
     }
 }
 
-/// Whether an errand can be done further once the server has sent more.
-fn is_waiting(ended: &Result<(), Shortfall>) -> bool {
-    matches!(
+/// Returns how an errand ended, unless it can be done further once the server has sent more, or taken all that it is asked.
+fn unless_waiting(
+    ended: Result<(), Shortfall>,
+    is_all_taken: bool,
+) -> Option<Result<(), Shortfall>> {
+    let is_cut_short = matches!(
         ended,
         Err(
-            Shortfall::Failed(_, Failure::ConnectionLost)
-                | Shortfall::Untold(Failure::ConnectionLost)
+            Shortfall::Failed(_, ToolFailure::ConnectionLost)
+                | Shortfall::Untold(ToolFailure::ConnectionLost)
         )
-    )
+    );
+    if is_cut_short || (ended.is_ok() && !is_all_taken) {
+        return None;
+    }
+    Some(ended)
 }
 
 /// Does an errand at the servers of all lines that it concerns, at once, and reports of each how it ended as soon as it has.
-/// A server that isn't reached, or takes longer than 10 seconds for an answer, keeps nobody else waiting. Returns for each
-/// line whether all was done.
+/// A server that isn't reached, or takes longer than 10 seconds for an answer, keeps nobody else waiting. Returns the talk
+/// with the server of each line.
 ///
 /// # Errors
 ///
@@ -233,17 +260,33 @@ pub fn run_errand<R: Net + Clock + Processes>(
     rt: &R,
     alloc: Global,
     lines: &[Monitored],
-    teller: &mut impl Teller,
-) -> io::Result<Vec<bool>> {
-    let mut visits = Visits::new(rt, alloc, lines)?;
+    out: &mut OutputLines,
+    err: &mut ErrorLines,
+) -> io::Result<Vec<Talk>> {
     let mut talks = talks_of(alloc, lines)?;
-    let mut done = Vec::new(alloc);
+    let mut visits = Visits::new(rt, alloc, lines)?;
     for (i, line) in lines.iter().enumerate() {
-        done.push(false)?;
-        if !errand.concerns(line) {
+        if errand == Errand::Force && line.role == Role::Secondary {
             visits.end(i);
         }
     }
+    match attend(errand, rt, alloc, lines, &mut visits, &mut talks, out, err) {
+        Ok(()) => Ok(talks),
+        Err(error) => Err(error),
+    }
+}
+
+/// Continues these visits, each with its talk, until all are over.
+fn attend<R: Net + Clock + Processes>(
+    errand: Errand,
+    rt: &R,
+    alloc: Global,
+    lines: &[Monitored],
+    visits: &mut Visits<'_, R>,
+    talks: &mut [Talk],
+    out: &mut OutputLines,
+    err: &mut ErrorLines,
+) -> io::Result<()> {
     let mut piece = Piece::new();
     for _ in 0..u64::MAX {
         let Some(visited) = visits.next(&mut piece)? else {
@@ -256,18 +299,16 @@ pub fn run_errand<R: Net + Clock + Processes>(
             continue;
         };
         let ended = match visited {
-            Visited::Came(i) => talk.go_on(errand, rt, alloc, &mut visits, i, line, &piece),
+            Visited::Came(i) => talk.go_on(errand, rt, alloc, visits, i, line, &piece),
             Visited::Lost(_, error) => Some(talk.break_off(errand, rt, alloc, line, error)),
         };
         if let Some(ended) = ended {
-            leave(&mut visits, i, &ended);
-            teller.tell(line, &ended);
-            if let Some(is_done) = done.get_mut(i) {
-                *is_done = ended.is_ok();
-            }
+            talk.is_done = ended.is_ok();
+            leave(visits, i, &ended);
+            errand.tell(line, &ended, out, err);
         }
     }
-    Ok(done)
+    Ok(())
 }
 
 /// Ends a visit: a server where the user is logged in is told so.
@@ -276,11 +317,8 @@ fn leave<R: Net + Clock + Processes>(
     i: usize,
     ended: &Result<(), Shortfall>,
 ) {
-    match ended {
-        Ok(()) | Err(Shortfall::Untold(_) | Shortfall::Unshown(_)) => {
-            let _ = visits.offer(i, b"LOGOUT\n");
-        }
-        Err(Shortfall::Unreached(_) | Shortfall::Failed(_, _)) => {}
+    if let Ok(()) | Err(Shortfall::Untold(_) | Shortfall::Unshown(_)) = ended {
+        let _ = visits.offer(i, b"LOGOUT\n");
     }
     visits.end(i);
 }
@@ -294,6 +332,7 @@ fn talks_of(alloc: Global, lines: &[Monitored]) -> Result<Vec<Talk>, AllocError>
             asked: 0,
             sent: 0,
             is_up: false,
+            is_done: false,
         })?;
     }
     Ok(talks)

@@ -27,7 +27,7 @@ pub fn last_flag_in(
     alloc: Global,
     folder: &str,
 ) -> io::Result<Option<PowerDownFlag>> {
-    let path = Path::new(folder).join(alloc, MonConfig::file_name())?;
+    let path = Path::new(folder).join(alloc, MonConfig::FILE_NAME)?;
     let bytes = read_file(files, alloc, path, FILE_MAX as u64)?;
     last_flag(alloc, bytes.as_slice())
 }

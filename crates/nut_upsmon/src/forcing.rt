@@ -1,11 +1,11 @@
 //! A shutdown by hand: FSD on the UPSes of this machine's primary lines.
 
-use crate::errand::{Errand, Shortfall, Teller, run_errand};
+use crate::errand::{Errand, Talk, run_errand};
 use crate::upsmon_fault::UpsmonFault;
 use nut_conf::{MonConfig, Monitored, Role};
 use nut_log::{Level, Lines};
 use nut_monitor::has_primary;
-use nut_poll::{ErrorLines, LossyLines, OutputLines, text_of};
+use nut_poll::{ErrorLines, LossyLines, text_of};
 use nut_program::{Failure, Streams, hold_closed_streams};
 use std::alloc::Global;
 use std::io::Write;
@@ -40,52 +40,25 @@ where
     }
     let _held = hold_closed_streams(rt, alloc)?;
     let lines = config.monitors.lines.as_slice();
-    let mut report = Report {
-        out: LossyLines::new(rt, alloc, streams.out)?,
-        told,
-    };
-    let forced = run_errand(Errand::Force, rt, alloc, lines, &mut report)?;
-    tell_supplies(config, &forced, report.told);
-    Ok(is_all_forced(lines, &forced))
+    let mut out = LossyLines::new(streams.out);
+    let talks = run_errand(Errand::Force, rt, alloc, lines, &mut out, told)?;
+    tell_supplies(config, &talks, told);
+    Ok(is_all_forced(lines, &talks))
 }
 
-/// Whether all primary lines are among those that were forced.
-fn is_all_forced(lines: &[Monitored], forced: &[bool]) -> bool {
-    let mut each = lines.iter().zip(forced);
-    each.all(|(line, is_forced)| *is_forced || line.role == Role::Secondary)
-}
-
-/// Where it is reported what became of each line.
-#[derive(Drop)]
-struct Report<'e> {
-    out: OutputLines,
-    told: &'e mut ErrorLines,
-}
-
-impl<'e> Teller for Report<'e> {
-    fn tell(&mut self, line: &Monitored, ended: &Result<(), Shortfall>) {
-        let ups = text_of(&line.written);
-        let _ = match ended {
-            Ok(()) => writeln!(self.out.mark(Level::Notice), "UPS {ups}: FSD set"),
-            Err(shortfall @ (Shortfall::Untold(_) | Shortfall::Unshown(_))) => writeln!(
-                self.told.begin(Level::Error),
-                "UPS {ups}: FSD set, but {shortfall}"
-            ),
-            Err(shortfall) => writeln!(
-                self.told.begin(Level::Error),
-                "UPS {ups}: FSD failed: {shortfall}"
-            ),
-        };
-    }
+/// Whether FSD is set and shown by the talks about all primary lines.
+fn is_all_forced(lines: &[Monitored], talks: &[Talk]) -> bool {
+    let mut each = lines.iter().zip(talks);
+    each.all(|(line, talk)| talk.is_done || line.role == Role::Secondary)
 }
 
 /// Reports which lines still supply this machine, if they supply enough for it.
-fn tell_supplies(config: &MonConfig, forced: &[bool], told: &mut ErrorLines) {
+fn tell_supplies(config: &MonConfig, talks: &[Talk], told: &mut ErrorLines) {
     let lines = config.monitors.lines.as_slice();
     let needed = u64::from(config.min_supplies.value);
     let mut left = 0u64;
-    for (line, is_forced) in lines.iter().zip(forced) {
-        if !*is_forced {
+    for (line, talk) in lines.iter().zip(talks) {
+        if !talk.is_done {
             left = left.saturating_add(u64::from(line.power.value));
         }
     }
@@ -98,9 +71,9 @@ fn tell_supplies(config: &MonConfig, forced: &[bool], told: &mut ErrorLines) {
         return;
     }
     let mut is_first = true;
-    for (line, is_forced) in lines.iter().zip(forced) {
+    for (line, talk) in lines.iter().zip(talks) {
         let power = line.power.value;
-        if !*is_forced && power > 0 {
+        if !talk.is_done && power > 0 {
             if !is_first {
                 let _ = write!(told, ", ");
             }

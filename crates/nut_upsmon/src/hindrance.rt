@@ -1,9 +1,9 @@
 //! What would keep a machine from stopping: a server that doesn't let it log in, a command that can't be run.
 
-use crate::errand::{Errand, Shortfall, Teller, run_errand};
-use nut_conf::{COMMAND_MAX, MonConfig, Monitored, Text};
+use crate::errand::{Errand, run_errand};
+use nut_conf::{COMMAND_MAX, MonConfig, Text};
 use nut_log::{Level, Lines};
-use nut_poll::{ErrorLines, text_of};
+use nut_poll::{ErrorLines, OutputLines, text_of};
 use nut_program::hold_closed_streams;
 use std::alloc::Global;
 use std::io::Write;
@@ -28,6 +28,7 @@ pub fn warn_of_hindrances<R>(
     rt: &R,
     alloc: Global,
     config: &MonConfig,
+    out: &mut OutputLines,
     err: &mut ErrorLines,
 ) -> io::Result<bool>
 where
@@ -35,14 +36,13 @@ where
 {
     let halts = can_run(rt, "SHUTDOWNCMD", command_of(&config.shutdown_cmd), err);
     let tells = can_run(rt, "NOTIFYCMD", command_of(&config.notify_cmd), err);
-    let mut report = Report { err };
     if config.min_supplies.value == 0 {
         return Ok(halts && tells);
     }
     let _held = hold_closed_streams(rt, alloc)?;
     let lines = config.monitors.lines.as_slice();
-    let done = run_errand(Errand::LogIn, rt, alloc, lines, &mut report)?;
-    Ok(halts && tells && done.iter().all(|is_done| *is_done))
+    let talks = run_errand(Errand::LogIn, rt, alloc, lines, out, err)?;
+    Ok(halts && tells && talks.iter().all(|talk| talk.is_done))
 }
 
 /// Returns the text of a command, which is empty if none is set.
@@ -79,19 +79,4 @@ fn can_run(files: &impl Files, directive: &str, command: &[u8], err: &mut ErrorL
 /// Whether the shell takes a byte of a path as it is.
 fn is_plain(byte: &u8) -> bool {
     byte.is_ascii_alphanumeric() || matches!(*byte, b'/' | b'.' | b'_' | b'-' | b'+')
-}
-
-/// Where it is reported why a server doesn't let this machine log in.
-#[derive(Drop)]
-struct Report<'e> {
-    err: &'e mut ErrorLines,
-}
-
-impl<'e> Teller for Report<'e> {
-    fn tell(&mut self, line: &Monitored, ended: &Result<(), Shortfall>) {
-        if let Err(shortfall) = ended {
-            let ups = text_of(&line.written);
-            let _ = writeln!(self.err.begin(Level::Warning), "UPS {ups}: {shortfall}");
-        }
-    }
 }

@@ -15,7 +15,6 @@ mod low_runtime;
 mod machine;
 mod monitor;
 mod notifier;
-mod notify_command;
 mod nuts_options;
 mod obeying;
 mod order_sender;
@@ -31,7 +30,7 @@ mod upsmon_fault;
 mod warning;
 mod watching;
 
-pub use actor::{Actor, Starter, Told};
+pub use actor::Actor;
 pub use beginning::Beginning;
 pub use guard::{Guard, tell};
 pub use halt::HaltFault;

@@ -1,7 +1,7 @@
 //! Whether the UPSes of a machine say LB early enough for it to stop.
 
 use crate::stopping::Stopping;
-use nut_conf::{MonConfig, Monitored};
+use nut_conf::MonConfig;
 use nut_log::{Level, Lines};
 use nut_monitor_sockets::{ANSWER_ON_BATTERY, LATE_ANSWERS};
 use nut_poll::{ErrorLines, Program, Question, Questions, text_of};
@@ -17,20 +17,17 @@ const LOW_RUNTIME: &str = "battery.runtime.low";
 /// How much of an answer is read: more digits than any number of seconds has.
 const ANSWER_MAX: usize = 64;
 
-/// How many steps of 100 ms a check may take.
-const CHECK_STEPS: u8 = 100;
-
-/// How many steps of a check are a second.
-const STEPS_A_SECOND: u8 = 10;
+/// How many seconds a check may take.
+const CHECK_MAX: u8 = 10;
 
 /// How many milliseconds pass between two steps of a check.
 const CHECK_STEP: u64 = 100;
 
-/// How patiently servers are asked. Times are counted in steps.
+/// How patiently servers are asked. Times are in seconds.
 #[derive(Clone, Copy)]
 struct Patience {
-    /// How long a question may take.
-    question: u8,
+    /// How many steps are taken a second.
+    steps: u8,
     /// How long to wait before each question.
     pause: u8,
     /// How often a server is asked that doesn't answer.
@@ -39,25 +36,32 @@ struct Patience {
     is_told: bool,
 }
 
-/// For a check that somebody waits for, with steps of 100 ms.
+/// For a check that somebody waits for.
 const CHECK: Patience = Patience {
-    question: ANSWER_ON_BATTERY * STEPS_A_SECOND,
+    steps: 10,
     pause: 0,
     tries: 1,
     is_told: true,
 };
 
-/// For a monitor that continues meanwhile, with steps of a second: its server may start later than it does.
+/// For a monitor that continues meanwhile: its server may start later than it does.
 const WATCH: Patience = Patience {
-    question: ANSWER_ON_BATTERY,
+    steps: 1,
     pause: 30,
     tries: 10,
     is_told: false,
 };
 
+impl Patience {
+    /// Returns how many steps are taken in some seconds.
+    fn steps_in(self, seconds: u8) -> u8 {
+        seconds.saturating_mul(self.steps)
+    }
+}
+
 /// A UPS whose server is to be asked.
 #[derive(Drop)]
-struct Ups {
+struct AskedUps {
     name: String,
     /// How often its server was asked and didn't answer.
     tries: u8,
@@ -79,8 +83,8 @@ pub struct LowRuntimes<'r, R: Processes> {
     pause: u8,
     /// The number of the configuration. An answer about a UPS of an earlier one is let go.
     generation: u32,
-    left: Vec<Ups>,
-    questions: Questions<'r, R, Ups>,
+    left: Vec<AskedUps>,
+    questions: Questions<'r, R, AskedUps>,
 }
 
 impl<'r, R: Processes> LowRuntimes<'r, R> {
@@ -95,10 +99,10 @@ impl<'r, R: Processes> LowRuntimes<'r, R> {
             alloc,
             needed: 0,
             patience,
-            pause: patience.pause,
+            pause: patience.steps_in(patience.pause),
             generation: 0,
             left: Vec::new(alloc),
-            questions: Questions::none(processes, alloc, patience.question),
+            questions: Questions::none(processes, alloc, patience.steps_in(ANSWER_ON_BATTERY)),
         }
     }
 
@@ -109,11 +113,13 @@ impl<'r, R: Processes> LowRuntimes<'r, R> {
     /// [`AllocError`] if memory for their names cannot be allocated. Nothing has changed then.
     pub fn restart(&mut self, config: &MonConfig) -> Result<(), AllocError> {
         let generation = self.generation.wrapping_add(1);
-        let (needed, left) = asked(self.alloc, config, generation)?;
-        self.needed = needed;
-        self.left = left;
+        self.left = upses_of(self.alloc, config, generation)?;
+        self.needed = match Stopping::of(config) {
+            Stopping::Within { seconds, .. } => seconds,
+            Stopping::Never => 0,
+        };
         self.generation = generation;
-        self.pause = self.patience.pause;
+        self.pause = self.patience.steps_in(self.patience.pause);
         Ok(())
     }
 
@@ -135,41 +141,43 @@ impl<'r, R: Processes> LowRuntimes<'r, R> {
         self.questions.end();
     }
 
-    /// Takes the answer to a question that has ended.
-    fn hear(&mut self, mut question: Question<R::Started, Ups>, err: &mut ErrorLines) {
+    /// Takes the answer to a question that has ended. A check warns if a server takes longer for it than upsmon waits while a UPS
+    /// is on battery.
+    fn hear(&mut self, mut question: Question<R::Started, AskedUps>, err: &mut ErrorLines) {
         if self.patience.is_told && question.is_late {
-            tell_late(&question.about, err);
+            let _ = writeln!(
+                err.begin(Level::Warning),
+                "UPS {}: no answer within {ANSWER_ON_BATTERY} s: {LATE_ANSWERS}",
+                question.about.name
+            );
             return;
         }
         let answer = answer_of(&mut question);
         self.heed(question.about, answer, err);
     }
 
-    /// Reports what is known of a UPS by the answer about it, if it is one of this configuration.
-    fn heed(&mut self, ups: Ups, answer: Option<u64>, err: &mut ErrorLines) {
+    /// Warns if a UPS reports LB too late by the answer about it, or asks again if there is none. A UPS of an earlier
+    /// configuration is let go.
+    fn heed(&mut self, ups: AskedUps, answer: Option<u64>, err: &mut ErrorLines) {
         if ups.generation != self.generation {
             return;
         }
         match answer {
-            Some(seconds) => self.compare(&ups, seconds, err),
+            Some(seconds) if seconds < self.needed => {
+                let _ = writeln!(
+                    err.begin(Level::Warning),
+                    "UPS {}: battery.runtime.low is {seconds} s, but this machine may shut down as late as {} s after OB LB",
+                    ups.name,
+                    self.needed
+                );
+            }
+            Some(_) => {}
             None => self.ask_again(ups, err),
         }
     }
 
-    /// Warns if a UPS reports LB too late.
-    fn compare(&self, ups: &Ups, seconds: u64, err: &mut ErrorLines) {
-        if seconds < self.needed {
-            let _ = writeln!(
-                err.begin(Level::Warning),
-                "UPS {}: battery.runtime.low is {seconds} s, but this machine may shut down as late as {} s after OB LB",
-                ups.name,
-                self.needed
-            );
-        }
-    }
-
     /// Has a server asked again, unless it was asked often enough.
-    fn ask_again(&mut self, mut ups: Ups, err: &mut ErrorLines) {
+    fn ask_again(&mut self, mut ups: AskedUps, err: &mut ErrorLines) {
         ups.tries = ups.tries.saturating_add(1);
         if ups.tries < self.patience.tries {
             let _ = self.left.push(ups);
@@ -187,7 +195,7 @@ impl<'r, R: Processes> LowRuntimes<'r, R> {
         if self.left.is_empty() || !self.questions.has_room() {
             return;
         }
-        self.pause = self.patience.pause;
+        self.pause = self.patience.steps_in(self.patience.pause);
         let ups = self.left.remove(0);
         if let Err(ups) = self.ask(ups) {
             self.ask_again(ups, err);
@@ -195,7 +203,7 @@ impl<'r, R: Processes> LowRuntimes<'r, R> {
     }
 
     /// Begins to ask for a UPS, or gives it back.
-    fn ask(&mut self, ups: Ups) -> Result<(), Ups> {
+    fn ask(&mut self, ups: AskedUps) -> Result<(), AskedUps> {
         match Program::new(self.alloc, "upsc", &[ups.name.as_str(), LOW_RUNTIME]) {
             Ok(upsc) => self.questions.start(upsc, ups),
             Err(AllocError) => Err(ups),
@@ -229,7 +237,7 @@ fn ask_all<R: Processes>(
     runtimes: &mut LowRuntimes<'_, R>,
     err: &mut ErrorLines,
 ) {
-    for _ in 0..CHECK_STEPS {
+    for _ in 0..CHECK.steps_in(CHECK_MAX) {
         if !runtimes.step(err) {
             break;
         }
@@ -244,17 +252,8 @@ fn ask_all<R: Processes>(
     runtimes.end();
 }
 
-/// Reports that a server takes longer for an answer than upsmon waits while a UPS is on battery.
-fn tell_late(ups: &Ups, err: &mut ErrorLines) {
-    let _ = writeln!(
-        err.begin(Level::Warning),
-        "UPS {}: no answer within {ANSWER_ON_BATTERY} s: {LATE_ANSWERS}",
-        ups.name
-    );
-}
-
 /// Reports that a UPS isn't known to say LB early enough.
-fn tell_unknown(ups: &Ups, err: &mut ErrorLines) {
+fn tell_unknown(ups: &AskedUps, err: &mut ErrorLines) {
     let _ = writeln!(
         err.begin(Level::Warning),
         "UPS {}: battery.runtime.low is unknown",
@@ -262,27 +261,16 @@ fn tell_unknown(ups: &Ups, err: &mut ErrorLines) {
     );
 }
 
-/// How many seconds this machine needs by a configuration, and the UPSes that are asked for.
-fn asked(
+/// Returns the UPSes that feed the machine of a configuration, and none if it needs no UPS.
+fn upses_of(
     alloc: Global,
     config: &MonConfig,
     generation: u32,
-) -> Result<(u64, Vec<Ups>), AllocError> {
-    match Stopping::of(config) {
-        Stopping::Within { seconds, .. } => Ok((
-            seconds,
-            upses_of(alloc, &config.monitors.lines, generation)?,
-        )),
-        Stopping::Never => Ok((0, Vec::new(alloc))),
-    }
-}
-
-/// The UPSes of the lines that feed this machine.
-fn upses_of(alloc: Global, lines: &[Monitored], generation: u32) -> Result<Vec<Ups>, AllocError> {
-    let mut upses = Vec::with_capacity(alloc, lines.len())?;
-    for line in lines {
-        if line.power.value > 0 {
-            upses.push(Ups {
+) -> Result<Vec<AskedUps>, AllocError> {
+    let mut upses = Vec::new(alloc);
+    for line in &config.monitors.lines {
+        if line.power.value > 0 && config.min_supplies.value > 0 {
+            upses.push(AskedUps {
                 name: String::from_str(alloc, text_of(&line.written))?,
                 tries: 0,
                 generation,
@@ -292,14 +280,11 @@ fn upses_of(alloc: Global, lines: &[Monitored], generation: u32) -> Result<Vec<U
     Ok(upses)
 }
 
-/// Returns the seconds that the process printed. `None` unless it ended with status 0.
-fn answer_of<P: OpenProcess>(question: &mut Question<P, Ups>) -> Option<u64> {
+/// Returns the whole seconds of what the process printed: a number such as `120` or `120.5`, with a line feed after it. `None`
+/// unless it ended with status 0.
+fn answer_of<P: OpenProcess>(question: &mut Question<P, AskedUps>) -> Option<u64> {
     let mut answer = [0; ANSWER_MAX];
-    seconds_in(question.answer(&mut answer)?)
-}
-
-/// Returns the whole seconds of a number such as `120` or `120.5`, with a line feed after it.
-fn seconds_in(answer: &[u8]) -> Option<u64> {
-    let digits = answer.split(|byte| matches!(*byte, b'.' | b'\n')).next()?;
+    let printed = question.answer(&mut answer)?;
+    let digits = printed.split(|byte| matches!(*byte, b'.' | b'\n')).next()?;
     str::from_utf8(digits).ok()?.parse().ok()
 }

@@ -1,28 +1,30 @@
 //! upsmon: a monitor that decides when to halt its machine.
 
-use crate::command_line::{Order, Task, order_of};
+use crate::beginning::Beginning;
+use crate::command_line::{Task, read_words};
 use crate::faulty_file::last_flag_in;
 use crate::forcing::force_shutdowns;
-use crate::halt::{HaltFault, check_flag, halt_heap};
+use crate::halt::halt_heap;
 use crate::hindrance::warn_of_hindrances;
 use crate::low_runtime::check_low_runtimes;
-use crate::machine::MachineStarter;
+use crate::machine::Machine;
+use crate::nuts_options::NUTS_OPTIONS;
 use crate::obeying::obey_input;
-use crate::power_down_flag::{FlagState, PowerDownFlag};
-use crate::reloader::Reloader;
+use crate::power_down_flag::{FlagState, PowerDownFlag, check_flag};
+use crate::reloader::UpsmonReloader;
 use crate::room::check_room;
 use crate::stopping::Stopping;
-use crate::upsmon_fault::{UpsmonFault, tell_failure};
+use crate::upsmon_fault::UpsmonFault;
 use crate::warning::read_and_warn;
 use crate::watching::watch_over_sockets;
+use linked_list_allocator::LocalHeap;
 use nut_conf::MonConfig;
 use nut_log::LogStream;
 use nut_poll::{ErrorLines, LossyLines};
-use nut_program::{Failure, FileFault, Streams, read_conf, refuse_start};
+use nut_program::{Failure, FileFault, Streams, read_conf, way_of};
 use std::alloc::{Alloc, Global};
 use std::convert::AsStr;
 use std::env::Env;
-use std::io;
 use std::io::{Read, Stdout};
 use std::net::Net;
 use std::process::Processes;
@@ -81,12 +83,13 @@ pub fn run_upsmon<R, S: AsStr, I: Read>(
 where
     R: Wait + Files + Net + Clock + Processes + Env + Alloc,
 {
-    match LossyLines::new(rt, alloc, streams.err) {
-        Ok(mut err) => match run(rt, alloc, words, input, streams, &mut err) {
-            Ok(status) => status,
-            Err(failure) => tell_failure(alloc, words, failure, streams.out, &mut err),
-        },
-        Err(error) => refuse_start(&error, &mut streams.err),
+    let mut err = LossyLines::new(streams.err);
+    match run(rt, alloc, words, input, streams, &mut err) {
+        Ok(status) => status,
+        Err(failure) => {
+            let way = way_of(&NUTS_OPTIONS, words);
+            failure.tell_of_nuts(alloc, way, &mut streams.out, &mut err)
+        }
     }
 }
 
@@ -102,32 +105,18 @@ fn run<R, S: AsStr, I: Read>(
 where
     R: Wait + Files + Net + Clock + Processes + Env + Alloc,
 {
-    let order = order_of(rt, alloc, words)?;
-    carry_out(rt, alloc, &order, input, streams, err)
-}
-
-/// Does what this order asks for. Returns the exit status.
-fn carry_out<R, I: Read>(
-    rt: &R,
-    alloc: Global,
-    order: &Order<'_>,
-    input: &mut I,
-    streams: Streams,
-    err: &mut ErrorLines,
-) -> Result<u8, Failure<UpsmonFault>>
-where
-    R: Wait + Files + Net + Clock + Processes,
-{
-    let folder = order.folder.as_str();
-    match order.task {
+    let asked = read_words(rt, alloc, words)?;
+    let task = asked.task;
+    let folder = asked.folder.as_str();
+    match task {
         Task::LookForFlag => look_for_flag(rt, alloc, folder, streams.out, err),
         Task::Check => check_file(rt, alloc, folder, streams.out, err),
         Task::CheckRoom => {
             check_room(
                 rt,
                 alloc,
-                order.machines.as_slice(),
-                order.delays.as_slice(),
+                asked.machines.as_slice(),
+                asked.delays.as_slice(),
                 streams.out,
                 err,
             )
@@ -203,7 +192,7 @@ where
     let config = read_and_warn(rt, alloc, folder, err)?;
     Stopping::of(&config).tell(&mut out)?;
     check_flag(rt, alloc, &config, err)?;
-    let stops = warn_of_hindrances(rt, alloc, &config, err)?;
+    let stops = warn_of_hindrances(rt, alloc, &config, &mut LossyLines::new(out), err)?;
     check_low_runtimes(rt, alloc, &config, err)?;
     Ok(u8::from(!stops))
 }
@@ -239,22 +228,28 @@ fn guard<R>(
 where
     R: Wait + Files + Net + Clock + Processes,
 {
-    let mut reloader = Reloader::new(rt, alloc, folder, is_quiet)?;
+    let mut reloader = UpsmonReloader::new(rt, alloc, folder, is_quiet)?;
     let first = reloader.read_first(rt, err)?;
-    let heap = halt_heap(alloc).ok();
-    let starter = MachineStarter {
-        rt,
-        alloc,
-        heap: &heap,
-        reloader: &mut reloader,
-        streams,
-        halter,
-    };
-    status_of(watch_over_sockets(rt, alloc, starter, first, is_quiet, err))
+    let heap = halt_heap(alloc);
+    watch_and_halt(rt, alloc, &heap, &mut reloader, first, halter, streams, err)
 }
 
-/// Returns the exit status after a watch: 0 if the machine was halted.
-fn status_of(ended: io::Result<Result<(), HaltFault>>) -> Result<u8, Failure<UpsmonFault>> {
-    ended??;
+/// Watches from this beginning on, and halts the machine with the memory of this heap.
+fn watch_and_halt<'r, R>(
+    rt: &'r R,
+    alloc: Global,
+    heap: &'r Option<LocalHeap>,
+    reloader: &'r mut UpsmonReloader,
+    first: Beginning,
+    halter: Option<u32>,
+    streams: Streams,
+    err: &mut ErrorLines,
+) -> Result<u8, Failure<UpsmonFault>>
+where
+    R: Wait + Files + Net + Clock + Processes,
+{
+    let is_quiet = reloader.is_quiet();
+    let machine = Machine::new(rt, alloc, heap, reloader, streams, halter);
+    watch_over_sockets(rt, alloc, machine, first, is_quiet, err)??;
     Ok(0)
 }

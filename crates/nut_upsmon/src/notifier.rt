@@ -1,18 +1,22 @@
 //! Prints a monitor's notices, and runs NOTIFYCMD with them.
 
 use crate::low_runtime::LowRuntimes;
-use crate::notify_command::{Call, script_in, start};
 use crate::process_state::is_running;
 use crate::shutdown_report::tell_left;
 use nut_conf::{MESSAGE_MAX, MonConfig, TARGET_MAX};
 use nut_log::{Level, Lines, LogStream};
 use nut_monitor::{Monitor, Notice};
-use nut_poll::{ErrorLines, LossyLines, OutputLines};
+use nut_poll::{ErrorLines, LossyLines, OutputLines, shell_command, text_of, unstopped};
 use std::alloc::{AllocError, Global};
 use std::io;
 use std::io::{Stdout, Write};
-use std::net::Net;
-use std::process::{Child, Processes};
+use std::process::{Child, Command, Processes};
+
+/// What the script of NOTIFYCMD begins with.
+const BEGINNING: &str = unstopped!("");
+
+/// What it begins with if standard output is for orders to the process that halts.
+const BEGINNING_ASIDE: &str = unstopped!("exec >&2; ");
 
 /// The greatest length of a text in bytes: that of a message, with a target in the place of its `%s`.
 const TEXT_MAX: usize = MESSAGE_MAX + TARGET_MAX - 2;
@@ -40,38 +44,35 @@ pub struct Notifier<'a, R: Processes> {
 }
 
 impl<'a, R: Processes> Notifier<'a, R> {
-    /// Makes a notifier that prints on `out`, and runs no command yet. It allocates room for the longest text and for the runs.
-    ///
-    /// # Errors
-    ///
-    /// If memory or descriptors aren't available.
+    /// Makes a notifier that prints on `out`, and takes no memory yet. If it `is_aside`, notices are printed on standard error.
     pub fn new(
-        rt: &'a R,
+        processes: &'a R,
         alloc: Global,
         out: LogStream<Stdout>,
         is_aside: bool,
-    ) -> io::Result<Notifier<'a, R>>
-    where
-        R: Net,
-    {
-        Ok(Notifier {
-            processes: rt,
+    ) -> Notifier<'a, R> {
+        Notifier {
+            processes,
             alloc,
-            out: LossyLines::new(rt, alloc, out)?,
-            text: Vec::with_capacity(alloc, TEXT_MAX)?,
+            out: LossyLines::new(out),
+            text: Vec::new(alloc),
             script: None,
-            running: Vec::with_capacity(alloc, RUNNING_MAX)?,
-            runtimes: LowRuntimes::watched(rt, alloc),
+            running: Vec::new(alloc),
+            runtimes: LowRuntimes::watched(processes, alloc),
             is_aside,
-        })
+        }
     }
 
-    /// Gives notices by this configuration from now on. Runs of the command that haven't ended continue.
+    /// Gives notices by this configuration from now on. Runs of the command that haven't ended continue. There is room for the
+    /// longest text and for as many runs as may be.
     ///
     /// # Errors
     ///
     /// [`AllocError`] if memory cannot be allocated. Nothing has changed then.
     pub fn restart(&mut self, config: &MonConfig) -> Result<(), AllocError> {
+        self.text.clear();
+        self.text.reserve(TEXT_MAX)?;
+        self.running.reserve(RUNNING_MAX)?;
         let script = script_in(self.alloc, config, self.is_aside)?;
         self.runtimes.restart(config)?;
         self.script = script;
@@ -114,12 +115,14 @@ impl<'a, R: Processes> Notifier<'a, R> {
             );
             return;
         }
-        let call = Call {
-            kind: notice.kind.word(),
-            ups: ups_of(monitor.config(), notice),
-            text: &self.text,
-        };
-        match start(self.processes, self.alloc, script.as_str(), call) {
+        match start(
+            self.processes,
+            self.alloc,
+            script.as_str(),
+            &self.text,
+            monitor,
+            notice,
+        ) {
             Ok(child) => {
                 let _ = self.running.push(child);
             }
@@ -167,4 +170,50 @@ fn ups_of(config: &MonConfig, notice: Notice) -> &[u8] {
         Some(monitored) => monitored.written.as_slice(),
         None => b"",
     }
+}
+
+/// Returns the script of the command that upsmon.conf sets, if it sets one: the command with the text of a notice as its last
+/// argument. The shell inserts the text itself, so that no byte of it is read as a command. If it `is_aside`, it writes to
+/// standard error alone.
+fn script_in(
+    alloc: Global,
+    config: &MonConfig,
+    is_aside: bool,
+) -> Result<Option<String>, AllocError> {
+    let Some(command) = &config.notify_cmd else {
+        return Ok(None);
+    };
+    let command = text_of(command.as_bytes());
+    let beginning = if is_aside { BEGINNING_ASIDE } else { BEGINNING };
+    Ok(Some(format!(in alloc; "{beginning}{command} \"$1\"")?))
+}
+
+/// Starts a shell that runs a script of [`script_in`] with a notice of this monitor, and its text.
+///
+/// # Errors
+///
+/// That of the system, or a lack of memory.
+fn start<R: Processes>(
+    processes: &R,
+    alloc: Global,
+    script: &str,
+    text: &[u8],
+    monitor: &Monitor,
+    notice: Notice,
+) -> io::Result<Child<R::Started>> {
+    let mut shell = shell_command(alloc, script, text_of(text))?;
+    let ups = ups_of(monitor.config(), notice);
+    spawn(processes, &mut shell, notice.kind.word(), ups)
+}
+
+/// Starts this shell with the type of a notice and its UPS, which are in its environment.
+fn spawn<R: Processes>(
+    processes: &R,
+    shell: &mut Command<Global>,
+    kind: &[u8],
+    ups: &[u8],
+) -> io::Result<Child<R::Started>> {
+    shell.env("NOTIFYTYPE", text_of(kind))?;
+    shell.env("UPSNAME", text_of(ups))?;
+    shell.spawn(processes)
 }

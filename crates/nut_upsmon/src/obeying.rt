@@ -2,7 +2,8 @@
 
 ghost use Rattle.std.specs.Prelude.{None};
 
-use crate::halt::{Halt, HaltFault, UnreadyFault, clear_left_flag, halt_heap};
+use crate::halt::{HaltFault, PreparedHalt, UnreadyFault, halt_heap};
+use crate::power_down_flag::clear_left_flag;
 use crate::upsmon_fault::UpsmonFault;
 use arrayvec::ArrayVec;
 use linked_list_allocator::LocalHeap;
@@ -10,14 +11,13 @@ use nut_conf::MonConfig;
 use nut_halter::{Halter, Order, Orders, obey};
 use nut_log::{Level, Lines};
 use nut_poll::{ErrorLines, LossyLines, OutputLines};
-use nut_program::{Failure, FileFault, Streams, read_conf};
-use std::alloc::Global;
+use nut_program::{Failure, Streams, read_conf};
+use std::alloc::{AllocError, Global};
 use std::io::{ErrorKind, Read, Write};
-use std::net::Net;
+use std::mem;
 use std::process::Processes;
 use std::rt::Files;
 use std::time::Clock;
-use std::{fmt, io, mem};
 
 /// More bytes than the longest order has.
 const ORDER_MAX: usize = 16;
@@ -37,18 +37,16 @@ pub fn obey_input<R, I: Read>(
     err: &mut ErrorLines,
 ) -> Result<u8, Failure<UpsmonFault>>
 where
-    R: Files + Net + Clock + Processes,
+    R: Files + Clock + Processes,
 {
     let config: MonConfig = read_conf(rt, alloc, folder)?;
     // before anything that memory or descriptors may be lacking for
     clear_left_flag(rt, alloc, &config, err)?;
-    let heap = halt_heap(alloc)?;
+    let heap = halt_heap(alloc);
     let mut machine = HaltedMachine::new(rt, alloc, folder, &heap, config, streams)?;
     match obey(&mut Input { input }, &mut machine) {
-        Some(halted) => {
-            halted?;
-            Ok(0)
-        }
+        Some(Ok(())) => Ok(0),
+        Some(Err(fault)) => Err(Failure::from(fault)),
         None => Err(Failure::Own(UpsmonFault::NoWatch)),
     }
 }
@@ -62,9 +60,24 @@ struct Input<'i, I> {
 impl<'i, I: Read> Orders for Input<'i, I> {
     ghost given = { λ i. None };
 
-    /// An input that can't be read has ended.
+    /// Reads the next order. Other lines are passed over. An input that can't be read has ended.
     fn next(&mut self) -> Option<Order> {
-        next_order(self.input).ok().flatten()
+        let mut line: ArrayVec<u8, ORDER_MAX> = ArrayVec::new();
+        for _ in 0..u64::MAX {
+            let byte = next_byte(self.input)?;
+            if byte != b'\n' {
+                if !line.is_full() {
+                    line.push(byte);
+                }
+                continue;
+            }
+            let order = Order::of(&line);
+            if order.is_some() {
+                return order;
+            }
+            line.clear();
+        }
+        None
     }
 }
 
@@ -74,42 +87,59 @@ struct HaltedMachine<'r, R: Processes> {
     rt: &'r R,
     alloc: Global,
     folder: &'r str,
+    heap: &'r Option<LocalHeap>,
     config: MonConfig,
-    halt: Halt<'r, 'r, R>,
+    halt: PreparedHalt<'r, 'r, R>,
     out: OutputLines,
     err: ErrorLines,
     /// Whether a changed upsmon.conf couldn't be taken up yet.
     is_late: bool,
 }
 
-impl<'r, R: Files + Net + Processes + Clock> HaltedMachine<'r, R> {
+impl<'r, R: Files + Processes + Clock> HaltedMachine<'r, R> {
     /// Prepares the halt of this configuration, with the memory of `heap`.
     ///
     /// # Errors
     ///
-    /// If memory isn't available.
+    /// [`AllocError`] if memory cannot be allocated.
     fn new(
         rt: &'r R,
         alloc: Global,
         folder: &'r str,
-        heap: &'r LocalHeap,
+        heap: &'r Option<LocalHeap>,
         config: MonConfig,
         streams: Streams,
-    ) -> io::Result<HaltedMachine<'r, R>> {
-        let mut err = LossyLines::new(rt, alloc, streams.err)?;
-        let mut halt = Halt::none(rt, alloc, heap).with(&config)?;
-        halt.ready_flag(&config, &mut err);
-        halt.begin(&mut err);
+    ) -> Result<HaltedMachine<'r, R>, AllocError> {
+        let mut err = LossyLines::new(streams.err);
+        let mut halt = PreparedHalt::new(rt, alloc, heap, &config)?;
+        halt.begin(&config, &mut err);
         Ok(HaltedMachine {
             rt,
             alloc,
             folder,
+            heap,
             config,
             halt,
-            out: LossyLines::new(rt, alloc, streams.out)?,
+            out: LossyLines::new(streams.out),
             err,
             is_late: false,
         })
+    }
+
+    /// Prepares the halt of a changed upsmon.conf, and then gives up that of the former one. If that fails, nothing has
+    /// changed.
+    fn try_take_up(&mut self) -> Result<(), UnreadyFault> {
+        let changed: MonConfig = read_conf(self.rt, self.alloc, self.folder)?;
+        let next = PreparedHalt::changed(self.rt, self.alloc, self.heap, &changed)?;
+        next.ready_changed_flag(&self.config, &changed, &mut self.err);
+        drop(mem::replace(&mut self.config, changed));
+        let former = mem::replace(&mut self.halt, next);
+        if let Some(mut shell) = former.give_up() {
+            // It has run nothing: it waits, or was stopped.
+            let _ = shell.kill();
+            let _ = shell.wait();
+        }
+        Ok(())
     }
 }
 
@@ -145,87 +175,16 @@ impl<'r, R: Files + Processes + Clock> Halter for HaltedMachine<'r, R> {
     }
 }
 
-impl<'r, R: Files + Processes + Clock> HaltedMachine<'r, R> {
-    /// Prepares the halt of a changed upsmon.conf, and then gives up that of the former one. If that fails, nothing has
-    /// changed.
-    fn try_take_up(&mut self) -> Result<(), LateFault> {
-        let changed: MonConfig = read_conf(self.rt, self.alloc, self.folder)?;
-        let next = self.halt.changed(&changed)?;
-        next.ready_changed_flag(&self.config, &changed, &mut self.err);
-        drop(mem::replace(&mut self.config, changed));
-        end_waiting(mem::replace(&mut self.halt, next));
-        Ok(())
-    }
-}
-
-/// Gives a halt up, and ends its shell, which has run nothing: it waits, or was stopped.
-fn end_waiting<R: Files + Processes + Clock>(halt: Halt<'_, '_, R>) {
-    if let Some(mut shell) = halt.give_up() {
-        let _ = shell.kill();
-        let _ = shell.wait();
-    }
-}
-
-/// Why the halt is still that of an earlier upsmon.conf.
-#[derive(Drop)]
-enum LateFault {
-    File(FileFault<'static>),
-    Unready(UnreadyFault),
-}
-
-impl fmt::Display for LateFault {
-    fn fmt<W: fmt::Write>(&self, f: &mut fmt::Formatter<W>) -> fmt::Result {
-        match self {
-            LateFault::File(fault) => write!(f, "{fault}"),
-            LateFault::Unready(fault) => write!(f, "{fault}"),
-        }
-    }
-}
-
-impl From<FileFault<'static>> for LateFault {
-    fn from(fault: FileFault<'static>) -> Self {
-        LateFault::File(fault)
-    }
-}
-
-impl From<UnreadyFault> for LateFault {
-    fn from(fault: UnreadyFault) -> Self {
-        LateFault::Unready(fault)
-    }
-}
-
-/// Reads the next order. Other lines are passed over. Returns none at the end of the input.
-fn next_order<I: Read>(input: &mut I) -> io::Result<Option<Order>> {
-    let mut line: ArrayVec<u8, ORDER_MAX> = ArrayVec::new();
-    for _ in 0..u64::MAX {
-        match next_byte(input)? {
-            None => return Ok(None),
-            Some(b'\n') => {
-                if let Some(order) = Order::of(&line) {
-                    return Ok(Some(order));
-                }
-                line.clear();
-            }
-            Some(byte) => {
-                if !line.is_full() {
-                    line.push(byte);
-                }
-            }
-        }
-    }
-    Ok(None)
-}
-
-/// Reads a byte. Returns none at the end of the input.
-fn next_byte<I: Read>(input: &mut I) -> io::Result<Option<u8>> {
+/// Reads a byte. Returns none if the input has ended, or can't be read.
+fn next_byte<I: Read>(input: &mut I) -> Option<u8> {
     let mut byte = [0; 1];
     for _ in 0..u64::MAX {
         match input.read(&mut byte) {
-            Ok(0) => return Ok(None),
-            Ok(_) => return Ok(Some(byte[0])),
+            Ok(0) => return None,
+            Ok(_) => return Some(byte[0]),
             Err(error) if error.kind() == ErrorKind::Interrupted => {}
-            Err(error) => return Err(error),
+            Err(_) => return None,
         }
     }
-    Ok(None)
+    None
 }

@@ -3,7 +3,9 @@
 ghost use Rattle.std.specs.Prelude.{◌≡◌, ◌↔◌, ◌⊎◌, []};
 
 use nut_conf::MonConfig;
-use nut_poll::text_of;
+use nut_log::{Level, Lines};
+use nut_monitor::has_primary;
+use nut_poll::{ErrorLines, text_of};
 use std::alloc::{AllocError, Global};
 use std::fs::{File, OpenFile, OpenOptions};
 use std::io::{ErrorKind, Read, Write};
@@ -36,13 +38,15 @@ pub enum FlagState {
     Foreign,
 }
 
-/// Why a flag isn't set.
+/// Why a flag isn't set, or not removed.
 #[derive(Drop)]
 pub enum FlagFault {
     /// Something else has its name.
     Foreign,
     /// It cannot be written.
     NotWritten(io::Error),
+    /// It cannot be removed, or what has its name cannot be found out.
+    NotRemoved(io::Error),
 }
 
 impl fmt::Display for FlagFault {
@@ -50,6 +54,7 @@ impl fmt::Display for FlagFault {
         match self {
             FlagFault::Foreign => write!(f, "was not written by upsmon; left unchanged"),
             FlagFault::NotWritten(error) => write!(f, "cannot be written: {error}"),
+            FlagFault::NotRemoved(error) => write!(f, "cannot be removed: {error}"),
         }
     }
 }
@@ -84,59 +89,53 @@ impl PowerDownFlag {
         }))
     }
 
-    /// Returns the name of its file.
-    pub fn path(&self) -> &str {
-        self.path.as_str()
-    }
-
     /// Returns what is found under its name.
     ///
     /// # Errors
     ///
     /// If that cannot be found out, for example in a folder that may not be searched.
     pub fn state(&self, files: &impl Files) -> io::Result<FlagState> {
-        state_of(files, self.path())
+        state_of(files, self.path.as_str())
     }
 
-    /// Removes the file if it is the flag. Returns what was found.
-    ///
-    /// # Errors
-    ///
-    /// If what is there cannot be found out, or the flag cannot be removed.
-    pub fn clear(&self, files: &impl Files) -> io::Result<FlagState> {
-        let found = self.state(files)?;
-        if found == FlagState::Set {
-            fs::remove_file(files, self.path())?;
-        }
-        Ok(found)
-    }
-
-    /// Writes the new file that is to become the flag, beside it, unless the flag or something that it may not replace has its
-    /// name already, or that cannot be found out.
-    ///
-    /// # Errors
-    ///
-    /// If it cannot be written.
-    pub fn make_ready(&self, files: &impl Files) -> io::Result<()> {
+    /// Removes the file if an earlier shutdown left it set: otherwise the scripts of the next ordinary shutdown would have the
+    /// UPS cut its power. That it was removed is written to `err`. Anything else of that name is reported and left unchanged.
+    pub fn clear(&self, files: &impl Files, err: &mut ErrorLines) {
+        let path = self.path.as_str();
         match self.state(files) {
-            Ok(FlagState::Absent | FlagState::Empty) => self.write_fresh(files),
-            Ok(FlagState::Set | FlagState::Foreign) | Err(_) => Ok(()),
+            Ok(FlagState::Absent | FlagState::Empty) => {}
+            Ok(FlagState::Foreign) => self.tell(&FlagFault::Foreign, err),
+            Ok(FlagState::Set) => match fs::remove_file(files, path) {
+                Ok(()) => {
+                    let _ = writeln!(
+                        err.begin(Level::Notice),
+                        "POWERDOWNFLAG {path} of an earlier shutdown is removed"
+                    );
+                }
+                Err(error) => self.tell(&FlagFault::NotRemoved(error), err),
+            },
+            Err(error) => self.tell(&FlagFault::NotRemoved(error), err),
         }
     }
 
-    /// Finds out whether [`PowerDownFlag::make_ready`] succeeds, and leaves no file. A new file that is there and complete stays:
-    /// it may be that of an upsmon that watches.
-    ///
-    /// # Errors
-    ///
-    /// If the new file cannot be written.
-    pub fn try_ready(&self, files: &impl Files) -> io::Result<()> {
-        if self.is_ready(files) {
-            return Ok(());
+    /// Writes the new file that is to become the flag, beside it, if this configuration, which names the flag, has a primary
+    /// line. Why it can't is written to `err`: there is time to mend it. Nothing is done, or told, if the flag or something that
+    /// it may not replace has its name already, or that cannot be found out: [`PowerDownFlag::clear`] has told it.
+    pub fn make_ready(&self, files: &impl Files, config: &MonConfig, err: &mut ErrorLines) {
+        if !has_primary(config) {
+            return;
         }
-        let written = self.make_ready(files);
-        let _ = fs::remove_file(files, self.fresh.as_str());
-        written
+        if let Ok(FlagState::Absent | FlagState::Empty) = self.state(files)
+            && let Err(error) = self.write_fresh(files)
+        {
+            self.tell(&FlagFault::NotWritten(error), err);
+        }
+    }
+
+    /// Reports why the flag isn't set, couldn't be if the machine were to be halted now, or isn't removed.
+    pub fn tell(&self, fault: &FlagFault, err: &mut ErrorLines) {
+        let path = self.path.as_str();
+        let _ = writeln!(err.begin(Level::Warning), "POWERDOWNFLAG {path} {fault}");
     }
 
     /// Sets the flag: the new file beside it, whose name ends in `.new`, takes its name, also from an empty file. If the new
@@ -153,7 +152,7 @@ impl PowerDownFlag {
         if !self.is_ready(files) {
             self.write_fresh(files)?;
         }
-        fs::rename(files, self.fresh.as_str(), self.path())?;
+        fs::rename(files, self.fresh.as_str(), self.path.as_str())?;
         Ok(())
     }
 
@@ -172,6 +171,56 @@ impl PowerDownFlag {
             .open(files, self.fresh.as_str())?;
         file.write_all(LINE)
     }
+}
+
+/// Reports what a start tells of the POWERDOWNFLAG of a configuration, except that it removes one. No flag is removed, and no
+/// new file is left.
+///
+/// # Errors
+///
+/// [`AllocError`] if memory cannot be allocated.
+pub fn check_flag(
+    files: &impl Files,
+    alloc: Global,
+    config: &MonConfig,
+    err: &mut ErrorLines,
+) -> Result<(), AllocError> {
+    let Some(flag) = PowerDownFlag::of(alloc, config)? else {
+        return Ok(());
+    };
+    match flag.state(files) {
+        Ok(FlagState::Foreign) => flag.tell(&FlagFault::Foreign, err),
+        // A new file that is there and complete stays: it may be that of an upsmon that watches.
+        Ok(FlagState::Absent | FlagState::Empty) if has_primary(config) && !flag.is_ready(files) =>
+            {
+                let written = flag.write_fresh(files);
+                let _ = fs::remove_file(files, flag.fresh.as_str());
+                if let Err(error) = written {
+                    flag.tell(&FlagFault::NotWritten(error), err);
+                }
+            }
+        Ok(FlagState::Absent | FlagState::Empty | FlagState::Set) => {}
+        Err(error) => flag.tell(&FlagFault::NotRemoved(error), err),
+    }
+    Ok(())
+}
+
+/// Removes the POWERDOWNFLAG of a configuration as [`PowerDownFlag::clear`] does. This comes before there is a halt: if upsmon
+/// can't begin to watch, a flag that was left is gone all the same.
+///
+/// # Errors
+///
+/// [`AllocError`] if memory cannot be allocated. Then nothing is removed.
+pub fn clear_left_flag(
+    files: &impl Files,
+    alloc: Global,
+    config: &MonConfig,
+    err: &mut ErrorLines,
+) -> Result<(), AllocError> {
+    if let Some(flag) = PowerDownFlag::of(alloc, config)? {
+        flag.clear(files, err);
+    }
+    Ok(())
 }
 
 /// Returns what is found under a name. Only a plain file is opened, so that no pipe blocks and no link is followed.

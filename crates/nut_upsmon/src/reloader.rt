@@ -48,7 +48,7 @@ impl Reload {
 /// a UPS that it continues watching has OB or FSD: if that server then said nothing more, this machine would have to be
 /// halted, and a new monitor wouldn't know.
 #[derive(Drop)]
-pub struct Reloader {
+pub struct UpsmonReloader {
     alloc: Global,
     folder: String,
     file: ReloadFile,
@@ -59,7 +59,7 @@ pub struct Reloader {
     is_wait_told: bool,
 }
 
-impl Reloader {
+impl UpsmonReloader {
     /// Returns the reloader of the upsmon.conf in this folder. If it is to be quiet, it says only what the file should set
     /// otherwise, and why nothing is reloaded.
     ///
@@ -71,12 +71,12 @@ impl Reloader {
         alloc: Global,
         folder: &str,
         is_quiet: bool,
-    ) -> Result<Reloader, AllocError> {
+    ) -> Result<UpsmonReloader, AllocError> {
         let folder = String::from_str(alloc, folder)?;
         // upsd may have the folder, too, if its file is there
-        let beside = UpsdConf::file_name();
+        let beside = UpsdConf::FILE_NAME;
         let file = ReloadFile::new(files, alloc, folder.as_str(), beside, TURN)?;
-        Ok(Reloader {
+        Ok(UpsmonReloader {
             alloc,
             folder,
             file,
@@ -157,16 +157,17 @@ impl Reloader {
         }
     }
 
-    /// Reads upsmon.conf. If it can't be read, or nothing in it has changed, that is reported.
+    /// Reads upsmon.conf. If it can't be read, or nothing in it has changed, that is reported: the links stay.
     fn read(&mut self, files: &impl Files, former: &MonConfig, err: &mut ErrorLines) {
         self.is_wait_told = false;
-        self.waiting = match self.read_reload(files, former, err) {
-            Ok(reload) => self.unless_same(reload, err),
-            Err(fault) => {
-                tell_not_reloaded(&fault, fault.remark(), err);
-                None
+        self.waiting = None;
+        match self.read_reload(files, former, err) {
+            Ok(reload) if reload.changes.are_none() => {
+                self.reports(err).tell(ReloadReport::Reloaded(""));
             }
-        };
+            Ok(reload) => self.waiting = Some(reload),
+            Err(fault) => tell_not_reloaded(&fault, fault.remark(), err),
+        }
     }
 
     /// Reads upsmon.conf, compares it, and makes what its watch begins with.
@@ -178,16 +179,6 @@ impl Reloader {
     ) -> Result<Reload, FileFault<'static>> {
         let config = read_and_warn(files, self.alloc, self.folder.as_str(), err)?;
         Reload::of(self.alloc, former, config).map_err(|_| FileFault::Memory)
-    }
-
-    /// Returns a configuration in which something has changed. If nothing has, that is reported: the links stay.
-    fn unless_same(&self, reload: Reload, err: &mut ErrorLines) -> Option<Reload> {
-        if reload.changes.are_none() {
-            let changes = reload.changes.as_str();
-            self.reports(err).tell(ReloadReport::Reloaded(changes));
-            return None;
-        }
-        Some(reload)
     }
 
     /// Returns the configuration that waits, unless it has to continue waiting, which is reported once.

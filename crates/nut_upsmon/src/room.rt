@@ -6,7 +6,7 @@ ghost use Rattle.nut_in_time.specs.InTime.{seen_by};
 ghost use Rattle.nut_in_time.specs.Room.{accepted_in, forced_in, host_sync_for, other_halted_in};
 ghost use Rattle.nut_upsmon.specs.Stopping.{prompt};
 
-use crate::stopping::{DELAY, Stopping, halts_within, seen_within, stops_within};
+use crate::stopping::{DELAY, Stopping, halts_within, seen_within};
 use crate::upsmon_fault::UpsmonFault;
 use crate::warning::Warning;
 use nut_conf::{MonConfig, Monitored, Role};
@@ -14,18 +14,18 @@ use nut_log::{Level, Lines, LogStream};
 use nut_monitor::has_primary;
 use nut_monitor_sockets::ANSWER_ON_BATTERY;
 use nut_poll::ErrorLines;
-use nut_program::{Failure, FileFault, read_conf, warn};
+use nut_program::{Failure, FileFault, read_conf};
 use std::alloc::Global;
+use std::io;
 use std::io::{Stdout, Write};
 use std::rt::Files;
-use std::{fmt, io};
 
 /// How many seconds the clock of a machine may gain or lose against another's while the room stops.
 const DRIFT: u64 = 1;
 
 /// A machine of a room.
 #[derive(Drop)]
-struct Machine<'a> {
+struct RoomMachine<'a> {
     /// The folder of its upsmon.conf.
     folder: &'a str,
     config: MonConfig,
@@ -47,13 +47,13 @@ pub fn check_room(
     alloc: Global,
     folders: &[&str],
     delays: &[&str],
-    out: LogStream<Stdout>,
+    mut out: LogStream<Stdout>,
     err: &mut ErrorLines,
 ) -> Result<u8, Failure<UpsmonFault>> {
     let mut machines = Vec::new(alloc);
     for folder in folders {
         let config = read_machine(files, alloc, folder, err)?;
-        machines.push(Machine {
+        machines.push(RoomMachine {
             folder,
             config,
             delay: DELAY,
@@ -62,7 +62,7 @@ pub fn check_room(
     for word in delays {
         set_delay(alloc, machines.as_mut_slice(), word)?;
     }
-    tell_room(machines.as_slice(), &mut Findings { out, err })?;
+    tell_room(machines.as_slice(), &mut out, err)?;
     Ok(0)
 }
 
@@ -83,7 +83,7 @@ fn read_machine(
 /// Sets the longest time for an answer on the machines that a word names as `FOLDER=SECONDS`.
 fn set_delay(
     alloc: Global,
-    machines: &mut [Machine<'_>],
+    machines: &mut [RoomMachine<'_>],
     word: &str,
 ) -> Result<(), Failure<UpsmonFault>> {
     let mut is_named = false;
@@ -107,29 +107,6 @@ fn delay_in(word: &str) -> Option<(&str, u32)> {
     Some((folder, seconds.parse().ok()?))
 }
 
-/// What an operator is told of a room. A machine is called by its folder.
-#[derive(Clone, Copy)]
-enum Finding<'a> {
-    /// A machine stops so soon.
-    Stops(&'a str, Stopping),
-    /// What a machine should set otherwise.
-    Warns(&'a str, Warning),
-    /// An answer takes longer on a machine than upsmon waits while a UPS is on battery.
-    TooSlow(&'a str, u32),
-    /// The UPSes of a machine are at several servers.
-    SeveralServers(&'a str),
-    /// A machine needs UPSes, and no machine is the primary of one of its own.
-    Alone(&'a str),
-    /// A primary supplies enough without the UPSes of which it is the primary.
-    Unneeded(&'a str),
-    /// No other machine needs the UPSes of a primary.
-    Unfollowed(&'a str),
-    /// The HOSTSYNC of a primary, and the most that another machine needs.
-    HostSync(&'a str, u64, Need<'a>),
-    /// Once a primary's UPSes are low, all machines that need them are halted within so many seconds.
-    Battery(&'a str, u64),
-}
-
 /// The HOSTSYNC that a machine needs.
 #[derive(Clone, Copy)]
 struct Need<'a> {
@@ -137,147 +114,115 @@ struct Need<'a> {
     host_sync: u64,
 }
 
-impl<'a> fmt::Display for Finding<'a> {
-    fn fmt<W: fmt::Write>(&self, f: &mut fmt::Formatter<W>) -> fmt::Result {
-        match self {
-            Finding::Stops(machine, stopping) => write!(f, "{machine}: {stopping}"),
-            Finding::Warns(machine, warning) => write!(f, "{machine}: {warning}"),
-            Finding::TooSlow(machine, delay) => write!(
-                f,
-                "{machine}: {delay} s for an answer are too long: upsmon gives a server up after {ANSWER_ON_BATTERY} s while a UPS is on battery, so nothing is known of this room"
-            ),
-            Finding::SeveralServers(machine) => write!(
-                f,
-                "{machine}: its UPSes are at several servers: HOSTSYNC and the battery are reckoned for one"
-            ),
-            Finding::Alone(machine) => write!(
-                f,
-                "{machine}: no machine here is the primary of its UPSes: none waits for it"
-            ),
-            Finding::Unneeded(primary) => write!(
-                f,
-                "{primary}: keeps running without the UPSes of which it is the primary: it forces no shutdown while their battery is low"
-            ),
-            Finding::Unfollowed(primary) => write!(
-                f,
-                "{primary}: no other machine here needs its UPSes"
-            ),
-            Finding::HostSync(primary, host_sync, need) if need.host_sync <= *host_sync => write!(
-                f,
-                "{primary}: HOSTSYNC {host_sync} is enough: {} needs the most, {}",
-                need.machine, need.host_sync
-            ),
-            Finding::HostSync(primary, host_sync, need) => write!(
-                f,
-                "{primary}: HOSTSYNC {host_sync} is too short: {} needs the most, {}",
-                need.machine, need.host_sync
-            ),
-            Finding::Battery(primary, seconds) => write!(
-                f,
-                "{primary}: battery.runtime.low: at least {seconds} s, and what a machine takes from SHUTDOWNCMD until it is off"
-            ),
-        }
-    }
-}
-
-impl<'a> Finding<'a> {
-    fn is_warning(self) -> bool {
-        match self {
-            Finding::Warns(..)
-            | Finding::TooSlow(..)
-            | Finding::SeveralServers(_)
-            | Finding::Alone(_)
-            | Finding::Unneeded(_) => true,
-            Finding::HostSync(_, host_sync, need) => host_sync < need.host_sync,
-            Finding::Stops(..) | Finding::Unfollowed(_) | Finding::Battery(..) => false,
-        }
-    }
-}
-
-/// Where findings go: what is to be changed on one stream, all else on the other.
-#[derive(Drop)]
-struct Findings<'s> {
-    out: LogStream<Stdout>,
-    err: &'s mut ErrorLines,
-}
-
-impl<'s> Findings<'s> {
-    fn tell(&mut self, finding: Finding<'_>) -> io::Result<()> {
-        if finding.is_warning() {
-            warn(Some(finding), self.err);
-            return Ok(());
-        }
-        writeln!(self.out.begin(Level::Info), "{finding}")
-    }
-
-    fn tell_each(&mut self, machine: &str, warnings: [Option<Warning>; 3]) -> io::Result<()> {
-        for warning in warnings {
-            if let Some(warning) = warning {
-                self.tell(Finding::Warns(machine, warning))?;
-            }
-        }
-        Ok(())
-    }
-}
-
-/// Reports what each machine of a room does and should set otherwise, and what each primary needs for the others.
-fn tell_room(machines: &[Machine<'_>], told: &mut Findings<'_>) -> io::Result<()> {
+/// Reports what each machine of a room does and should set otherwise, and what each primary needs for the others: what is to
+/// be changed on `err`, all else on `out`. A machine is called by its folder.
+fn tell_room(
+    machines: &[RoomMachine<'_>],
+    out: &mut LogStream<Stdout>,
+    err: &mut ErrorLines,
+) -> io::Result<()> {
+    let mut is_known = true;
     for machine in machines {
-        tell_machine(machine, machines, told)?;
+        is_known &= tell_machine(machine, machines, out, err)?;
     }
-    if machines.iter().any(Machine::is_too_slow) {
+    if !is_known {
         return Ok(());
     }
     for primary in machines {
         if has_primary(&primary.config) {
-            tell_primary(primary, machines, told)?;
+            tell_primary(primary, machines, out, err)?;
         }
     }
     Ok(())
 }
 
-/// Reports how soon a machine stops, what it should set otherwise, and why no primary waits for it.
+/// Reports how soon a machine stops, what it should set otherwise, and why no primary waits for it. Returns whether it is known
+/// how soon it stops.
 fn tell_machine(
-    machine: &Machine<'_>,
-    machines: &[Machine<'_>],
-    told: &mut Findings<'_>,
-) -> io::Result<()> {
+    machine: &RoomMachine<'_>,
+    machines: &[RoomMachine<'_>],
+    out: &mut LogStream<Stdout>,
+    err: &mut ErrorLines,
+) -> io::Result<bool> {
     let folder = machine.folder;
-    told.tell(match Stopping::with_delay(&machine.config, machine.delay) {
-        Some(stopping) => Finding::Stops(folder, stopping),
-        None => Finding::TooSlow(folder, machine.delay),
-    })?;
-    told.tell_each(folder, Warning::all_of(&machine.config))?;
-    if has_several_servers(&machine.config) {
-        told.tell(Finding::SeveralServers(folder))?;
+    let config = &machine.config;
+    let delay = machine.delay;
+    let stopping = Stopping::with_delay(config, delay);
+    match stopping {
+        Some(stopping) => writeln!(out.begin(Level::Info), "{folder}: {stopping}")?,
+        None => {
+            let _ = writeln!(
+                err.begin(Level::Warning),
+                "{folder}: {delay} s for an answer are too long: upsmon gives a server up after {ANSWER_ON_BATTERY} s while a UPS is on battery, so nothing is known of this room"
+            );
+        }
+    }
+    for warning in Warning::all_of(config) {
+        if let Some(warning) = warning {
+            let _ = writeln!(err.begin(Level::Warning), "{folder}: {warning}");
+        }
+    }
+    if has_several_servers(config) {
+        let _ = writeln!(
+            err.begin(Level::Warning),
+            "{folder}: its UPSes are at several servers: HOSTSYNC and the battery are reckoned for one"
+        );
     }
     if machine.is_alone(machines) {
-        told.tell(Finding::Alone(folder))?;
+        let _ = writeln!(
+            err.begin(Level::Warning),
+            "{folder}: no machine here is the primary of its UPSes: none waits for it"
+        );
     }
-    Ok(())
+    Ok(stopping.is_some())
 }
 
 /// Reports whether the HOSTSYNC of a primary is enough for the other machines that need its UPSes, and how long their battery
-/// has to last.
+/// has to last: what it needs until all of them are halted, and what a machine takes from then on until it is off.
 fn tell_primary(
-    primary: &Machine<'_>,
-    machines: &[Machine<'_>],
-    told: &mut Findings<'_>,
+    primary: &RoomMachine<'_>,
+    machines: &[RoomMachine<'_>],
+    out: &mut LogStream<Stdout>,
+    err: &mut ErrorLines,
 ) -> io::Result<()> {
     let folder = primary.folder;
     if !needs(&primary.config, &primary.config) {
-        return told.tell(Finding::Unneeded(folder));
+        let _ = writeln!(
+            err.begin(Level::Warning),
+            "{folder}: keeps running without the UPSes of which it is the primary: it forces no shutdown while their battery is low"
+        );
+        return Ok(());
     }
-    let need = greatest_need(primary, machines);
-    told.tell(match need {
-        Some(need) => Finding::HostSync(folder, primary.host_sync(), need),
-        None => Finding::Unfollowed(folder),
-    })?;
-    told.tell(Finding::Battery(folder, all_halted_within(primary, machines)))
+    let host_sync = primary.host_sync();
+    match greatest_need(primary, machines) {
+        None => writeln!(
+            out.begin(Level::Info),
+            "{folder}: no other machine here needs its UPSes"
+        )?,
+        Some(need) if need.host_sync <= host_sync => writeln!(
+            out.begin(Level::Info),
+            "{folder}: HOSTSYNC {host_sync} is enough: {} needs the most, {}",
+            need.machine,
+            need.host_sync
+        )?,
+        Some(need) => {
+            let _ = writeln!(
+                err.begin(Level::Warning),
+                "{folder}: HOSTSYNC {host_sync} is too short: {} needs the most, {}",
+                need.machine,
+                need.host_sync
+            );
+        }
+    }
+    let seconds = all_halted_within(primary, machines);
+    writeln!(
+        out.begin(Level::Info),
+        "{folder}: battery.runtime.low: at least {seconds} s, and what a machine takes from SHUTDOWNCMD until it is off"
+    )
 }
 
 /// Returns the other machine that needs the longest HOSTSYNC of a primary, if one needs its UPSes.
-fn greatest_need<'a>(primary: &Machine<'_>, machines: &[Machine<'a>]) -> Option<Need<'a>> {
+fn greatest_need<'a>(primary: &RoomMachine<'_>, machines: &[RoomMachine<'a>]) -> Option<Need<'a>> {
     let mut greatest: Option<Need<'a>> = None;
     for machine in machines {
         if machine.follows(primary) {
@@ -294,7 +239,7 @@ fn greatest_need<'a>(primary: &Machine<'_>, machines: &[Machine<'a>]) -> Option<
 }
 
 /// Returns the most seconds from OB and LB until a primary, and all machines that need its UPSes, are halted.
-fn all_halted_within(primary: &Machine<'_>, machines: &[Machine<'_>]) -> u64 {
+fn all_halted_within(primary: &RoomMachine<'_>, machines: &[RoomMachine<'_>]) -> u64 {
     let mut last = seen_within(&primary.config, primary.delay) + halts_within(&primary.config);
     for machine in machines {
         if machine.follows(primary) && primary.host_sync() < host_sync_for(primary, machine) {
@@ -304,32 +249,32 @@ fn all_halted_within(primary: &Machine<'_>, machines: &[Machine<'_>]) -> u64 {
     last
 }
 
-impl<'a> Machine<'a> {
+impl<'a> RoomMachine<'a> {
     fn host_sync(&self) -> u64 {
         u64::from(self.config.host_sync.value)
     }
 
-    fn is_too_slow(&self) -> bool {
-        stops_within(&self.config, self.delay).is_none()
-    }
-
     /// Whether this machine needs UPSes, and no machine of the room is the primary of one of its own.
-    fn is_alone(&self, machines: &[Machine<'_>]) -> bool {
+    fn is_alone(&self, machines: &[RoomMachine<'_>]) -> bool {
+        for machine in machines {
+            for line in &self.config.monitors.lines {
+                if leads(&machine.config, line) {
+                    return false;
+                }
+            }
+        }
         self.config.min_supplies.value > 0
-            && !machines
-                .iter()
-                .any(|it| leads_some(&it.config, &self.config))
     }
 
     /// Whether this is another machine than the primary and needs its UPSes.
-    fn follows(&self, primary: &Machine<'_>) -> bool {
+    fn follows(&self, primary: &RoomMachine<'_>) -> bool {
         self.folder != primary.folder && needs(&self.config, &primary.config)
     }
 }
 
 /// Returns the HOSTSYNC of a primary from which on another machine is halted before the primary continues, whether or not the
 /// primary's last status is so old that it takes the UPS for dead.
-fn host_sync_for(primary: &Machine<'_>, other: &Machine<'_>) -> u64
+fn host_sync_for(primary: &RoomMachine<'_>, other: &RoomMachine<'_>) -> u64
     ensures { result ≡ host_sync_for (configuration_of primary.now.config) (prompt primary.now.delay) false
         (configuration_of other.now.config) (prompt other.now.delay) 1 }
 {
@@ -337,7 +282,7 @@ fn host_sync_for(primary: &Machine<'_>, other: &Machine<'_>) -> u64
 }
 
 /// Returns the most seconds from the beginning of a primary's shutdown until FSD is accepted for each of its UPSes.
-fn accepts_within(primary: &Machine<'_>) -> u64
+fn accepts_within(primary: &RoomMachine<'_>) -> u64
     ensures seconds { result ≡ accepted_in (configuration_of primary.now.config) (prompt primary.now.delay) false }
     ensures fits { result < 2 ^ 33 }
 {
@@ -350,7 +295,7 @@ fn accepts_within(primary: &Machine<'_>) -> u64
 }
 
 /// Returns the most seconds from OB and LB until another machine is halted that needs a primary's UPSes.
-fn other_halted_within(primary: &Machine<'_>, other: &Machine<'_>) -> u64
+fn other_halted_within(primary: &RoomMachine<'_>, other: &RoomMachine<'_>) -> u64
     ensures { result ≡ other_halted_in (configuration_of primary.now.config) (prompt primary.now.delay)
         (configuration_of other.now.config) (prompt other.now.delay) 1 }
 {
@@ -358,7 +303,7 @@ fn other_halted_within(primary: &Machine<'_>, other: &Machine<'_>) -> u64
 }
 
 /// Returns the most seconds from OB and LB until a machine knows it, by the clock of another.
-fn sees_within(machine: &Machine<'_>) -> u64
+fn sees_within(machine: &RoomMachine<'_>) -> u64
     ensures seconds { result ≡ 1 + seen_by (configuration_of machine.now.config) (prompt machine.now.delay) 0 }
     ensures fits { result < 2 ^ 34 }
 {
@@ -366,7 +311,7 @@ fn sees_within(machine: &Machine<'_>) -> u64
 }
 
 /// Returns the most seconds from OB and LB until FSD is accepted for each UPS of a primary.
-fn forces_within(primary: &Machine<'_>) -> u64
+fn forces_within(primary: &RoomMachine<'_>) -> u64
     ensures seconds { result ≡ forced_in (configuration_of primary.now.config) (prompt primary.now.delay) }
     ensures fits { result < 2 ^ 35 }
 {
@@ -388,40 +333,19 @@ fn has_one_line(config: &MonConfig) -> bool
 
 /// Whether a machine has too little for MINSUPPLIES without the UPSes of which another machine, or itself, is the primary.
 fn needs(machine: &MonConfig, primary: &MonConfig) -> bool {
-    supply_without(machine, primary) < u64::from(machine.min_supplies.value)
-}
-
-/// Returns the sum of a machine's power values without those of the UPSes of which another machine is the primary.
-fn supply_without(machine: &MonConfig, primary: &MonConfig) -> u64 {
     let mut sum: u64 = 0;
     for line in &machine.monitors.lines {
         if !leads(primary, line) {
             sum = sum.saturating_add(u64::from(line.power.value));
         }
     }
-    sum
+    sum < u64::from(machine.min_supplies.value)
 }
 
 /// Whether a machine is the primary of the UPS of a line. All UPSes are at one server, so the name says which one it is.
 fn leads(primary: &MonConfig, line: &Monitored) -> bool {
-    primary
-        .monitors
-        .lines
-        .iter()
-        .any(|it| is_primary_of(it, line))
-}
-
-/// Whether a machine is the primary of a UPS of another, or of its own.
-fn leads_some(primary: &MonConfig, machine: &MonConfig) -> bool {
-    machine
-        .monitors
-        .lines
-        .iter()
-        .any(|line| leads(primary, line))
-}
-
-fn is_primary_of(primary: &Monitored, line: &Monitored) -> bool {
-    primary.role == Role::Primary && primary.target.ups == line.target.ups
+    let mut lines = primary.monitors.lines.iter();
+    lines.any(|it| it.role == Role::Primary && it.target.ups == line.target.ups)
 }
 
 /// Whether two lines of a machine name different servers.

@@ -1,14 +1,8 @@
 //! The faults that only upsmon has.
 
 use crate::halt::HaltFault;
-use crate::nuts_options::NUTS_OPTIONS;
-use nut_log::LogStream;
-use nut_poll::ErrorLines;
-use nut_program::{Failure, FileFault, OwnFault, way_of};
-use std::alloc::Global;
-use std::convert::AsStr;
+use nut_program::{Failure, FileFault, OwnFault};
 use std::fmt;
-use std::io::Stdout;
 
 /// The faults that only upsmon has.
 #[derive(Drop)]
@@ -62,15 +56,4 @@ impl From<HaltFault> for Failure<UpsmonFault> {
     fn from(fault: HaltFault) -> Self {
         Failure::Own(UpsmonFault::Halt(fault))
     }
-}
-
-/// Reports a failure by which upsmon ends that was started with these words. Returns the exit status.
-pub fn tell_failure<S: AsStr>(
-    alloc: Global,
-    words: &[S],
-    failure: Failure<UpsmonFault>,
-    mut out: LogStream<Stdout>,
-    told: &mut ErrorLines,
-) -> u8 {
-    failure.tell_of_nuts(alloc, way_of(&NUTS_OPTIONS, words), &mut out, told)
 }

@@ -10,45 +10,61 @@ ghost use Rattle.nut_upsmon.specs.Course.{IsCourse, IsCourseToHalt};
 ghost use Rattle.nut_upsmon.specs.inside.Ready.{IsReady};
 ghost use Rattle.nut_upsmon.specs.inside.Telling.{IsWhole, TellsWatch};
 
-use crate::actor::{Actor, Starter, Told};
+use crate::actor::Actor;
 use crate::beginning::Beginning;
 use crate::guard::{After, Guard};
 use crate::halt::HaltFault;
 use nut_monitor::{Monitor, Phase};
 use nut_monitor_loop::{MonWorld, watch};
 use nut_monitor_sockets::MioMonWorld;
-use nut_poll::Reports;
+use nut_poll::{ErrorLines, Reports};
+use nut_program::hold_closed_streams;
 use std::alloc::Global;
 use std::io;
 use std::io::ErrorKind;
 use std::net::Net;
 use std::process::Processes;
+use std::rt::Files;
 use std::sync::Wait;
 use std::time::Clock;
 
-/// Removes a POWERDOWNFLAG that an earlier shutdown left, before anything else can fail, and then watches as
+/// The lines of standard error. A bound in place of `ErrorLines`, since the borrow checker covers no call that names an
+/// actor with a lifetime and, in its signature, what is `'static`.
+pub trait ErrorStream {
+    /// Returns the lines.
+    fn lines(&mut self) -> &mut ErrorLines;
+}
+
+impl ErrorStream for ErrorLines {
+    fn lines(&mut self) -> &mut ErrorLines {
+        self
+    }
+}
+
+/// Has an actor remove a POWERDOWNFLAG that an earlier shutdown left, before anything else can fail, and then watches as
 /// [`watch_in_turn`] does, over a new world of sockets. Reports to the operator on `err`, and if that is to be quiet, only
-/// refusals that no notice tells of.
+/// refusals that no notice tells of. The standard streams that are closed are held meanwhile, so that no socket takes the
+/// place of one.
 ///
 /// # Errors
 ///
 /// If memory or a poll isn't available, or waiting for the sockets or reading the clock fails.
-pub fn watch_over_sockets<'r, R, S, E>(
+pub fn watch_over_sockets<'r, R, A, E>(
     rt: &'r R,
     alloc: Global,
-    mut starter: S,
+    mut actor: A,
     first: Beginning,
     is_quiet: bool,
     err: &mut E,
 ) -> io::Result<Result<(), HaltFault>>
 where
-    R: Wait + Net + Clock + Processes,
-    S: Starter,
-    E: Told,
-    requires { IfSome (S.log starter) (λ acts. acts ≡ []) }
+    R: Wait + Files + Net + Clock + Processes,
+    A: Actor,
+    E: ErrorStream,
+    requires { IfSome (A.log actor) (λ acts. acts ≡ []) }
 {
-    starter.clear_flag(first.config(), err)?;
-    let actor = starter.begin()?;
+    actor.clear_flag(first.config())?;
+    let _held = hold_closed_streams(rt, alloc)?;
     let reports = Reports::new(err.lines(), !is_quiet);
     let mut world = MioMonWorld::new(rt, alloc, Guard::new(actor), reports)?;
     watch_in_turn(rt, &mut world, first)
