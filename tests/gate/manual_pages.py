@@ -83,7 +83,7 @@ LIMITS = {
     "upsmon.8": (
         ("If a server doesn't answer within {} seconds,", "nut_monitor_sockets/limits answer"),
         ("or {} while any UPS is on battery, it is lost", "nut_monitor_sockets/limits ANSWER_ON_BATTERY"),
-        ("tries for {} seconds to start another one", "nut_upsmon/halt TRIES"),
+        ("tries for {} seconds to start another one", "nut_upsmon/shutdown_command TRIES"),
         ("this machine shuts down within 28 s of OB LB if answers take at most {} s", "nut_upsmon/stopping DELAY"),
         ("that isn't reached within {} seconds or refuses the login", "nut_monitor_sockets/visits PATIENCE"),
         ("or doesn't answer, within {} seconds", "nut_monitor_sockets/visits PATIENCE"),

@@ -18,151 +18,58 @@ from tests.support.harness import ROOT, ensure, expect, run_tests
 LIST = os.path.join(ROOT, "tests", "surface.txt")
 DECISIONS = os.path.join(ROOT, "docs", "DECISIONS.md")
 
-TOKEN = re.compile(r"""//[^\n]*|b?"(?:\\.|[^"\\])*"|b?'(?:\\.[^']*|[^'\\])'|'\w+|\w+|->|=>|::|\.\.|\S""", re.S)
-CLOSES = {"(": ")", "[": "]", "{": "}"}
-# What ends a signature.
-ENDS = ("{", ";", "requires", "ensures", "where")
+# What stands between the brackets of a type's parameters, one of which may have some, too; and what ends a signature.
+GENERICS = r"(?:<(?:[^<>]|<[^<>]*>)*>)?"
+END = r"(?=\n\s*(?:requires|ensures|where)\b|\s\{|;\n)"
 
 
-# ---- reading code
+# ---- reading code, in the layout that the formatter gives it
 
 
-class Token(str):
-    """A word or a sign of code, and whether a blank or a line break stands before it."""
-
-    is_apart = False
-
-
-def tokens(text):
-    """Returns the words and signs of code without its comments."""
-    found, end = [], 0
-    for it in TOKEN.finditer(text):
-        if not it[0].startswith("//"):
-            found.append(Token(it[0]))
-            found[-1].is_apart = it.start() > end
-            end = it.end()
-    return found
-
-
-def closing(found, at):
-    """Returns the place of the bracket that closes the one at this place."""
-    depth = 0
-    for place in range(at, len(found)):
-        depth += found[place] in CLOSES
-        depth -= found[place] in CLOSES.values()
-        if depth == 0:
-            return place
-    raise ValueError(f"no bracket closes {' '.join(found[at : at + 8])}")
-
-
-def behind(found, at):
-    """Returns the place behind a word, or behind what is in brackets."""
-    return closing(found, at) + 1 if found[at] in CLOSES else at + 1
-
-
-def behind_generics(found, at):
-    """Returns the place behind the parameters of a type, if any begin here."""
-    depth = 0
-    while found[at] == "<" or depth:
-        depth += {"<": 1, ">": -1}.get(found[at], 0)
-        at += 1
-    return at
-
-
-def written(words):
+def written(text):
     """Returns code on one line, as the formatter writes it if there is room."""
-    text = "".join(" " * it.is_apart + it for it in words).strip()
-    text = re.sub(r" (?=[)\]>])|(?<=[(\[<]) ", "", text)
+    text = re.sub(r" (?=[)\]>])|(?<=[(\[<]) ", "", " ".join(text.split()))
     return re.sub(r",(?=[)\]>]| \})", "", text)
+
+
+def function(text, before=""):
+    """Returns the name of a function and its signature, in which no `mut` stands that only lets it change its own parameter."""
+    name = re.match(r"(?:const )?fn (\w+)", text)
+    return before + name[1], written(f"fn {before}{name[1]}" + re.sub(r"(?<=[(,])(\s*)mut ", r"\1", text[name.end() :]))
 
 
 class Code:
     """The public items of a file: `found` has their signatures by name, a method's behind its type, and `uses` what it hands on."""
 
     def __init__(self, text):
-        self.words, self.found, self.uses = tokens(text), {}, []
-        at = 0
-        while at < len(self.words):
-            at = self.item(at)
+        self.found, self.uses = {}, []
+        # each item begins at the left edge with a word
+        for item in re.split(r"^(?!where\b)(?=[a-z])", re.sub(r"//[^\n]*", "", text), flags=re.M):
+            if of := re.match(rf"impl{GENERICS} (\w+){GENERICS} \{{", item) or re.match(rf"pub trait (\w+)[^{{]*?(?= \{{)", item):
+                begin = "pub " if item.startswith("impl") else ""
+                if not begin:
+                    self.found[of[1]] = written(of[0].removeprefix("pub "))
+                methods = re.findall(rf"^    {begin}((?:const )?fn .*?){END}", item, re.M | re.S)
+                self.found.update(function(it, f"{of[1]}::") for it in methods)
+            elif fn := re.match(rf"pub ((?:const )?fn .*?){END}", item, re.S):
+                self.found.update([function(fn[1])])
+            elif data := re.match(rf"pub ((?:struct|enum) (\w+){GENERICS})(.*)", item, re.S):
+                self.found[data[2]] = written(data[1]) + self.parts(data[1].startswith("enum"), data[3].strip())
+            elif use := re.match(r"pub use ([^;]*);", item):
+                self.uses.append(re.sub(r",\}", "}", re.sub(r"\s+(?!as )(?<! as )", "", use[1])))
+            elif other := re.match(r"pub (const (\w+): .*?(?= =)|type (\w+).*?(?=;))", item, re.S):
+                self.found[other[2] or other[3]] = written(other[1])
 
-    def item(self, at):
-        """Notes the item that begins here, if it is public, and returns the place behind it."""
-        words = self.words
-        if words[at] == "impl":
-            header = words[at + 1 : words.index("{", at)]
-            # the methods of a trait are noted where it is declared
-            of = None if "for" in header else header[behind_generics(header, 0)]
-            return self.functions(of, words.index("{", at), "pub")
-        if words[at] == "pub" and words[at + 1] != "(":
-            return self.public(at + 1)
-        return behind(words, at)
-
-    def functions(self, of, first, begin):
-        """Notes the functions of a type or a trait, which begin with a word. Returns the place behind the last."""
-        at, last = first + 1, closing(self.words, first)
-        while of and at < last:
-            if self.words[at] == begin and "fn" in self.words[at : at + 3]:
-                at = self.function(at, f"{of}::")
-            else:
-                at = behind(self.words, at)
-        return last + 1
-
-    def function(self, at, before=""):
-        """Notes a function, whose signature ends before its contract."""
-        words = self.words
-        at = words.index("fn", at) + 1
-        end = behind_generics(words, at + 1)
-        while words[end] not in ENDS:
-            end = behind(words, end)
-        # a `mut` that only lets the function change its own parameter is no part of its signature
-        signature = [it for it, last in zip(words[at + 1 : end], words[at:]) if it != "mut" or last not in ("(", ",")]
-        self.found[before + words[at]] = f"fn {before}{words[at]}{written(signature)}"
-        return end
-
-    def public(self, at):
-        words, kind, name = self.words, self.words[at], self.words[at + 1]
-        if "fn" in words[at : at + 2]:
-            return self.function(at)
-        if kind in ("struct", "enum"):
-            return self.data(at, kind, name)
-        if kind == "trait":
-            first = words.index("{", at)
-            self.found[name] = written(words[at:first])
-            return self.functions(name, first, "fn")
-        end = words.index(";", at)
-        if kind == "use":
-            self.uses.append(words[at + 1 : end])
-        else:
-            self.found[name] = written(words[at : words.index("=", at) if kind == "const" else end])
-        return end + 1
-
-    def data(self, at, kind, name):
-        """Notes a type: a struct with its public fields, an enum with its variants."""
-        first = behind_generics(self.words, at + 2)
-        self.found[name] = written(self.words[at:first])
-        if self.words[first] not in CLOSES:
-            return first
-        end = closing(self.words, first)
-        parts = [it[it[0] == "pub" :] for it in self.parts(first + 1, end) if kind == "enum" or it[0] == "pub" and it[1] not in ("(", "ghost")]
-        if parts:
-            shown = ", ".join(map(written, parts))
-            self.found[name] += f" {{ {shown} }}" if self.words[first] == "{" else f"({shown})"
-        return end + 1
-
-    def parts(self, at, end):
-        """Yields what stands between the commas of a type, without its attributes."""
-        part = []
-        while at < end:
-            last, at = at, behind_generics(self.words, at) if self.words[at] == "<" else behind(self.words, at)
-            if self.words[last] == "#":
-                at = behind(self.words, at)
-            elif self.words[last] == ",":
-                yield part
-                part = []
-            else:
-                part += self.words[last:at]
-        if part:
-            yield part
+    @staticmethod
+    def parts(is_enum, text):
+        """Returns what is public in a type, in brackets: the fields of a struct, the variants of an enum."""
+        if text.startswith("("):
+            found = re.findall(r"\bpub ((?:[^,<>()]|<[^()]*>|\([^)]*\))+)", text)
+            return f"({', '.join(map(written, found))})" if found else ""
+        # each begins on a line of its own, and so does an attribute
+        found = [it.strip().removesuffix(",") for it in re.split(r"^    (?=[\w#])", text[1 : text.rfind("}")], flags=re.M)]
+        found = [it for it in found if re.match(r"\w" if is_enum else r"pub (?!ghost)", it)]
+        return f" {{ {', '.join(written(it.removeprefix('pub ')) for it in found)} }}" if found else ""
 
 
 class Surface:
@@ -184,7 +91,7 @@ class Surface:
             code = self.code(crate)[module]
             self.known[crate, module] = found = dict(code.found)
             for use in code.uses:
-                for path, name, other in self.used("".join(f" {it} " if it == "as" else it for it in use).removeprefix("crate::")):
+                for path, name, other in self.used(use.removeprefix("crate::")):
                     found.update(self.handed_on(crate, module, path, name, other))
         return self.known[crate, module]
 
@@ -280,26 +187,53 @@ class Tests:
     def test_code_is_read(self):
         """What is public in code, without contracts, hidden parts, attributes and line breaks."""
         code = Code("""
-            pub use other::{First, Second as Third};
-            /// a comment, pub fn
-            #[derive(Drop)]
-            pub struct Part<'a, const N: usize> { pub bytes: &'a [u8], pub(crate) room: [u8; N], pub ghost few: { N } }
-            impl<'a, const N: usize> Part<'a, N> {
-                pub const fn get<T: Into<u8>>(&'a mut self, mut at: T, // its place
-                    other: &mut T,
-                ) -> Option<&'a [u8]>
-                    ensures { result ≡ None }
-                { pub fn inside() {} }
-                fn hidden(&self) {}
-            }
-            impl Drop for Part { pub fn drop(self) {} }
-            pub enum Kind { #[error("a, b")] One(u8, Vec<(u8, u8)>), Two { first: u8, second: u8, }, Three }
-            pub struct Name(pub [u8; 2], u8);
-            pub trait End: Drop { ghost log: { Self }; fn take(&mut self) -> (u8, Kind) ensures { log }; }
-            pub const MOST: usize = 5;
-            pub type All = Vec<Kind>;
-        """)
-        expect([" ".join(it) for it in code.uses], ["other :: { First , Second as Third }"], "what it hands on")
+pub use other::{First, Second as Third};
+/// a comment, pub fn
+#[derive(Drop)]
+pub struct Part<'a, const N: usize> {
+    pub bytes: &'a [u8],
+    pub(crate) room: [u8; N],
+    pub ghost few: { N },
+}
+impl<'a, const N: usize> Part<'a, N> {
+    pub const fn get<T: Into<u8>>(
+        &'a mut self,
+        mut at: T, // its place
+        other: &mut T,
+    ) -> Option<&'a [u8]>
+        ensures { result ≡ None }
+    {
+        pub fn inside() {}
+    }
+    fn hidden(&self) {}
+}
+impl Drop for Part {
+    pub fn drop(self) {}
+}
+pub enum Kind {
+    #[error("a, b")]
+    One(u8, Vec<(u8, u8)>),
+    Two {
+        first: u8,
+        second: u8,
+    },
+    Three,
+}
+pub struct Name(pub [u8; 2], u8);
+pub trait End: Drop {
+    ghost log: { Self };
+    fn take(&mut self) -> (u8, Kind)
+        ensures { log };
+}
+pub const MOST: usize = 5;
+pub type All = Vec<Kind>;
+pub fn run<R>(rt: &R)
+where
+    R: Wait,
+{
+}
+""")
+        expect(code.uses, ["other::{First,Second as Third}"], "what it hands on")
         wanted = [
             "struct Part<'a, const N: usize> { bytes: &'a [u8] }",
             "fn Part::get<T: Into<u8>>(&'a mut self, at: T, other: &mut T) -> Option<&'a [u8]>",
@@ -309,6 +243,7 @@ class Tests:
             "fn End::take(&mut self) -> (u8, Kind)",
             "const MOST: usize",
             "type All = Vec<Kind>",
+            "fn run<R>(rt: &R)",
         ]
         expect(list(code.found.values()), wanted, "what is public")
 

@@ -5,6 +5,7 @@
 
 The last line is 'N passed, M failed'."""
 
+import contextlib
 import errno
 import itertools
 import os
@@ -104,6 +105,17 @@ class Tests(MonitorTests):
     def expect_halt(self, watch, lines, status=0, within=SOON):
         expect(watch.status(within), status, "status")
         expect(watch.lines(), lines, "what upsmon prints")
+
+    @contextlib.contextmanager
+    def two_supplies(self, needed):
+        """Gives a server of two UPSes, a machine that needs so many of them, and the UPSes as the machine names them."""
+        with Upstream() as server:
+            server.statuses = {b"a": b"OL", b"b": b"OL"}
+            a, b = (f"{ups}@127.0.0.1:{server.port}" for ups in "ab")
+            conf = f"MINSUPPLIES {needed}\nMONITOR {a} 1 mon m1 secondary\nMONITOR {b} 1 mon m1 secondary\n{QUICK}"
+            with self.watch(conf) as watch:
+                until(lambda: b"GET VAR b ups.status\n" in server.asked, "both are asked for")
+                yield server, watch, a, b
 
     # From here on, each method whose name begins with 'test_' is a test.
 
@@ -219,19 +231,21 @@ class Tests(MonitorTests):
             expect(set(watch.lines()), {UNAVAILABLE % server.target}, "what is told")
 
     def test_one_of_two_supplies(self):
-        with Upstream() as server:
-            server.statuses = {b"a": b"OL", b"b": b"OL"}
-            a, b = (f"{ups}@127.0.0.1:{server.port}" for ups in "ab")
-            conf = f"MINSUPPLIES 1\nMONITOR {a} 1 mon m1 secondary\nMONITOR {b} 1 mon m1 secondary\n{QUICK}"
-            with self.watch(conf) as watch:
-                until(lambda: b"GET VAR b ups.status\n" in server.asked, "both are asked for")
-                server.statuses[b"a"] = b"OB LB"
-                watch.until_printed(BATTERY_LOW % a)
-                time.sleep(2.5)
-                expect(watch.process.poll(), None, "one supply is left")
-                expect(watch.lines(), [ON_BATTERY % a, BATTERY_LOW % a], "what is told")
-                server.statuses[b"b"] = b"OB LB"
-                self.expect_halt(watch, [it % ups for ups in (a, b) for it in (ON_BATTERY, BATTERY_LOW)] + [SHUTDOWN])
+        with self.two_supplies(1) as (server, watch, a, b):
+            server.statuses[b"a"] = b"OB LB"
+            watch.until_printed(BATTERY_LOW % a)
+            time.sleep(2.5)
+            expect(watch.process.poll(), None, "one supply is left")
+            expect(watch.lines(), [ON_BATTERY % a, BATTERY_LOW % a], "what is told")
+            server.statuses[b"b"] = b"OB LB"
+            self.expect_halt(watch, [it % ups for ups in (a, b) for it in (ON_BATTERY, BATTERY_LOW)] + [SHUTDOWN])
+
+    def test_both_of_two_supplies(self):
+        with self.two_supplies(2) as (server, watch, _, b):
+            until(lambda: server.asked.count(b"GET VAR b ups.status\n") == 3, "both are asked for again")
+            expect((watch.process.poll(), watch.lines()), (None, []), "both supplies are there")
+            server.statuses[b"b"] = b"OB LB"
+            self.expect_halt(watch, fails(b))
 
     def test_flags(self):
         for flags, is_printed, is_run in (

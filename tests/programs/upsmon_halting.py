@@ -569,6 +569,21 @@ class Tests(MonitorTests):
             server.statuses[b"su700"] = b"FSD"
             expect((watch.status(), watch.read("halted")), (0, b""), "the halt")
 
+    def test_shell_that_was_ended_and_cannot_be_replaced(self):
+        """It is reported that no shell waits, and once one can be started again, that another one does."""
+        with self.without_starts() as (none, env):
+            os.remove(none)
+            with self.watched(QUICK + HALTED, "-q", env=env) as (server, watch):
+                server.until_asked()
+                write(none, b"")
+                self.end_shell(watch)
+                until(lambda: watch.told(), "that no shell waits")
+                os.remove(none)
+                until(lambda: len(watch.told()) == 2, "that another shell waits")
+                expect(fronts(watch.told(), [NO_SHELL, REPLACED]), [NO_SHELL, REPLACED], "what is told")
+                server.statuses[b"su700"] = b"FSD"
+                expect((watch.status(), watch.read("halted")), (0, b""), "the halt")
+
     def test_shell_that_was_stopped(self):
         """A shell that is stopped alone is continued, and upsmon says so once for each time."""
         with self.watched(QUICK + HALTED, "-q") as (server, watch):
