@@ -1,4 +1,3 @@
-#!/usr/bin/env python3
 """Runs all tests: the layout of the crates' files, the toolchain's gate (every proof, an edit of some crates that must fail, the
 tests and the stored runs), then all wrong bodies, and beside them the tests in Python, most of which run the programs that the
 gate has built; some run a program that is built without proof, beside the proofs. It shows how much processor time each crate
@@ -8,8 +7,7 @@ usage: python3 -m tests.check [--anew] | --tried FOLDER
 
 The toolchain's gate takes what an earlier run on this machine has proved, if it does so at all and nothing that it rests on has
 changed, and no wrong body that one refused is tried again; with --anew all is done. With --tried it runs the tests in Python
-alone, several at a time, on the programs that tools/tried has built in a folder without proof. The last line is 'N passed, M
-failed'."""
+alone, several at a time, on the programs that tools/tried has built in a folder without proof."""
 
 import os
 import re
@@ -36,11 +34,9 @@ TESTS = (
     ("programs.upsd_stdio", ("upsd",)),
     ("programs.files", ("upsd", "upsmon")),
     ("rehearsals.server", (REHEARSE,)),
-    ("rehearsals.serving", (REHEARSE,)),
     ("rehearsals.dummy", (REHEARSE,)),
     ("rehearsals.monitor", (REHEARSE,)),
-    ("rehearsals.links", (REHEARSE,)),
-    ("rehearsals.words", (REHEARSE,)),
+    ("rehearsals.parts", (REHEARSE,)),
     ("rehearsals.examples", (REHEARSE,)),
     ("gate.borrows", ()),
     ("programs.tools", ("upsc", "upsrw", "upscmd")),
@@ -59,7 +55,6 @@ TESTS = (
     ("programs.nutroom", ("nutsim",)),
     ("programs.install", ("upsd", "dummy_ups", "upsc", "upsrw", "upscmd", "upsmon", "nutsim")),
     ("programs.from_nut", ("upsd", "dummy_ups", "upsc", "upsrw", "upscmd", "upsmon")),
-    ("programs.troubleshooting", ("upsd", "dummy_ups", "upsc", "upsrw", "upscmd", "upsmon")),
     ("programs.packages", ("upsd", "dummy_ups", "upsc", "upsrw", "upscmd", "upsmon", "nutsim")),
     ("peers.server", ("upsd", "dummy_ups")),
     ("peers.clients", ("upsd", "dummy_ups")),

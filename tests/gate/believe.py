@@ -1,10 +1,9 @@
-#!/usr/bin/env python3
 """Lists what has to be believed: for each promise of the programs, the definitions that its clauses lead to.
 
 usage: python3 -m tests.gate.believe [--write | TITLE]
 
-Without an argument it tests that docs/believe.md is that list, and that no promise and no definition is missing; the last line
-is 'N passed, M failed'. `--write` writes that page. A title, such as 'A monitor', prints all that this section leads to."""
+Without an argument it tests that docs/believe.md is that list, and that no promise and no definition is missing. `--write` writes
+that page. A title, such as 'A monitor', prints all that this section leads to."""
 
 import os
 import re
@@ -14,82 +13,8 @@ from tests.gate.definitions import CODE, Imports, Library, Scope, files_of, read
 from tests.support.harness import ROOT, Failed, ensure, expect, run_tests, write
 
 PAGE = os.path.join(ROOT, "docs", "believe.md")
-
-# The promises: the title of each and what it is about; then the functions, methods and traits whose clauses make it, by crate and
-# file (None: any file). `Type.*` are all public methods of a type, and all members of a trait. A name with a `?` is taken if
-# there is such a function.
-PROMISES = (
-    ("A server", "what a server answers, keeps and asks of its drivers, and what callers see of that", (
-        ("nut_server", None, ("Server.*", "silence_before_ping")),)),
-    ("A server's configuration", "what the files make of a server", (
-        ("nut_server", "config.rt", ("Config.*",)),)),
-    ("What a server sends", "what connections and drivers are sent, and that cuts don't matter", (
-        ("nut_server_spec", None, (
-            "sent_and_waiting_is_due", "sent_is_front_of_due", "sent_is_received", "driver_sent_and_waiting_is_due",
-            "driver_sent_is_received", "cuts_do_not_matter", "driver_cuts_do_not_matter", "cuts_and_writes_do_not_matter",
-            "driver_cuts_and_writes_do_not_matter", "same_steps_same_answers", "logout_is_final", "others_stay", "other_drivers_stay",
-            "opened_is_fresh", "closed_stays_closed", "numbers_rise", "status_is_the_drivers")),)),
-    ("Rights", "what needs a right, and who has it", (
-        ("nut_server_spec", None, ("nothing_without_the_right",)),)),
-    ("Bounds of a server", "how much is kept, and how much waits", (
-        ("nut_server_spec", None, (
-            "bounds_hold", "connections_are_few", "answers_are_bounded", "waits_for_one_piece", "waits_are_bounded")),)),
-    ("Tracked requests and reloads", "how a tracked request ended, and what a reload leaves", (
-        ("nut_server_spec", None, (
-            "tracking_looks_back", "reload_is_downs_then_closes_then_itself", "keeps_its_number", "numbers_are_distinct",
-            "upses_stay")),)),
-    ("The server's loop", "what a world gives and accepts is what a server receives and sends", (
-        ("nut_server_loop", "serving.rt", ("serve",)), ("nut_server_loop", "world.rt", ("World.*",)),
-        ("nut_server_loop", None, ("serve_memory",)))),
-    ("A server's sockets", "who is looked at next, and when a second counts", (
-        ("nut_server_sockets", "sockets.rt", ("Sockets.next",)),
-        ("nut_poll", None, ("Ready.*", "Rounds.turn", "nobody_is_passed_over")))),
-    ("A monitor", "what a monitor asks, reports and decides, and what callers see of that", (
-        ("nut_monitor", None, ("Monitor.*",)),)),
-    ("A monitor's laws", "what holds over whole histories of a monitor", (
-        ("nut_monitor_spec", None, (
-            "cuts_do_not_matter", "notices_are_few", "links_are_bounded", "notices_come_in_order", "linked_is_made", "waiting_is_left",
-            "links_are_told", "answers_are_told", "sent_and_waiting_is_due", "queries_come_alone", "answers_come_in_turn",
-            "logins_follow_fsd", "others_stay", "shutdown_stays")),)),
-    ("The monitor's loop", "what a world gives and accepts is what a monitor receives and asks", (
-        ("nut_monitor_loop", "watching.rt", ("watch",)), ("nut_monitor_loop", "world.rt", ("MonWorld.*",)),
-        ("nut_monitor_loop", None, ("watch_memory",)))),
-    ("A monitor's sockets", "which link is looked at next", (
-        ("nut_monitor_sockets", "links.rt", ("Links.next",)),)),
-    ("What upsmon does to its machine", "when SHUTDOWNCMD is run, and who gets a notice", (
-        ("nut_upsmon", "watching.rt", ("watch_in_turn",)), ("nut_upsmon", "guard.rt", ("tell",)),
-        ("nut_upsmon", "actor.rt", ("Actor.*",)))),
-    ("The process that halts", "what is done at orders, where upsmon is two processes", (
-        ("nut_halter", "lib.rt", ("obey", "Orders.*", "Halter.*")),)),
-    ("Configuration files", "what a file means", (
-        ("nut_conf", None, (
-            "read_ups", "read_users", "read_upsd", "read_descriptions", "read_upsmon", "first_fault", "blank_lines_change_nothing",
-            "names_are_distinct", "rules_are_kept")),)),
-    ("The tools", "what is asked, printed and dialed", (
-        ("nut_client", None, (
-            "run_upsc", "run_upsrw", "run_upscmd", "upsc_target", "upsrw_target", "upscmd_target", "more_bytes_are_ignored",
-            "all_bytes_decide")),
-        ("nut_client", "output.rt", ("Output.*",)), ("nut_client", "stream.rt", ("Stream.*",)))),
-    ("A shutdown by hand", "what is asked to force a shutdown, and how that ends", (
-        ("nut_client", None, ("force_shutdown",)), ("nut_client", "stream.rt", ("Stream.*",)))),
-    ("The dummy driver", "what a script means, and what holds over whole histories of a dummy driver", (
-        ("nut_dummy", None, ("Script.read", "Dummy.*", "looks_back", "told_lines_are_heard", "dump_is_the_table")),)),
-    ("A room", "what every schedule of one server and its monitors leads to, and what was really played", (
-        ("nut_fleet", None, (
-            "configurations_are_spoken", "events_are_accepted", "pipes_carry_beginnings", "statuses_were_shown",
-            "shutdowns_have_causes", "primaries_go_last")),
-        ("nut_play", None, ("Fleet.new", "Fleet.config", "Fleet.play", "rooms_hold")))),
-    ("Who stops a machine", "that a machine stops only by what its drivers said, or if a user forces it who may", (
-        ("nut_fleet", None, ("nobody_else_halts", "fsds_follow_shutdowns", "nobody_stops_uncalled")),)),
-    ("A room in time", "by when machines begin to shut down and are halted, and when none is", (
-        ("nut_in_time", None, (
-            "links_open_in_time", "statuses_come_in_time", "shutdowns_begin_in_time", "machines_halt_in_time", "shutdowns_go_on",
-            "hostsync_suffices", "nobody_halts_in_vain", "the_last_ups_counts", "forced_is_shown", "room_stops_in_time",
-            "cut_off_machines_stop", "links_come_back?", "machines_stop_as_told?", "room_stops_as_told?")),
-        ("nut_upsmon", None, ("stops_within",)))),
-    ("Lines of a schedule", "the step that a line says", (
-        ("nut_play", "reading.rt", ("read_step",)),)),
-)
+# The list of promises, with the functions whose clauses make them.
+LIST = os.path.join(ROOT, "tests", "gate", "promises.txt")
 
 # What no section has: clauses in terms of the machine, which say what others say in terms of histories; laws that only proofs cite;
 # and laws by which worked examples see that a link keeps a pace.
@@ -120,6 +45,19 @@ Two files have second forms. If you believe `nut_words: Spelling`, you need only
 `python3 -m tests.gate.believe --write` makes this page. A test fails if the page differs, if it doesn't find a name that a clause or a
 definition has, or if a law is in no section.
 """
+
+
+def listed_promises():
+    """Returns the promises of the list: the title of each, what it is about, and the functions that make it, by crate and file."""
+    found = []
+    for line in read(LIST).splitlines():
+        first, _, rest = line.strip().partition(": ")
+        if line.startswith(" "):
+            crate, _, file = first.partition(" ")
+            found[-1][2].append((crate, file or None, rest.split()))
+        elif line and not line.startswith("#"):
+            found.append((first, rest, []))
+    return found
 
 
 def clauses(text, at):
@@ -201,7 +139,7 @@ class Promises:
 
     def __init__(self, library):
         self.library, self.sources = library, {}
-        self.sections = [(title, about, calls, self.believed(calls)) for title, about, calls in PROMISES]
+        self.sections = [(title, about, calls, self.believed(calls)) for title, about, calls in listed_promises()]
 
     def files(self, crate):
         if crate not in self.sources:
@@ -255,7 +193,7 @@ class Promises:
         return found
 
     def laws_without_section(self):
-        listed = {(crate, name.rstrip("?")) for _, _, calls in PROMISES for crate, _, wanted in calls for name in wanted}
+        listed = {(crate, name.rstrip("?")) for _, _, calls, _ in self.sections for crate, _, wanted in calls for name in wanted}
         listed |= {(crate, name) for crate, names in LEFT_OUT.items() for name in names}
         return [f"{crate}: {it.name}" for crate in CRATES_OF_LAWS for source in self.files(crate) for it in source.functions
             if it.is_law and not it.name.endswith("_limits") and (crate, it.name) not in listed]
@@ -367,7 +305,7 @@ def main(words):
             if title == words[0]:
                 print(section(library, title, about, calls_of(promises, calls), found, set()), code_of(library, found), sep="\n")
                 return 0
-        print(f"no section {words[0]}; there are {', '.join(it[0] for it in PROMISES)}")
+        print(f"no section {words[0]}; there are {', '.join(it[0] for it in promises.sections)}")
         return 2
     return run_tests(Tests())
 

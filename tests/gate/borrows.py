@@ -1,11 +1,9 @@
-#!/usr/bin/env python3
 """Checks that a line from a cutter cannot be kept beyond the next piece: it is borrowed from the piece or from the cutter, so
 a crate that keeps one has to be refused, and one that is done with it has to pass.
 
     python3 -m tests.gate.borrows
 
-It needs the toolchain, and no proof: the compiler decides, over the sources of nut_words. The last line is
-'N passed, M failed'."""
+It needs the toolchain, and no proof: the compiler decides, over the sources of nut_words."""
 
 import os
 import shutil

@@ -1,4 +1,3 @@
-#!/usr/bin/env python3
 """Lists the functions that cost their crates' checks most, by what the last check of each crate has kept in its out/.
 
 usage: python3 -m tests.gate.dearest [--most N] [--by-proof] [CRATE ..]

@@ -1,7 +1,5 @@
-#!/usr/bin/env python3
 """Tests that the crates' files of code, definitions and proofs have the toolchain's layout. `rt ci` refuses a crate whose files
-haven't, but only when it comes to that crate, and `rt check` doesn't look at proof files. The last line is
-'N passed, M failed'."""
+haven't, but only when it comes to that crate, and `rt check` doesn't look at proof files."""
 
 import glob
 import os

@@ -1,7 +1,6 @@
-#!/usr/bin/env python3
 """Holds manual pages against the sources: the lines that a program reports and what its page says of them, the kinds of errors in
-files, the priorities, and the numbers of limits and timeouts. upsmon(8) stays short, and its script is that of from-nut(7). It needs
-no built program. The last line is 'N passed, M failed'."""
+files, the priorities, and the numbers of limits and timeouts. upsmon(8) stays short, and its script is that of from-nut(7). Each
+symptom of mulgefa-troubleshooting(7) is a text that a test sees. It needs no built program."""
 
 import functools
 import glob
@@ -25,90 +24,18 @@ REPORTS = {
     "dummy-ups": ("nut_dummy_ups/dummy", "nut_dummy_ups/dummy_driver", "nut_dummy_ups/listen_fault"),
 }
 
-# Texts in mulgefa(7) and upsd(8) with the constants that their numbers are, by the crate and the file that define these.
-LIMITS = {
-    "mulgefa.7": (
-        ("the limit of the stack is below {} KiB", "nut_program/stack DAEMON_STACK"),
-        ("{} are needed", "nut_program/stack DAEMON_STACK"),
-        ("A line has at most {} bytes; the rest", "nut_poll/lossy_lines LOG_LINE_MAX"),
-    ),
-    "upsd.8": (
-        ("client silent, not logged in {} s", "nut_server_sockets/client PATIENCE"),
-        ("client silent, logged in {} s", "nut_server_sockets/client PATIENCE_WITH_LOGIN"),
-        ("driver silent MAXAGE ({} s)", "nut_conf/upsd max_age"),
-        ("clients MAXCONN ({})", "nut_conf/limits CONNECTIONS_MAX"),
-        ("UPSes, users, LISTEN lines {}, {}, {}", "nut_conf/limits UPSES_MAX USERS_MAX LISTENERS_MAX"),
-        ("variables, commands of a UPS {}, {}", "nut_state/limits VARIABLES_MAX COMMANDS_MAX"),
-        ("enum values, ranges of a variable {}, {}", "nut_state/limits ENUMS_MAX RANGES_MAX"),
-        ("name, value from a driver {}, {} bytes", "nut_words/limits NAME_MAX VALUE_MAX"),
-        ("line from a driver {} bytes", "nut_words/limits LINE_MAX"),
-        ("tracked requests of a UPS {}", "nut_server_spec/limits TRACKED_MAX"),
-        ("The file has at most {} lines VARDESC", "nut_conf/limits DESCRIPTIONS_MAX"),
-        ("a text has at most {}.", "nut_conf/limits DESCRIPTION_MAX"),
-        ("about more than {} variables", "nut_server/unread UNREAD_MAX"),
-        ("Addresses beyond {} share a line", "nut_server_sockets/denials ADDRESSES_MAX"),
-        ("{} clients have connected since the start", "nut_server_spec/limits OPENED_MAX"),
-        ("serve this UPS without files; up to {} times", "nut_conf/limits UPSES_MAX"),
-    ),
-    "ups.conf.5": (
-        ("A file has at most {} bytes, and a line at most {} before", "nut_conf/limits FILE_MAX FILE_LINE_MAX"),
-        ("consists of words, at most {},", "nut_words/limits WORDS_MAX"),
-        ("section for each UPS, at most {}.", "nut_conf/limits UPSES_MAX"),
-        ("Names are 1 to {} letters", "nut_words/limits UPS_NAME_MAX"),
-        ("What the driver opens, at most {} bytes", "nut_conf/limits DEVICE_MAX"),
-        ("What people call the UPS, at most {} bytes", "nut_conf/limits DESCRIPTION_MAX"),
-    ),
-    "upsd.conf.5": (
-        ("ADDRESS has 1 to {} letters", "nut_conf/limits HOST_MAX"),
-        ("There are at most {} lines", "nut_conf/limits LISTENERS_MAX"),
-    ),
-    "upsd.users.5": (
-        ("for each user of upsd (8), at most {}.", "nut_conf/limits USERS_MAX"),
-        ("1 to {} bytes, once", "nut_conf/limits PASSWORD_MAX"),
-        ("May give this command, a name of 1 to {} bytes", "nut_words/limits NAME_MAX"),
-        ("At most {} lines", "nut_conf/limits INSTCMDS_MAX"),
-    ),
-    "dummy-ups.8": (
-        ("Wait this long, 1 to {} seconds", "nut_dummy/limits TIMER_MAX"),
-        ("A script has at most {} names and {} settings, and lines of at most {} bytes", "nut_dummy/limits SCRIPT_VARIABLES_MAX STEPS_MAX SCRIPT_LINE_MAX"),
-        ("Names have at most {} letters", "nut_words/limits NAME_MAX"),
-        ("values at most {} printing bytes", "nut_words/limits VALUE_MAX"),
-        ("more than {} bytes", "nut_dummy_ups/dummy FILE_MAX"),
-    ),
-    "upsc.8": (
-        ("accepted the connection; each has {} seconds", "nut_client/dialing ACCEPT_SECONDS"),
-        ("took more than {} seconds for an answer", "nut_client/timed_stream ANSWER_SECONDS"),
-        ("more than {} bytes of one line", "nut_words/limits LINE_MAX"),
-    ),
-    "upsmon.8": (
-        ("If a server doesn't answer within {} seconds,", "nut_monitor_sockets/limits answer"),
-        ("or {} while any UPS is on battery, it is lost", "nut_monitor_sockets/limits ANSWER_ON_BATTERY"),
-        ("tries for {} seconds to start another one", "nut_upsmon/shutdown_command TRIES"),
-        ("this machine shuts down within 28 s of OB LB if answers take at most {} s", "nut_upsmon/stopping DELAY"),
-        ("that isn't reached within {} seconds or refuses the login", "nut_monitor_sockets/visits PATIENCE"),
-        ("or doesn't answer, within {} seconds", "nut_monitor_sockets/visits PATIENCE"),
-        ("a server that doesn't answer within {} seconds.", "nut_monitor_sockets/limits ANSWER_ON_BATTERY"),
-        ("doesn't wait for it; at most {} run at a time", "nut_upsmon/notifier RUNNING_MAX"),
-        ("NOTIFYCMD skipped: {} still running", "nut_upsmon/notifier RUNNING_MAX"),
-    ),
-    "upsmon.conf.5": (
-        ("There are at most {} of these lines", "nut_conf/limits MONITORS_MAX"),
-        ("(1 to {} bytes) are those of the server's", "nut_conf/limits PASSWORD_MAX"),
-        ("a name or an IPv4 address of at most {} letters", "nut_conf/limits HOST_MAX"),
-        ("These three have 1 to {} bytes", "nut_conf/limits COMMAND_MAX"),
-        ("The text of a type, at most {} bytes", "nut_conf/limits MESSAGE_MAX"),
-        ("COMMBAD is held back in the first {} seconds", "nut_monitor_sockets/held_losses FIRST_SECONDS"),
-    ),
-    "upscmd.8": (
-        ("answers later than after {} seconds", "nut_client/timed_stream ANSWER_SECONDS"),
-        ("hasn't answered within {} seconds", "nut_client/deeds PAUSES_MAX"),
-        ("{} later requests to the UPS were tracked", "nut_server_spec/limits TRACKED_MAX"),
-        ("of at most {} bytes: the driver", "nut_words/limits VALUE_MAX"),
-    ),
-}
+# The list of texts with numbers, and of the constants that these are.
+LIMITS = os.path.join(ROOT, "tests", "gate", "limits.txt")
 
-# The greatest size of upsmon(8), in bytes.
-MOST_BYTES = 21 * 1024
+# The greatest sizes of pages, in bytes, and how many symptoms there are at least.
+MOST_BYTES = {"upsmon.8": 21 * 1024, "mulgefa-troubleshooting.7": 10_500}
+LEAST_SYMPTOMS = 30
+
+# The tests that have programs write symptoms, and the scripts that write them; what stands in a symptom for something else; and with
+# what many begin, which the tests say apart.
+SEEN = ("tests/programs/*.py", "tests/peers/*.py", "tests/support/*.py", "packaging/deb/postinst", "examples/upsmon.conf")
+IN_SYMPTOMS = r"\b(?:NAME|WHY|X|FILE|LINE|ADDRESS|PORT|USER|NUMBER|SECONDS|MODE|STATUS|VARIABLE|UNIT)\b"
+FRONT = r"Error: |UPS (?:X|NAME): (?:FSD set, but )?|shutdown: |upsmon\.conf:|POWERDOWNFLAG FILE "
 
 # The files with what upsmon writes while it watches, or with --fsd or --check.
 OF_UPSMON = ("nut_upsmon/src/*.rt", "nut_monitor_sockets/src/*.rt", "nut_program/src/reload_report.rt")
@@ -145,12 +72,12 @@ def words(page):
     return " ".join(" ".join(plain).replace(" ,", ",").replace(" .", ".").split())
 
 
-def heads(page, section):
-    """Returns the heads of the paragraphs in a section."""
+def heads(page, section=None):
+    """Returns the heads of the paragraphs in a section, or in all of them."""
     found, inside, is_head = [], False, False
     for line in lines(page):
         if line.startswith(".SH"):
-            inside = line.removeprefix(".SH").strip(' "') == section
+            inside = section in (None, line.removeprefix(".SH").strip(' "'))
         elif inside and is_head:
             found.append(" ".join(re.sub(r'"', "", re.sub(r"^\.[A-Z]+ ", "", line)).split()))
         is_head = line in (".TP", ".TQ")
@@ -250,13 +177,14 @@ class Tests:
 
     def test_limits(self):
         """The numbers of limits and timeouts are those of the sources."""
-        for page, rows in LIMITS.items():
-            for text, place in rows:
-                found = re.findall(re.escape(text).replace(r"\{\}", r"([\d,]+\d|\d)").replace(r"\ ", " "), words(page))
-                ensure(found, f"{page} doesn't say {text!r}")
-                for it in found:
-                    shown = [int(n.replace(",", "")) for n in ([it] if isinstance(it, str) else it)]
-                    expect(shown, list(numbers(place)), f"{page}: {text}")
+        rows = [line.split(" | ") for line in read(LIMITS).splitlines() if line and line[0] != "#"]
+        ensure(len(rows) > 50, f"only {len(rows)} rows")
+        for page, text, place in rows:
+            found = re.findall(re.escape(text).replace(r"\{\}", r"([\d,]+\d|\d)").replace(r"\ ", " "), words(page))
+            ensure(found, f"{page} doesn't say {text!r}")
+            for it in found:
+                shown = [int(n.replace(",", "")) for n in ([it] if isinstance(it, str) else it)]
+                expect(shown, list(numbers(place)), f"{page}: {text}")
 
     def test_probes(self):
         """upsd(8) says after how many seconds a machine counts as gone that answers no probe."""
@@ -297,9 +225,22 @@ class Tests:
         source = read(os.path.join(ROOT, "docs", "from-nut.md"))
         ensure(f"```\n{script[0]}\n```" in source, "the script isn't that of docs/from-nut.md")
 
-    def test_size_of_upsmon(self):
-        size = os.path.getsize(os.path.join(ROOT, "man", "upsmon.8"))
-        ensure(size <= MOST_BYTES, f"upsmon(8) has {size:,} bytes, more than {MOST_BYTES:,}")
+    def test_symptoms_are_seen(self):
+        """Each symptom of mulgefa-troubleshooting(7) is a text that a test has a program write, or one of a script."""
+        seen = "\n".join(read(path) for it in SEEN for path in sorted(glob.glob(os.path.join(ROOT, it))))
+        symptoms = heads("mulgefa-troubleshooting.7")
+        expect(len(set(symptoms)), len(symptoms), "symptoms, each once")
+        ensure(len(symptoms) >= LEAST_SYMPTOMS, f"only {len(symptoms)} symptoms")
+        for symptom in symptoms:
+            parts = re.split(IN_SYMPTOMS, re.sub(f"^(?:{FRONT})", "", symptom))
+            # a test may have the seconds of a silence from a table
+            text = ".+".join(re.escape(it).replace("60", r"(?:60|\{\})") for it in parts).removeprefix(".+")
+            ensure(re.search(text, seen), f"no test sees {symptom!r}")
+
+    def test_sizes(self):
+        for page, most in MOST_BYTES.items():
+            size = os.path.getsize(os.path.join(MAN, page))
+            ensure(size <= most, f"{page} has {size:,} bytes, more than {most:,}")
 
 
 if __name__ == "__main__":

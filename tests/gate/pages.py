@@ -1,10 +1,9 @@
-#!/usr/bin/env python3
-"""Holds the pages of docs/ against what they name: files, crates, definitions, functions, tests and targets of make have to be
-there, what is made from the sources has to be up to date, and the pages have to stay small.
+"""Holds the pages of docs/ and those of the root against what they name: files, crates, definitions, functions, tests and targets of
+make have to be there, what is made from the sources has to be up to date, and the pages have to stay small.
 
 usage: python3 -m tests.gate.pages [--write | --tests [MODULE ..]]
 
-Without an argument it tests that; the last line is 'N passed, M failed'. `--write` makes the list of laws in docs/proved.md.
+Without an argument it tests that. `--write` makes the list of laws in docs/proved.md.
 `--tests` prints what each test shows, by the docstrings, of all modules or of those whose names contain one of the words."""
 
 import ast
@@ -21,6 +20,7 @@ from tests.support.harness import ROOT, ensure, expect, run_tests, write
 from tests.support.manual import numbers
 
 DOCS = os.path.join(ROOT, "docs")
+FRONT_PAGES = ("README.md", "CONTRIBUTING.md", "SECURITY.md", "CHANGELOG.md")
 PROVED = os.path.join(DOCS, "proved.md")
 # The greatest sizes, in bytes: of all of docs/, and of some pages.
 ALL_DOCS = 212_000
@@ -201,57 +201,60 @@ class Named:
         for path in re.findall(r"(?<![\w/])(?:docs|tests|crates|tools|man|packaging|examples|bench)/[\w./*-]+", plain):
             if not self.has_path(path):
                 found.append(path)
+        for name in re.findall(r"(?<![\w/])[A-Z]+\.md\b", plain):
+            if not any(os.path.exists(os.path.join(at, name)) for at in (ROOT, DOCS)):
+                found.append(name)
+        for block in re.findall(r"^```sh\n(.*?)^```", page, re.M | re.S):
+            for span in re.findall(r"(?:^|(?<=&& ))make [a-z][\w-]*|-m tests\.[\w.]+", block, re.M):
+                found += self.missing(span)
         return found
 
 
 def pages():
     """Yields the name and the text of each page."""
-    for path in sorted(glob.glob(os.path.join(DOCS, "*.md"))):
+    for path in [os.path.join(ROOT, it) for it in FRONT_PAGES] + sorted(glob.glob(os.path.join(DOCS, "*.md"))):
         yield os.path.relpath(path, ROOT), read(path)
 
 
 class Tests:
-    @staticmethod
-    def test_each_folder_has_its_place():
+    def test_each_folder_has_its_place(self):
         """Each folder at the top that git keeps, but docs/, stands in the table of docs/architecture.md: none is there by mistake."""
         table = read(os.path.join(DOCS, "architecture.md")).partition("## Where things are")[2]
         kept = subprocess.run(["sh", "-c", "git ls-files '*/*'"], cwd=ROOT, capture_output=True, text=True)
         for it in sorted({path.partition("/")[0] for path in kept.stdout.split()} - {"docs"}):
             ensure(it.startswith(".") or f"`{it}/" in table, f"{it}/ is at the top, and not in docs/architecture.md")
 
-    @staticmethod
-    def test_laws_are_up_to_date():
+    def test_laws_are_up_to_date(self):
         """The list of laws in docs/proved.md is what their comments say."""
         found = LAWS.search(read(PROVED))
         ensure(found, "docs/proved.md has no place for the laws")
         expect(found[0].splitlines(), laws().splitlines(), "the laws in docs/proved.md; python3 -m tests.gate.pages --write writes them")
 
-    @staticmethod
-    def test_what_differs_from_what_was_asked_is_shown():
+    def test_what_differs_from_what_was_asked_is_shown(self):
         """Each row of docs/DECISIONS.md on what the programs do differently names tests that are there."""
         tests = Named().tests
         for asked, *_, shown in rows_under("### The programs", read(os.path.join(DOCS, "DECISIONS.md"))):
             named = re.findall(r"`([^`]+)`", shown)
             ensure(named and tests.issuperset(named), f"docs/DECISIONS.md: {asked} is shown by {shown}")
 
-    @staticmethod
-    def test_what_pages_name_is_there():
+    def test_what_pages_name_is_there(self):
         """Files, crates, definitions, functions, tests and targets of make that a page names are there."""
         named = Named()
         expect([f"{page}: {it}" for page, text in pages() if page not in OF_NUT for it in named.missing_of(text)], [], "what isn't there")
+        told = re.findall(r"^# make ([a-z-]+)", named.texts[0], re.M)
+        expect([it for it in told if it not in named.targets], [], "targets of make in the Makefile's own list")
 
-    @staticmethod
-    def test_what_is_not_there_is_found():
+    def test_what_is_not_there_is_found(self):
         """A page that names something that isn't there is refused."""
         named = Named()
         code = ("no_such_function", "NoSuchType", "NO_SUCH_LIMIT", "make nothing")
         tests = ("python3 -m tests.nothing", "upsd_sockets.nothing")
         for span in (*code, "nut_words: Nothing", "nut_words::Nothing", "nut_words/src/nothing.rt", *tests):
             ensure(named.missing_of(f"It is `{span}`."), f"{span} counts as something")
-        ensure(named.missing_of("See docs/nothing.md."), "docs/nothing.md counts as a page")
+        for text in ("See docs/nothing.md.", "See NOTHING.md.", "```sh\nmake nothing\n```\n", "```sh\ncd x && make nothing\n```\n"):
+            ensure(named.missing_of(text), f"{text} names something")
 
-    @staticmethod
-    def test_wrong_bodies_of_first_promises_are_listed():
+    def test_wrong_bodies_of_first_promises_are_listed(self):
         """docs/tests.md lists wrong bodies that are there, and all in the crates' must-fail/, by the words of their names."""
         rows = re.findall(r"^- (nut_\w+): (.*)$", read(os.path.join(DOCS, "tests.md")), re.M)
         listed = {f"{crate}: {words}" for crate, row in rows for words in row.lower().replace("'", "").split("; ")}
@@ -260,23 +263,20 @@ class Tests:
             found = {re.sub(".*/(.*)/.*/(.*).edit", lambda it: f"{it[1]}: {re.sub('[-_]', ' ', it[2])}", path) for path in paths}
             ensure(is_right(found), f"docs/tests.md and {folders}/ differ: {sorted(found - listed if folders == 'must-fail' else listed - found)}")
 
-    @staticmethod
-    def test_defaults_of_the_monitors_rule():
+    def test_defaults_of_the_monitors_rule(self):
         """The numbers in brackets of docs/decision.md are the defaults that upsmon.conf(5) names."""
         found = set(re.findall(r"\b([A-Z]{5,}) \((\d+)\)", read(os.path.join(DOCS, "decision.md"))))
         ensure(len(found) >= 5, f"docs/decision.md names few defaults: {found}")
         defaults = {(word, str(it.default)) for word, it in numbers("upsmon.conf").items()}
         expect(sorted(found - defaults), [], "docs/decision.md: what isn't a default")
 
-    @staticmethod
-    def test_sums():
+    def test_sums(self):
         """What a page adds up is right."""
         for page, text in pages():
             for terms, total in re.findall(r"(?<![+-] )\b(\d+(?: [+-] \d+)+) = \**(\d+)", text):
                 expect(sum(map(int, terms.replace("- ", "-").replace("+ ", "").split())), int(total), f"{page}: {terms}")
 
-    @staticmethod
-    def test_pages_are_small():
+    def test_pages_are_small(self):
         """docs/ and its pages keep to their sizes."""
         size = sum(os.path.getsize(path) for path in files_of(DOCS, ""))
         ensure(size <= ALL_DOCS, f"docs/ has {size:,} bytes, more than {ALL_DOCS:,}")

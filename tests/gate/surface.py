@@ -1,7 +1,5 @@
-#!/usr/bin/env python3
 """Holds the public surface of the crates to tests/surface.txt: each name stands there with its signature, and where it differs from
-what was first asked for, both stand there with the entry of docs/DECISIONS.md that says why. It needs no built program. The last
-line is 'N passed, M failed'.
+what was first asked for, both stand there with the entry of docs/DECISIONS.md that says why. It needs no built program.
 
 usage: python3 -m tests.gate.surface [CRATE ..]
 
@@ -186,53 +184,7 @@ class Tests:
 
     def test_code_is_read(self):
         """What is public in code, without contracts, hidden parts, attributes and line breaks."""
-        code = Code("""
-pub use other::{First, Second as Third};
-/// a comment, pub fn
-#[derive(Drop)]
-pub struct Part<'a, const N: usize> {
-    pub bytes: &'a [u8],
-    pub(crate) room: [u8; N],
-    pub ghost few: { N },
-}
-impl<'a, const N: usize> Part<'a, N> {
-    pub const fn get<T: Into<u8>>(
-        &'a mut self,
-        mut at: T, // its place
-        other: &mut T,
-    ) -> Option<&'a [u8]>
-        ensures { result ≡ None }
-    {
-        pub fn inside() {}
-    }
-    fn hidden(&self) {}
-}
-impl Drop for Part {
-    pub fn drop(self) {}
-}
-pub enum Kind {
-    #[error("a, b")]
-    One(u8, Vec<(u8, u8)>),
-    Two {
-        first: u8,
-        second: u8,
-    },
-    Three,
-}
-pub struct Name(pub [u8; 2], u8);
-pub trait End: Drop {
-    ghost log: { Self };
-    fn take(&mut self) -> (u8, Kind)
-        ensures { log };
-}
-pub const MOST: usize = 5;
-pub type All = Vec<Kind>;
-pub fn run<R>(rt: &R)
-where
-    R: Wait,
-{
-}
-""")
+        code = Code(read(os.path.join(ROOT, "tests", "gate", "surface_test.rt.txt")))
         expect(code.uses, ["other::{First,Second as Third}"], "what it hands on")
         wanted = [
             "struct Part<'a, const N: usize> { bytes: &'a [u8] }",

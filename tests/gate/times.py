@@ -1,4 +1,3 @@
-#!/usr/bin/env python3
 """Measures the processor time of each crate while the gate runs, shows it beside the times that were kept, and keeps it.
 
 usage: python3 -m tests.gate.times [--keep]
@@ -13,6 +12,7 @@ import statistics
 import sys
 import threading
 
+from tests.support import harness
 from tests.support.harness import ROOT
 
 LAST = os.path.join(ROOT, "bin", "gate-times.txt")
@@ -28,8 +28,7 @@ def processes():
     found = {}
     for pid in filter(str.isdigit, os.listdir("/proc")):
         try:
-            with open(f"/proc/{pid}/stat", encoding="utf-8", errors="replace") as file:
-                fields = file.read().rpartition(")")[2].split()
+            fields = harness.read(f"/proc/{pid}/stat").rpartition(")")[2].split()
         except OSError:
             continue
         found[int(pid)] = int(fields[1]), int(fields[19]), sum(map(int, fields[11:15]))
@@ -39,8 +38,7 @@ def processes():
 def check_of(pid):
     """Returns the crate that a process of the prover checks, and the part of the gate that the check belongs to; or None."""
     try:
-        with open(f"/proc/{pid}/cmdline", encoding="utf-8", errors="replace") as file:
-            words = file.read().split("\0")
+        words = harness.read(f"/proc/{pid}/cmdline").split("\0")
         here = os.readlink(f"/proc/{pid}/cwd")
     except OSError:
         return None
@@ -104,26 +102,22 @@ def lines_of(crate):
     for part in ("src", "specs", "proofs"):
         for at, _, names in os.walk(os.path.join(ROOT, "crates", crate, part)):
             for name in names:
-                with open(os.path.join(at, name), "rb") as file:
-                    count += file.read().count(b"\n")
+                count += harness.read_bytes(os.path.join(at, name)).count(b"\n")
     return count
 
 
 def write(seconds, path):
-    os.makedirs(os.path.dirname(path), exist_ok=True)
-    with open(path, "w", encoding="utf-8") as file:
-        file.write(f"# processor seconds of make check, written by make check-times\n# crate lines {' '.join(PARTS)}\n")
-        for crate in sorted(seconds):
-            file.write(f"{crate} {lines_of(crate)} {' '.join(f'{seconds[crate][part]:.0f}' for part in PARTS)}\n")
+    rows = [f"{crate} {lines_of(crate)} {' '.join(f'{seconds[crate][part]:.0f}' for part in PARTS)}\n" for crate in sorted(seconds)]
+    head = f"# processor seconds of make check, written by make check-times\n# crate lines {' '.join(PARTS)}\n"
+    harness.write(path, head + "".join(rows))
 
 
 def read(path):
     """Returns the lines and the seconds of each crate that a file holds; nothing if there is no such file."""
     found = {}
     if os.path.isfile(path):
-        with open(path, encoding="utf-8") as file:
-            for crate, *numbers in (line.split() for line in file if not line.startswith("#")):
-                found[crate] = dict(zip(("lines", *PARTS), map(int, numbers)))
+        for crate, *numbers in (line.split() for line in harness.read(path).splitlines() if not line.startswith("#")):
+            found[crate] = dict(zip(("lines", *PARTS), map(int, numbers)))
     return found
 
 

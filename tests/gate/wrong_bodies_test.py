@@ -1,8 +1,7 @@
-#!/usr/bin/env python3
 """Tests wrong_bodies.py on crates of five functions that are written here: a wrong body is refused, and wrong constants together,
 each at its own goal; and a right body is reported, a body that its contract allows, an edit that only another function refuses,
 one that nothing follows from, and one of a function that isn't proved. Of two more crates, one above the other, it tests which
-edits are known from earlier runs. The last line is 'N passed, M failed'."""
+edits are known from earlier runs."""
 
 import contextlib
 import io
@@ -13,54 +12,9 @@ import tempfile
 
 from tests.gate import wrong_bodies
 from tests.gate.functions import toolchain
-from tests.support.harness import write
+from tests.support.harness import read, write
 
-CODE = """//! Functions whose bodies are edited.
-#![tactic(auto)]
-
-ghost use Rattle.std.specs.Prelude.{◌≡◌, ◌+◌, ◌<◌, ◌≤◌};
-ghost use Rattle.NAME.specs.declared.TheConstants.{LEAST, MOST};
-
-const LEAST: usize = 2;
-const MOST: usize = 8;
-
-/// One more.
-pub fn next(count: usize) -> usize
-    requires { count < 1000 }
-    ensures { result ≡ count + 1 }
-{
-    count + 1
-}
-
-/// Two more.
-pub fn second(count: usize) -> usize
-    requires { count < 999 }
-    ensures { result ≡ count + 2 }
-{
-    next(next(count))
-}
-
-/// Two more too.
-pub fn as_second(count: usize) -> usize
-    requires { count < 998 }
-    ensures { result ≡ count + 2 }
-{
-    second(count)
-}
-
-/// At most eight.
-pub fn few(count: usize) -> usize
-    ensures { result ≤ 8 }
-{
-    if count < MOST { count } else { MOST }
-}
-
-/// The constants.
-pub fn limits()
-    ensures least { LEAST ≡ 2 }
-    ensures most { MOST ≡ 8 }
-{}
-"""
+CODE = read(os.path.join(os.path.dirname(__file__), "wrong_bodies_test.rt.txt"))
 
 # An answer that cites a call by its name.
 ANSWER = """use Rattle.NAME.proofs.as_second.Goals as goal

@@ -1,15 +1,14 @@
-#!/usr/bin/env python3
 """Runs upsd with clients that Network UPS Tools bring beside their tools: the monitor upsmon, and the Python module PyNUT.
 
     python3 -m tests.peers.clients UPSD DUMMY_UPS
 
-If one of them isn't installed, what needs it is skipped, with a line that says so. The last line is 'N passed, M failed'."""
+If one of them isn't installed, what needs it is skipped, with a line that says so."""
 
 import ast
 import os
 import sys
 
-from tests.support.harness import Missing, apart, ended_in_bytes, ensure, expect, play
+from tests.support.harness import Missing, apart, ended_in_bytes, ensure, expect, play, read
 from tests.peers.server import NutRoom, needed
 from tests.support.room import ONLINE, RoomTests, STATUS, USERS as ROOM_USERS, until
 
@@ -115,8 +114,6 @@ class Tests(RoomTests):
             raise Missing("PyNUT isn't installed (Debian's package python3-nut)")
         return self.room()
 
-    # From here on, each method whose name begins with 'test_' is a test.
-
     def test_pynut_asks(self):
         with self.python_room() as room:
             room.begin()
@@ -203,8 +200,7 @@ class Tests(RoomTests):
             room.fail()
             room.until(STATUS, b'VAR su700 ups.status "FSD OB LB"\n', 30)
             until(lambda: os.path.exists(os.path.join(folder, "is-down")), "its SHUTDOWNCMD", 30)
-            with open(os.path.join(folder, "killpower")) as file:
-                expect(file.read().strip(), "upsmon-shutdown-file", "its POWERDOWNFLAG")
+            expect(read(os.path.join(folder, "killpower")).strip(), "upsmon-shutdown-file", "its POWERDOWNFLAG")
             until(lambda: monitor.poll() is not None, "it ends")
             room.until(LOGINS, b"NUMLOGINS su700 0\n")
 

@@ -1,10 +1,8 @@
-#!/usr/bin/env python3
 """Runs upsmon against NUT's own upsd with NUT's own dummy-ups, on loopback, from a folder of its own.
 
     python3 -m tests.peers.monitor UPSMON
 
-If Debian's packages nut-server and nut-client aren't installed, what needs them is skipped, with a line that says so. The
-last line is 'N passed, M failed'."""
+If Debian's packages nut-server and nut-client aren't installed, what needs them is skipped, with a line that says so."""
 
 import os
 import sys
@@ -36,10 +34,8 @@ class Tests:
 
     def set_status(self, room, status):
         words = ["-s", f"ups.status={status}", "-u", "admin", "-p", "pw", "ROOM"]
-        # NUT's driver accepts no SET soon after its start, or after it stood still
+        # NUT's driver accepts no SET soon after its start
         until(lambda: room.tool("upsrw", *words)[0] == 0, f"the status is set to {status}", 30)
-
-    # From here on, each method whose name begins with 'test_' is a test.
 
     def test_power_fails(self):
         with self.room() as room:
@@ -125,24 +121,26 @@ class Tests:
         """NUT's server is started again on battery, and its driver hangs: what upsmon tells, and that DEADTIME stops nothing."""
         with self.room() as room:
             target = self.begin(room, b"ups.status: OB\n")
-            waits = "server reports WAIT: DEADTIME can't start a shutdown until it hears its driver"
+            waits = f"upsmon: UPS {target}: server reports WAIT: DEADTIME can't start a shutdown until it hears its driver"
             with self.watch(target, ("mon", "m1", "primary"), f"{QUICK}DEADTIME 4\n{HALTS}") as watch:
                 watch.until_printed(ON_BATTERY % target)
                 with stopped(room.driver_process):
                     room.server_process.kill()
                     room.server_process.wait()
                     room.start_nuts_server()
-                    told = f"upsmon: UPS {target}: {waits}"
-                    until(lambda: told in watch.lines("err"), "the warning", 20)
-                    # NUT's server refuses the status from the fifteenth second on; there were losses before, of the one that was killed
-                    # and perhaps of one that is slow
-                    refused = f"upsmon: UPS {target}: status refused: "
-                    until(lambda: any(line.startswith(refused) for line in watch.lines("err")), "the server refuses the status", 40)
-                    expect(watch.lines()[-1], LOST % target, "the loss of what the server refuses")
+                    watch.until_told(waits, 20)
+                    # NUT's server refuses the status from the fifteenth second on; the one that was killed was lost, too
+                    watch.until_told(f"upsmon: UPS {target}: status refused: DATA-STALE", 40)
+                    until(lambda: watch.lines()[-1] == LOST % target, "the loss of what the server refuses")
                     time.sleep(8)
-                    expect((watch.process.poll(), watch.lines("err").count(told)), (None, 1), "it goes on, and tells it once")
-                self.set_status(room, "OB LB")
+                    expect((watch.process.poll(), watch.lines("err").count(waits)), (None, 1), "it goes on, and tells it once")
+                    # one of NUT that goes on after its server ended goes down at its next SET, so another driver takes its place
+                    room.driver_process.kill()
+                    room.driver_process.wait()
+                room.write("nut/su700.dev", b"ups.status: OB LB\n")
+                room.start_nuts_driver()
                 expect((watch.status(30), watch.read("halted")), (0, b""), "the halt")
+                expect(watch.lines()[-2:], [BATTERY_LOW % target, SHUTDOWN], "what it is for")
 
 
 if __name__ == "__main__":

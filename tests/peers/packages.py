@@ -1,10 +1,9 @@
-#!/usr/bin/env python3
 """Replaces NUT's packages by this project's on a Debian that runs NUT, and back again, with the given programs.
 
     python3 -m tests.peers.packages [--root FOLDER] UPSD DUMMY-UPS UPSMON UPSC UPSRW UPSCMD NUTSIM
 
 The Debian is made by debootstrap, which needs root and a network, or is a copy of FOLDER, in which debootstrap made one with
-systemd; NUT's packages come from Debian. It runs under systemd-nspawn. The last line is 'N passed, M failed'."""
+systemd; NUT's packages come from Debian. It runs under systemd-nspawn."""
 
 import os
 import re
@@ -13,7 +12,7 @@ import sys
 import time
 
 from tests.support.debian_root import Booted, Root, fresh_root
-from tests.support.harness import Missing, ensure, expect
+from tests.support.harness import Missing, ensure, expect, read
 from tests.programs.packages import ROOT, main
 
 # NUT with a dummy UPS, as an operator of Debian has it: the files of Debian's packages with a few more lines.
@@ -34,8 +33,7 @@ TOLD = [
 
 
 def page(*names):
-    with open(os.path.join(ROOT, *names)) as file:
-        return file.read()
+    return read(os.path.join(ROOT, *names))
 
 
 def shown(section, block):

@@ -1,10 +1,8 @@
-#!/usr/bin/env python3
 """Runs upsc, upsrw and upscmd against NUT's own upsd and dummy-ups, side by side with NUT's own tools.
 
     python3 -m tests.peers.tools UPSC UPSRW UPSCMD
 
-It wants Debian's packages nut-server and nut-client, and runs their programs on loopback out of a folder of its own. The
-last line is 'N passed, M failed'."""
+It wants Debian's packages nut-server and nut-client, and runs their programs on loopback out of a folder of its own."""
 
 import contextlib
 import sys
@@ -46,8 +44,6 @@ class Tests:
             room.nut_online(DEVICE)
             yield room
 
-    # Each method whose name begins with 'test_' is a test.
-
     def test_variables(self):
         with self.room() as room:
             found = room.ours("upsc", "ROOM")
@@ -70,11 +66,10 @@ class Tests:
 
     def test_settable(self):
         with self.room() as room:
-            status, output, error = room.ours("upsrw", "ROOM")
-            expect((status, error), (0, ""), "upsrw NAME")
-            heads, theirs = ([line for line in it.splitlines() if line.startswith("[")] for it in (output, room.theirs("upsrw", "ROOM")[1]))
-            expect(heads, theirs, "the variables that may be set")
-            ensure(heads, "some may be set")
+            heads = lambda run: [line for line in run("upsrw", "ROOM")[1].splitlines() if line.startswith("[")]
+            # NUT's driver may tell of some only after its start
+            until(lambda: heads(room.theirs) and heads(room.ours) == heads(room.theirs), "both show the variables that may be set", 30)
+            expect(room.ours("upsrw", "ROOM")[::2], (0, ""), "upsrw NAME")
 
     def test_sets(self):
         with self.room() as room:

@@ -1,17 +1,14 @@
-#!/usr/bin/env python3
 """Has the programs check configuration files: each fault with its line, which of two faults is reported, each limit, at it and
 just past it, and what is said to be meant.
 
-    python3 -m tests.programs.files UPSD UPSMON
-
-The last line is 'N passed, M failed'."""
+    python3 -m tests.programs.files UPSD UPSMON"""
 
 import os
 import sys
 import tempfile
 
 from tests.support import manual
-from tests.support.harness import ended_in_bytes, ensure, expect, play
+from tests.support.harness import ended_in_bytes, ensure, expect, play, write
 
 
 def numbered(line, count):
@@ -123,10 +120,9 @@ FILES = {
         # limits, at each of them and just past it
         *limit(b"%b", b"\n", 1_048_576, "0: PastLimit", "a file has at most 1048576 bytes"),
         (b"x" * 1_048_577, "0: PastLimit"),
-        (b"x" * 1_048_576, "1: PastLimit"),
+        *faulty("1: PastLimit", b"x" * 1_048_576, b'"' * 513),
         *limit(b"%b\n[a]", b"#", 512, "1: PastLimit", LONG),
         *limit(b"%b\r\n", b"#", 511, "1: PastLimit", LONG),
-        (b'"' * 513, "1: PastLimit"),
         (b"a " * 32, "1: OutsideSection"),
         (b"a " * 33, "1: Unreadable", f"{UNREAD}more than 32 words"),
         *limit(b"[%b]", b"a", 32, "1: PastLimit"),
@@ -145,23 +141,20 @@ FILES = {
         *fine(b"[a]\nactions = SET\nactions = SET\nactions = FSD\n", b"[a]\n" + b"actions=SET\n" * 1000),
         *fine(b"[a]\ninstcmds = all\ninstcmds = ALL\ninstcmds = aLl\n", b"[a]\ninstcmds = load.off\ninstcmds = load.off\n"),
         (b"[a]\nupsmon master\n", "2: UnknownWord", f"master: {ROLE}"),
-        (b"[a]\nupsmon Primary\n", "2: UnknownWord"),
+        *faulty("2: UnknownWord", b"[a]\nupsmon Primary\n", b"[a]\nactions = ALL\n"),
         (b"[a]\nupsmon primary\nupsmon x\n", "3: UnknownWord"),
         (b"[a]\nupsmon = primary\n", "2: BadForm", "upsmon primary or upsmon secondary is meant"),
-        (b"[a]\nupsmon\n", "2: BadForm"),
+        *faulty("2: BadForm", b"[a]\nupsmon\n", b"[a]\nactions = SET FSD\n"),
         (b"[a]\nupsmon primary\nupsmon primary\n", "3: Repeated", "upsmon: a line before has it"),
-        (b"[a]\nupsmon primary\nupsmon secondary\n", "3: Repeated"),
+        *faulty("3: Repeated", b"[a]\nupsmon primary\nupsmon secondary\n", b"[a]\n[b]\n[a]\n"),
         (b"[a]\nactions = set\n", "2: UnknownWord", "set: 'SET' or 'FSD' is meant"),
-        (b"[a]\nactions = ALL\n", "2: UnknownWord"),
         (b"[a]\nactions SET\n", "2: BadForm", "actions = SET or actions = FSD is meant"),
-        (b"[a]\nactions = SET FSD\n", "2: BadForm"),
         (b"[a]\ninstcmds = a/b\n", "2: BadName", f"a/b: {named(64)}"),
         (b'[a]\ninstcmds = ""\n', "2: BadName"),
         (b"[a]\ninstcmds = a b\n", "2: BadForm", "instcmds = COMMAND or instcmds = ALL is meant"),
         unknown(b"[a]\r\nallowfrom = x\r\n", "2: UnknownDirective", "allowfrom"),
         unknown(b"allowfrom = x\n", "1: OutsideSection", "allowfrom"),
         *faulty("2: UnknownDirective", b"[a]\ndesc = x\n", b"[a]\nSET\n"),
-        (b"[a]\n[b]\n[a]\n", "3: Repeated"),
         # lines with a password
         (b"[a]\npassword = %b x\n" % SECRET, "2: BadForm", 'password = "TEXT" is meant'),
         (b"[a]\npassword %b\n" % SECRET, "2: BadForm", 'password = "TEXT" is meant'),
@@ -193,16 +186,14 @@ FILES = {
         (b"# \xff\n", "1: Unreadable", f"byte 0xff at column 3: {MENDED}"),
         (b"MAXAGE 15\nMAXAGE 16\n", "2: Repeated", "MAXAGE: a line before has it"),
         (b"MAXAGE = 5\n", "1: BadForm", "MAXAGE SECONDS is meant"),
-        (b"MAXAGE 0 0\n", "1: BadForm"),
+        *faulty("1: BadForm", b"MAXAGE 0 0\n", b"LISTEN a 1 2\n", b"LISTEN a_b 1 2\n"),
         (b'MAXAGE ""\n', "1: BadNumber", "SECONDS: a number from 1 to 86400 is meant"),
-        *faulty("1: BadNumber", b"MAXAGE 1x\n", b"MAXAGE -1\n", b"MAXAGE +1\n", b"MAXAGE 0000000015"),
+        *faulty("1: BadNumber", b"MAXAGE 1x\n", b"MAXAGE -1\n", b"MAXAGE +1\n", b"MAXAGE 0000000015", b"LISTEN a 0\n"),
         (b"LISTEN\n", "1: BadForm", "LISTEN ADDRESS [PORT] is meant"),
-        *faulty("1: BadForm", b"LISTEN a 1 2\n", b"LISTEN a_b 1 2\n"),
         (b"LISTEN [::1]\n", "1: BadName", f"[::1]: {ADDRESS}"),
         (b"LISTEN *\n", "1: BadName", f"*: {ADDRESS}"),
         *faulty("1: BadName", b"LISTEN a_b 0\n", b'LISTEN ""\n', b"LISTEN = 1\n"),
         (b"LISTEN a 65536\n", "1: BadNumber", "65536: a number from 1 to 65535 is meant"),
-        (b"LISTEN a 0\n", "1: BadNumber"),
         unknown(b"STATEPATH x\n", "1: UnknownDirective", "STATEPATH"),
         unknown(b"w" * 500 + b" 1\n", "1: UnknownDirective", "w" * 500),
         *faulty("1: UnknownDirective", b"maxage 5\n", b"[a]\n"),
@@ -226,9 +217,8 @@ FILES = {
         *fine(monitor(b"u@h", b"u@h:1"), monitor(b"u@h", b"u@H"), monitor(b"u@h", b"U@h")),
         # values are tested from left to right
         *faulty("1: BadForm", b"MONITOR u 1 m p\n", b"MONITOR u@h 1 m p primary x\n"),
-        (b"MONITOR u x m p primary\n", "1: BadName"),
+        *faulty("1: BadName", b"MONITOR u x m p primary\n", b'MONITOR u@h 1 m/ "" primary\n'),
         (b"MONITOR u@h x m/ p primary\n", "1: BadNumber"),
-        (b'MONITOR u@h 1 m/ "" primary\n', "1: BadName"),
         (b'MONITOR u@h 1 m "" master\n', "1: PastLimit"),
         (b"MONITOR u@h 1 m p primary\nMONITOR u@h 1 m p x\n", "2: UnknownWord"),
         # lines with a password, which may be in a wrong place
@@ -366,8 +356,7 @@ class Tests:
         """Returns what a program says of a folder of files, each named with '_' for '.'."""
         with tempfile.TemporaryDirectory(dir=self.folder) as folder:
             for name, text in texts.items():
-                with open(os.path.join(folder, name.replace("_", ".")), "wb") as file:
-                    file.write(text)
+                write(os.path.join(folder, name.replace("_", ".")), text)
             # upsmon looks for upsc, and finds none
             return ended_in_bytes([program, "--check", "--conf", folder], env={"PATH": folder})
 

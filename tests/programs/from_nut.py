@@ -1,10 +1,9 @@
-#!/usr/bin/env python3
 """Checks docs/from-nut.md against NUT's manual pages, if those are installed, and that the page from-nut(7) says the same.
 
     python3 -m tests.programs.from_nut [--write] [PROGRAM..]
 
 The text is written only in docs/from-nut.md: with --write the page is made from it. Programs that are given are tested for
-whether they support what it says. The last line is 'N passed, M failed'."""
+whether they support what it says."""
 
 import gzip
 import os
@@ -14,7 +13,7 @@ import sys
 import tempfile
 
 from tests.support import manual
-from tests.support.harness import ended_in_bytes, ensure, expect, Missing, ROOT, run_tests
+from tests.support.harness import ROOT, Missing, ended_in_bytes, ensure, expect, read, run_tests, write
 
 SOURCE = os.path.join(ROOT, "docs", "from-nut.md")
 PAGE = os.path.join(ROOT, "man", "from-nut.7")
@@ -35,11 +34,6 @@ SECTIONS = {
     "upscmd": "man8/upscmd.8",
     "dummy-ups": "man8/nutupsdrv.8",
 }
-
-
-def text_of(path):
-    with open(path) as file:
-        return file.read()
 
 
 def blocks(text):
@@ -178,8 +172,7 @@ class Tests:
                 with tempfile.TemporaryDirectory() as folder:
                     word = name.strip("`").replace("<variable>", "ups.id")
                     for file in LINES:
-                        with open(os.path.join(folder, file), "w") as opened:
-                            opened.write(LINES[file].format(word) if file == section else "")
+                        write(os.path.join(folder, file), LINES[file].format(word) if file == section else "")
                     program = "upsmon" if section == "upsmon.conf" else "upsd"
                     said = self.said(self.program(program), "--check", "--conf", folder)
                     expect("UnknownDirective" in said, text.startswith("not supported"), f"{section}: {name}: {said}")
@@ -191,7 +184,7 @@ class Tests:
     def sections(self):
         """Returns the rows of each section's tables, one for each name of a first cell."""
         section, found = None, {}
-        for kind, lines in blocks(text_of(SOURCE)):
+        for kind, lines in blocks(read(SOURCE)):
             if kind == "heading":
                 section = lines[0].lstrip("# ")
             elif kind == "table":
@@ -230,7 +223,7 @@ class Tests:
             if section not in LINES:
                 continue
             if section == "cmdvartab":
-                table = text_of(os.path.join(ROOT, "docs/programs.md")).partition(f"\n## {section}\n")[2].partition("\n## ")[0]
+                table = read(os.path.join(ROOT, "docs/programs.md")).partition(f"\n## {section}\n")[2].partition("\n## ")[0]
                 ours = re.findall(r"^\| `([A-Za-z]+)", table, re.MULTILINE)
             else:
                 ours = [word for word, text in manual.directives(section).items() if "NUT has no such directive." not in text]
@@ -238,15 +231,14 @@ class Tests:
             expect(sorted(supported), sorted(ours), f"what {section} supports")
 
     def test_page_is_made_of_the_document(self):
-        expect(text_of(PAGE) == made_page(text_of(SOURCE)), True, "man/from-nut.7 is what 'tests/programs/from_nut.py --write' makes")
+        expect(read(PAGE) == made_page(read(SOURCE)), True, "man/from-nut.7 is what 'tests/programs/from_nut.py --write' makes")
 
 
 def main():
     words = sys.argv[1:]
     if words[:1] == ["--write"]:
         words = words[1:]
-        with open(PAGE, "w") as file:
-            file.write(made_page(text_of(SOURCE)))
+        write(PAGE, made_page(read(SOURCE)))
     return run_tests(Tests(words), install="'apt-get install nut-server nut-client' installs NUT's pages")
 
 

@@ -1,10 +1,8 @@
-#!/usr/bin/env python3
 """Has clients of upsd do what holds others up or exhausts a server, and stops and kills upsd and its drivers.
 
     python3 -m tests.programs.hostile_clients UPSD DUMMY_UPS
 
-If a minute or more has to pass, upsd runs with a faster clock (tests/support/hasten.c), so a C compiler is needed. The last
-line is 'N passed, M failed'."""
+If a minute or more has to pass, upsd runs with a faster clock (tests/support/hasten.c), so a C compiler is needed."""
 
 import contextlib
 import errno
@@ -20,7 +18,7 @@ import sys
 import time
 
 from tests.support.harness import build_library, built_without_proof, cannot_listen, cannot_read, ended_in_bytes, ensure, expect
-from tests.support.harness import needs_proved_build, patience, play, processor_time
+from tests.support.harness import needs_proved_build, patience, play, processor_time, status_of
 from tests.support.room import NOT_CONNECTED, ONLINE, NO_PINGS, SOON, STATUS, VERSION, Client, RoomTests
 from tests.support.room import accepted, descriptors, said, stopped, until
 
@@ -48,8 +46,7 @@ SHARED = 0o660
 
 def resident(pid):
     """Returns the resident memory of a process in KiB."""
-    with open(f"/proc/{pid}/status") as status:
-        return next(int(line.split()[1]) for line in status if line.startswith("VmRSS:"))
+    return int(status_of(pid)["VmRSS"].split()[0])
 
 
 def probed(port):
@@ -114,8 +111,6 @@ class Tests(RoomTests):
         """Starts upsd with a clock that runs this many times as fast."""
         env = {**os.environ, "LD_PRELOAD": self.library, "HASTE": str(haste), **settings}
         return room.upsd(env=env)
-
-    # From here on, each method whose name begins with 'test_' is a test.
 
     def test_as_many_as_there_may_be_never_read(self):
         needs_proved_build("how fast hundreds of clients are answered")

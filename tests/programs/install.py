@@ -1,9 +1,8 @@
-#!/usr/bin/env python3
 """Installs the programs into folders of its own, checks the files there, and uninstalls them.
 
     python3 -m tests.programs.install [PROGRAM..]
 
-A file is used in place of a program that isn't given. The last line is 'N passed, M failed'."""
+A file is used in place of a program that isn't given."""
 
 import functools
 import os
@@ -18,7 +17,7 @@ import sys
 import tempfile
 import time
 
-from tests.support.harness import ROOT, Failed, Missing, apart, ended, ensure, expect, needed, read, run_tests, write
+from tests.support.harness import HERE, ROOT, Failed, Missing, apart, ended, ensure, expect, needed, read, run_tests, write
 from tests.support.room import free_port, until
 
 SERVERS = ("upsd", "upsmon")
@@ -39,29 +38,8 @@ OWN_MOUNTS = re.compile(
 )
 UNITS = {"upsd": "mulgefa-upsd.service", "upsmon": "mulgefa-upsmon.service", "dummy-ups": "mulgefa-dummy-ups@.service"}
 
-# Tools that print what those of a server with two UPSes print; a host named rack has another one.
-SCENE = {
-    "upsc": """case $* in
--l) printf 'su700\\nsu900\\n' ;;
-"-l rack") echo su700 ;;
-"-l rack:1") echo su100 ;;
-su700 | su700@rack) printf 'battery.charge: 100\\nups.model: a: b\\nups.status: OL\\n' ;;
-evil) printf '%s\\n' '$(touch hit): 1' '`touch hit`: 2' '*: 3' ;;
-*) echo "Error: $*" >&2; exit 1 ;;
-esac
-""",
-    "upsrw": """case $* in
-su700) printf '[input.sensitivity]\\nType: RW ENUM\\nValue: low\\nOption: low\\nOption: very high\\n\\n[ups.id]\\nType: RW STRING:16\\nValue: x\\n' ;;
-su900) printf '[ups.delay.start]\\nType: RW RANGE\\nValue: 1\\n' ;;
-*) exit 1 ;;
-esac
-""",
-    "upscmd": """case $* in
-"-l su700") printf 'load.off - Turn off the load\\nload.on - Turn on the load\\n' ;;
-*) exit 1 ;;
-esac
-""",
-}
+# A folder of tools that print what those of a server with two UPSes print, and what is offered then.
+SCENE = os.path.join(HERE, "completion")
 
 IN_QUOTES = "    put the password in quotes, at the server and in each MONITOR line: NUT's programs end it at its '='\n"
 OF_A_PROCESS = "    take it out: this notice is about a process that upsmon lacks here\n"
@@ -167,106 +145,6 @@ CHECKED = {
     ),
     "a cmdvartab that is right": ((), {"cmdvartab": 'VARDESC ups.load "Load"\n'}, 0, "", {"cmdvartab": 'VARDESC ups.load "Load"\n'}),
 }
-
-# Calls of the script that units wait by, in a room whose driver starts late.
-UNTIL_READY = """
-ip link set lo up || exit 77
-until_ready=$prefix/lib/mulgefa/until-ready
-socket=$PWD/dummy-ups-su700
-trap 'kill $(jobs -p)' EXIT
-late_driver() {
-    sleep 1
-    exec "$prefix/lib/mulgefa/dummy-ups" su700.dev "$socket"
-}
-end() {
-    kill $1
-    wait $1
-}
-
-late_driver &
-driver=$!
-"$until_ready" $driver driver "$socket"
-echo "the socket of a late driver: $(test -S "$socket" && echo there)"
-end $driver
-rm "$socket"
-
-"$prefix/sbin/upsd" --conf . -s . -q &
-server=$!
-late_driver &
-"$until_ready" $server server
-echo "the status of a late driver: $("$prefix/bin/upsc" su700 ups.status)"
-end $server
-
-echo 'LISTEN 127.0.0.1 24931' > upsd.conf
-"$prefix/sbin/upsd" --conf . -s . -q &
-"$until_ready" $! server
-echo "a server elsewhere: $?"
-
-printf 'MINSUPPLIES 0\nSHUTDOWNCMD true\n' > upsmon.conf
-"$prefix/sbin/upsmon" --conf . -q &
-monitor=$!
-"$until_ready" $monitor monitor
-echo "the shells that wait: $(wc -w < /proc/$monitor/task/$monitor/children)"
-end $monitor
-echo faulty > upsmon.conf
-"$prefix/sbin/upsmon" --conf . -q 2> /dev/null &
-"$until_ready" $! monitor
-kill -0 $! 2> /dev/null || echo "a monitor that failed: gone"
-
-true &
-ended=$!
-wait $ended
-"$until_ready" $ended driver none
-echo "a driver that ended: $?"
-"$until_ready" $ended server
-echo "a server that ended: $?"
-"""
-
-# What is offered after a line.
-COMPLETIONS = {
-    "upsc ": ["su700", "su900"],
-    "upsc su7": ["su700"],
-    "upsc x": [],
-    "upsc -": ["-j", "-l", "-L", "-c", "-h", "--help", "-V", "--version"],
-    "upsc -l localh": ["localhost"],
-    "upsc su700 ": ["battery.charge", "ups.model", "ups.status"],
-    "upsc su700 ups.s": ["ups.status"],
-    "upsc su700@rack ups.s": ["ups.status"],
-    "upsc su700 ups.status ": [],
-    "upsc su700@": [],
-    "upsc su700@rack": ["rack"],
-    "upsc su700@rack:1": [],
-    "upsc su100@rack:1": ["1"],
-    "upsc -c ": ["su700", "su900"],
-    "upsc -c su700 ": [],
-    "upsc -j ": ["su700", "su900"],
-    "upsc -j su700 ": [],
-    "upsrw ": ["su700", "su900"],
-    "upsrw su700 ": [],
-    "upsrw -": ["-s", "-w", "-u", "-p", "-h", "--help", "-V", "--version"],
-    "upsrw -s ": ["input.sensitivity=", "ups.id=", "ups.delay.start="],
-    "upsrw su700 -s in": ["input.sensitivity="],
-    "upsrw -s input.sensitivity=": ["low", "very\\ high"],
-    "upsrw -s input.sensitivity=l": ["low"],
-    "upsrw -s ups.id=": [],
-    "upsrw -s ups.id=x -u ": [],
-    "upsrw -s ups.id=x -u admin -p pw su9": ["su900"],
-    "upscmd ": ["su700", "su900"],
-    "upscmd -l su7": ["su700"],
-    "upscmd -l su700 ": [],
-    "upscmd su700 load.": ["load.off", "load.on"],
-    "upscmd -u admin -p pw su700 load.of": ["load.off"],
-    "upscmd -u admin -p ": [],
-    "upscmd -u": ["-u"],
-    "upsmon -": ["--conf", "-q", "--check", "--delay", "--fsd", "-K", "-h", "--help", "-V", "--version"],
-    "upsmon --f": ["--fsd"],
-    "upsmon --conf /etc": [],
-    "nutroom -": ["-n", "-s", "--svg", "--steps", "--run", "--nutsim", "-h", "--help", "-V", "--version"],
-    "nutroom -n 5 --s": ["--svg", "--steps"],
-    "nutroom -s ": [],
-    "nutroom x": [],
-}
-
 
 def programs():
     """Returns the programs that the Makefile builds, as they are installed."""
@@ -388,8 +266,6 @@ class Tests:
         status, said, wrong = self.make("configure", f"DESTDIR={destination}", *words)
         expect((status, wrong), (0, ""), "make configure")
         return os.path.join(destination, "etc/nut"), said.splitlines()
-
-    # From here on, each method whose name begins with 'test_' is a test.
 
     def test_tree(self):
         destination = os.path.join(self.folder, "a package")
@@ -832,9 +708,6 @@ class Tests:
 
     def completed(self, line, breaks=" \t\n\"'><=;|&(:@"):
         """Returns what bash offers at the end of a line, with the tools of a scene in place of the programs."""
-        scene = os.path.join(self.folder, "scene")
-        for name, text in SCENE.items():
-            write(os.path.join(scene, name), f"#!/bin/sh\n{text}", 0o755)
         program = line.split()[0]
         script = f"""COMP_WORDBREAKS=$BREAKS
             . packaging/completions.bash
@@ -842,7 +715,7 @@ class Tests:
             COMP_LINE=$LINE COMP_POINT=${{#LINE}}
             _mulgefa_{program}
             printf '%s\\n' "${{COMPREPLY[@]}}" """
-        env = {"PATH": f"{scene}:{os.environ['PATH']}", "LINE": line, "BREAKS": breaks, "SCENE": scene}
+        env = {"PATH": f"{SCENE}:{os.environ['PATH']}", "LINE": line, "BREAKS": breaks}
         return list(filter(None, self.bash(script, env).splitlines()))
 
     def bash(self, script, env):
@@ -852,8 +725,9 @@ class Tests:
         return out
 
     def test_completion(self):
-        for line, offered in COMPLETIONS.items():
-            expect(self.completed(line), offered, f"what is offered after {line!r}")
+        rows = [line.partition(" |") for line in read(os.path.join(SCENE, "offered.txt")).splitlines()[1:]]
+        for line, _, offered in rows:
+            expect(self.completed(line), offered.strip().split(", ") if offered else [], f"what is offered after {line!r}")
         # if bash splits a word only at blanks, the whole word is offered
         expect(self.completed("upsc su700@rack", " \t\n"), ["su700@rack"], "a whole name")
         # What a server says is text, whatever the shell would make of it.
@@ -931,7 +805,7 @@ class Tests:
         prefix = self.installed("ready")
         room = os.path.join(self.folder, "waiting")
         shutil.copytree(os.path.join(ROOT, "examples"), room)
-        words = [*apart("--net"), "bash", "-c", UNTIL_READY]
+        words = [*apart("--net"), "bash", os.path.join(HERE, "until_ready.sh")]
         status, out, err = ended(words, cwd=room, timeout=120, env={**os.environ, "prefix": prefix})
         if status == 77:
             raise Missing("no network of its own can be had")

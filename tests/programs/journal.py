@@ -1,18 +1,15 @@
-#!/usr/bin/env python3
 """Plays systemd's journal for upsd, upsmon and dummy-ups: the priorities with which their lines begin there, and that lines are
 plain everywhere else.
 
-    python3 -m tests.programs.journal UPSD DUMMY_UPS UPSC UPSMON
-
-The last line is 'N passed, M failed'."""
+    python3 -m tests.programs.journal UPSD DUMMY_UPS UPSC UPSMON"""
 
 import errno
 import os
 import socket
 import sys
 
-from tests.support.harness import FullPipe, ended, ensure, expect, named_error
-from tests.support.monitored import BATTERY_LOW, LOST, ON_BATTERY, QUICK, SHUTDOWN, MonitorTests, play
+from tests.support.harness import FullPipe, ended, ensure, expect, named_error, play
+from tests.support.monitored import BATTERY_LOW, LOST, ON_BATTERY, QUICK, SHUTDOWN, MonitorTests
 from tests.support.room import Lines, until
 
 HALTS = 'SHUTDOWNCMD "touch FOLDER/halted"\n'
@@ -66,8 +63,6 @@ class Tests(MonitorTests):
         """Expects each line to begin with one, and none with the program's name."""
         for line in lines:
             ensure(line[:3] in ("<3>", "<4>", "<5>", "<6>") and f"{program}:" not in line, f"the beginning of {line!r}")
-
-    # From here on, each method whose name begins with 'test_' is a test.
 
     def test_server(self):
         with Journal() as journal, self.room() as room:
@@ -178,16 +173,20 @@ class Tests(MonitorTests):
                     ensure(plain and not any(line.startswith("<") for line in plain), f"what isn't in the journal: {plain}")
 
     def test_lines_that_were_let_go(self):
-        stream = FullPipe()
-        options = {"env": named(stream.writer), "stdout": stream.writer}
-        with stream as pipe, self.watched("POLLFREQ 1\n", role="secondary", **options) as (server, watch):
-            for status in (b"OB", b"OL"):
-                server.statuses[b"su700"] = status
-                server.until_asked_again(2)
-            expect(pipe.read(), b"", "nothing is printed where there is no room")
-            server.statuses[b"su700"] = b"OB"
-            told = f"<4>2 log lines dropped (output blocked)\n<5>{ON_BATTERY % server.target}\n".encode()
-            until(lambda: told == pipe.read() or watch.process.poll(), "what was let go is told")
+        """They are counted once there is room again, in the journal and elsewhere, and the next line comes alone."""
+        for is_journal, warning, notice in ((True, "<4>", "<5>"), (False, "upsmon: ", "")):
+            stream = FullPipe()
+            options = {"env": named(stream.writer)} if is_journal else {}
+            with stream as pipe, self.watched("POLLFREQ 1\n", role="secondary", stdout=pipe.writer, **options) as (server, watch):
+                for status in (b"OB", b"OL"):
+                    server.statuses[b"su700"] = status
+                    server.until_asked_again(2)
+                expect(pipe.read(), b"", "nothing is printed where there is no room")
+                server.statuses[b"su700"] = b"OB"
+                told = f"{warning}2 log lines dropped (output blocked)\n{notice}{ON_BATTERY % server.target}\n".encode()
+                until(lambda: told == pipe.read() or watch.process.poll(), "what was let go is told")
+                server.statuses[b"su700"] = b"OL"
+                until(lambda: f"{notice}UPS {server.target} on line power\n".encode() == pipe.read(), "the next line comes alone")
 
     def test_elsewhere(self):
         """Programs below a service, or in a terminal that is one, have the variable, and another stream."""
@@ -217,4 +216,4 @@ class Tests(MonitorTests):
 
 
 if __name__ == "__main__":
-    sys.exit(play(Tests))
+    sys.exit(play(Tests, 4))

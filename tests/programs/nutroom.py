@@ -1,11 +1,9 @@
-#!/usr/bin/env python3
 """Runs `nutroom` with the built `nutsim`: descriptions that are right and wrong, what it prints and draws, and random rooms,
 none of which may pass a bound of the theorem.
 
-    python3 -m tests.programs.nutroom [--rooms COUNT] NUTSIM
+    python3 -m tests.programs.nutroom NUTSIM
 
-Rooms are made from fixed seeds, so that each run of this test plays the same. COUNT is how many, by default 300. The last
-line is 'N passed, M failed'."""
+Rooms are made from fixed seeds, so that each run of this test plays the same."""
 
 import collections
 import concurrent.futures
@@ -20,12 +18,11 @@ import shutil
 import signal
 import subprocess
 import sys
-import tempfile
 import time
 import xml.etree.ElementTree
 
 from tests.programs.nutsim import server_files
-from tests.support.harness import ROOT, VERSION_SHOWN, ended, ensure, expect, fewer, needs_proved_build, patience, read, run_tests, write
+from tests.support.harness import ROOT, VERSION_SHOWN, ended, ensure, expect, fewer, needs_proved_build, patience, play, read, write
 from tests.support.model import Config, User, words_of
 from tests.support.room import until
 from tests.support.room_model import RoomOfServers, Rules, Watched, shown
@@ -47,6 +44,8 @@ MANUAL = os.path.join(ROOT, "man", "nutroom.8")
 LIMITS = os.path.join(ROOT, "crates", "nut_monitor_sockets", "src", "limits.rt")
 MONITOR_MANUAL = os.path.join(ROOT, "man", "upsmon.8")
 SVG = "{http://www.w3.org/2000/svg}"
+# what is wrong with lines of a description, with the messages
+WRONG_LINES = os.path.join(ROOT, "tests", "support", "room_faults.txt")
 
 ROOMS = fewer(300)
 ROOMS_A_CALL = 25
@@ -72,46 +71,9 @@ def write_room(folder, text, config=CONFIG, files=None):
     return write(os.path.join(folder, "room"), text)
 
 
-# What is wrong with a description, and the message about it.
-WRONG_LINES = {
-    "wait 5": "'wait' is no line of a room: there are conf, server, machine, client, battery and at",
-    'at 10 su700 "OB': "a quote or a backslash is left open",
-    "at 10 su700 OB\\": "a quote or a backslash is left open",
-    "conf": "wanted: conf FOLDER",
-    "conf a b": "wanted: conf FOLDER",
-    "server s1": "wanted: server NAME FOLDER",
-    "server s1 . .": "wanted: server NAME FOLDER",
-    "server s/1 .": "'s/1' is no name: 1 to 32 letters, digits, '.', '_' and '-'",
-    "client su700": "wanted: client UPS delay LEAST GREATEST",
-    "client su700 0 1 2": "wanted: client UPS delay LEAST GREATEST",
-    "client su900 delay 0 1": "ups.conf has no UPS su900",
-    "client su700 delay 2 1": "the least delay is above the greatest",
-    "machine m3 m1.conf": "wanted: machine NAME UPSMON.CONF delay LEAST GREATEST",
-    "machine m3 m1.conf 0 1 2": "wanted: machine NAME UPSMON.CONF delay LEAST GREATEST",
-    "machine a/b m1.conf delay 0 1": "'a/b' is no name: 1 to 32 letters, digits, '.', '_' and '-'",
-    "machine m1 m1.conf delay 0 1": "a second machine m1",
-    "machine m3 m1.conf delay 2 1": "the least delay is above the greatest",
-    "machine m3 m1.conf delay 0 5.001": "a delay above 5 s: upsmon gives up a server that takes longer while a UPS is on battery",
-    "machine m3 m1.conf delay 0 1s": "'1s' is no time: seconds up to 86400, with at most 3 digits behind the point",
-    "machine m3 m1.conf delay -1 1": "'-1' is no time: seconds up to 86400, with at most 3 digits behind the point",
-    "battery su700": "wanted: battery UPS SECONDS",
-    "battery m1 5": "ups.conf has no UPS m1",
-    "at 10 su700": "wanted: at SECONDS UPS STATUS.., or: at SECONDS MACHINE cut|back",
-    "at 0.0001 su700 OB": "'0.0001' is no time: seconds up to 86400, with at most 3 digits behind the point",
-    "at 86401 su700 OB": "'86401' is no time: seconds up to 86400, with at most 3 digits behind the point",
-    "at 10 su900 OB": "su900 is neither a machine of this room nor a UPS of ups.conf",
-    "at 10 m1 OB": "a machine is 'cut' or 'back', and not 'OB'",
-    "at 10 su700 cut": "'cut' is no word of a status, which are like OL, OB, LB",
-    'at 10 su700 "OB LB"': "'OB LB' is no word of a status, which are like OL, OB, LB",
-    "at 10 m1 back": "m1 isn't cut",
-}
-
-
 class Tests:
-    def __init__(self, nutsim, rooms, folder):
-        self.nutsim = nutsim
-        self.rooms = rooms
-        self.folder = folder
+    def __init__(self, nutsim, folder):
+        self.nutsim, self.folder = nutsim, folder
         self.made = 0
 
     def room(self, text, **more):
@@ -150,8 +112,6 @@ class Tests:
         self.printed("-n", "3", "-s", "1", "--svg", to, *words, path)
         return check_picture(read(to))
 
-    # From here on, each method whose name begins with 'test_' is a test.
-
     def test_command_lines(self):
         path = self.room(PAIR + LOW)
         wrong = (
@@ -165,7 +125,7 @@ class Tests:
         expect(self.printed("--version"), f"nutroom {VERSION_SHOWN}\n", "the version")
 
     def test_lines_that_do_not_read(self):
-        for line, text in WRONG_LINES.items():
+        for line, text in (it.split(" | ") for it in read(WRONG_LINES).splitlines()[1:]):
             path = self.room(f"# a room\n{PAIR}{line}\n{LOW}")
             self.refused(path, f"{path}:4: {text}")
 
@@ -522,13 +482,13 @@ class Tests:
     def test_random_rooms(self):
         """No machine that keeps pace passes its bound, and some reach it; a HOSTSYNC that is called enough is enough."""
         begun = time.monotonic()
-        calls = [range(at, min(at + ROOMS_A_CALL, self.rooms)) for at in range(0, self.rooms, ROOMS_A_CALL)]
+        calls = [range(at, min(at + ROOMS_A_CALL, ROOMS)) for at in range(0, ROOMS, ROOMS_A_CALL)]
         counts, margins = collections.Counter(), collections.Counter()
         with concurrent.futures.ProcessPoolExecutor() as pool:
             for found, left in pool.map(functools.partial(play_rooms, self.nutsim, self.folder), calls):
                 counts.update(found)
                 margins.update(left)
-        print(f"   {self.rooms} rooms in {time.monotonic() - begun:.1f} s: " + ", ".join(f"{counts[it]} {it}" for it in sorted(counts)))
+        print(f"   {ROOMS} rooms in {time.monotonic() - begun:.1f} s: " + ", ".join(f"{counts[it]} {it}" for it in sorted(counts)))
         for law in LAWS:
             left = {seconds: count for (of, seconds), count in margins.items() if of == law}
             if left:
@@ -746,13 +706,5 @@ def moves(model, step):
     return bool(pipes.to_server if verb == "reach" else pipes.to_monitor)
 
 
-def main():
-    words, rooms = sys.argv[1:], ROOMS
-    if words[:1] == ["--rooms"]:
-        rooms, words = int(words[1]), words[2:]
-    with tempfile.TemporaryDirectory() as folder:
-        return run_tests(Tests(os.path.abspath(words[0]), rooms, folder), words[1:])
-
-
 if __name__ == "__main__":
-    sys.exit(main())
+    sys.exit(play(Tests, 1))

@@ -1,9 +1,8 @@
-#!/usr/bin/env python3
 """Plays schedules of rooms with `nutsim`, and compares what their steps tell with the plain model in room_model.py.
 
     python3 -m tests.programs.nutsim NUTSIM
 
-Schedules are made from fixed seeds, so that each run of this test plays the same. The last line is 'N passed, M failed'."""
+Schedules are made from fixed seeds, so that each run of this test plays the same."""
 
 import concurrent.futures
 import errno
@@ -12,12 +11,11 @@ import re
 import shutil
 import subprocess
 import sys
-import tempfile
 import time
 
 from tests.support.harness import (
-    ROOT, VERSION_SHOWN, Failed, Shimmed, cannot_read, ended, ensure, expect, fewer, has_read_all, needs_proved_build, patience, read,
-    refusals, refusing, run_tests, status_of, write,
+    ROOT, VERSION_SHOWN, Failed, Shimmed, cannot_read, ended, ensure, expect, fewer, has_read_all, needs_proved_build, patience, play,
+    read, refusals, refusing, status_of, write,
 )
 from tests.support.model import Config, User, quoted
 from tests.support.room_model import Room, Rules, Watched, line_of, shown
@@ -154,8 +152,6 @@ class Tests(Shimmed):
             first = next((pair for pair in zip(out.splitlines(True), due) if pair[0] != pair[1]), (out[-200:], b"its end"))
             raise Failed(f"room {seed}, schedule {number}: status {status}, {err!r}; found {first[0]!r}, wanted {first[1]!r}")
         return SCHEDULES_A_ROOM
-
-    # From here on, each method whose name begins with 'test_' is a test.
 
     def test_worked_rows(self):
         self.plays(self.room("alone", ALONE, [PRIMARY]), ALONE_ROW, ALONE_DUE, "a primary alone")
@@ -357,10 +353,5 @@ class Tests(Shimmed):
         return run_on_terminal([self.program, room.folder, path, *room.monitors], **options)
 
 
-def main():
-    with tempfile.TemporaryDirectory() as folder:
-        return run_tests(Tests(os.path.abspath(sys.argv[1]), folder), sys.argv[2:])
-
-
 if __name__ == "__main__":
-    sys.exit(main())
+    sys.exit(play(Tests, 1))

@@ -1,10 +1,9 @@
-#!/usr/bin/env python3
 """Makes Debian packages and the archive, checks their contents, and installs them in a fresh Debian.
 
     python3 -m tests.programs.packages [--root FOLDER] [PROGRAM..]
 
 A script is used in place of a program that isn't given. The fresh Debian is made by debootstrap, which needs root and a
-network, or is a copy of FOLDER, in which debootstrap made one with systemd. The last line is 'N passed, M failed'."""
+network, or is a copy of FOLDER, in which debootstrap made one with systemd."""
 
 import hashlib
 import os
@@ -142,8 +141,6 @@ class Tests:
         for path in self.all_debs().values():
             shutil.copy(path, root.path("/root"))
         return root
-
-    # From here on, each method whose name begins with 'test_' is a test.
 
     def test_same_bytes_twice(self):
         needed("dpkg-deb", "dpkg")

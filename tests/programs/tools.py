@@ -1,9 +1,6 @@
-#!/usr/bin/env python3
 """Runs upsc, upsrw and upscmd against a listener on loopback that answers as NUT's upsd does.
 
-    python3 -m tests.programs.tools UPSC UPSRW UPSCMD
-
-The last line is 'N passed, M failed'."""
+    python3 -m tests.programs.tools UPSC UPSRW UPSCMD"""
 
 import contextlib
 import itertools
@@ -383,10 +380,6 @@ class Tests(Shimmed):
                 expect(self.run(tool, arguments), lost, f"{what}, ended at {place}")
             self.server.ends_at(length)
             expect(self.run(tool, arguments), (0, output, b""), f"{what}, ended behind the last answer")
-
-    def test_bytes_behind_the_last_answer_are_ignored(self):
-        self.server.pieces = lambda sent, reply: [reply + b"FOO\n\xff"]
-        expect(self.run("upsc", ["su700@AT"]), (0, VARIABLES, b""), "bytes behind the answer")
 
     def test_nobody_listens(self):
         port = free_port()

@@ -1,10 +1,7 @@
-#!/usr/bin/env python3
 """What upsd tells its operator of clients and drivers: who set a variable, gave a command, forced a shutdown, logged in and out,
 who was refused, and which lines of a driver can't be read.
 
-    python3 -m tests.programs.upsd_audit UPSD DUMMY_UPS
-
-The last line is 'N passed, M failed'."""
+    python3 -m tests.programs.upsd_audit UPSD DUMMY_UPS"""
 
 import re
 import signal
@@ -94,8 +91,6 @@ def refusals(lines):
 
 class Tests(RoomTests):
     kind = Audited
-
-    # Each method whose name begins with 'test_' is a test.
 
     def test_what_changes_something(self):
         """Each request that a driver is handed, whether or not the reports are to be quiet."""

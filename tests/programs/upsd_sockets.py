@@ -1,9 +1,6 @@
-#!/usr/bin/env python3
 """Starts upsd and dummy-ups on sockets of this machine, and plays their clients, a driver and a server.
 
-    python3 -m tests.programs.upsd_sockets UPSD DUMMY_UPS UPSRW UPSCMD
-
-The last line is 'N passed, M failed'."""
+    python3 -m tests.programs.upsd_sockets UPSD DUMMY_UPS UPSRW UPSCMD"""
 
 import contextlib
 import errno
@@ -17,9 +14,9 @@ import time
 from concurrent import futures
 
 from tests.support.harness import (
-    NUTS_OPTIONS, Missing, apart, built_without_proof, cannot_listen, cannot_read, ended_in_bytes, ensure, expect,
+    NUTS_OPTIONS, Missing, apart, cannot_listen, cannot_read, ended_in_bytes, ensure, expect, expect_rest, play,
+    read_bytes, write,
 )
-from tests.support.harness import expect_rest, play
 from tests.support.room import Client, DEVICE, Lines, NOT_CONNECTED, ONLINE, NO_PINGS, RoomTests, SOON, STATUS, VERSION
 from tests.support.room import accepted, connected, family_of, first_lines, free_port, give_address, has_ipv6, heed_modes, play_driver
 from tests.support.room import raise_loopback, said, stopped, until
@@ -66,8 +63,7 @@ def with_hosts(folder, text=b""):
     it asks no name server."""
     paths = [os.path.join(folder, name) for name in ("hosts", "nsswitch.conf")]
     for path, content in zip(paths, (text, b"hosts: files\n")):
-        with open(path, "wb") as file:
-            file.write(content)
+        write(path, content)
     mounts = 'mount --bind "$0" /etc/hosts && mount --bind "$1" /etc/nsswitch.conf && shift && exec "$@"'
     return apart("--mount", "sh", "-c", mounts, *paths)
 
@@ -106,8 +102,6 @@ def expect_served(*places):
 
 
 class Tests(RoomTests):
-    # Each method whose name begins with 'test_' is a test.
-
     def test_values(self):
         with self.room() as room:
             room.online()
@@ -131,55 +125,6 @@ class Tests(RoomTests):
                 room.until(STATUS, ONLINE)
                 room.until(STATUS, b'VAR su700 ups.status "OB LB"\n')
 
-    def test_client_that_never_reads(self):
-        names = b"".join(b"ambient.%d.status: %s\n" % (i, b"x" * 100) for i in range(200))
-        with self.room() as room:
-            _, upsd = room.online(device=DEVICE + names)
-            with room.client() as stuck, room.client() as client:
-                stuck.flood(b"LIST VAR su700\n" * 100)
-                begun = time.monotonic()
-                for _ in range(200):
-                    expect(client.ask(STATUS), ONLINE, "beside a client that never reads")
-                took = time.monotonic() - begun
-                ensure(took <= SOON or built_without_proof(), f"200 requests took {took:.2f} s beside a client that never reads")
-                expect_rest(upsd, 1, 0.5, "beside a client that never reads")
-                # once the client reads, it is answered
-                stuck.read_to(b"END LIST VAR su700\n", times=3)
-
-    def test_driver_that_stops_in_mid_line(self):
-        with self.room() as room, room.driver() as listener:
-            room.upsd()
-            with accepted(listener) as first:
-                expect(first.recv(100), b"DUMPALL\n", "a driver is asked")
-                first.sendall(b'SETINFO ups.status "OL"\nSETINFO ups.id "a')
-            with play_driver(listener, ON_LINE, b'b"') as second:
-                room.until(STATUS, ONLINE)
-                expect(room.ask(b"GET VAR su700 ups.id\n"), b"ERR VAR-NOT-SUPPORTED\n", "half a line")
-                # a line that arrives byte by byte
-                for byte in b'SETINFO ups.id "c"\n':
-                    second.sendall(bytes([byte]))
-                    time.sleep(0.005)
-                room.until(b"GET VAR su700 ups.id\n", b'VAR su700 ups.id "c"\n')
-
-    def test_requests_are_tracked(self):
-        with self.room() as room:
-            driver, _ = room.online()
-            with room.client() as client:
-                client.log_in()
-                client.track()
-                expect(client.ask(b'SET VAR su700 ups.id "new"\n'), b"OK TRACKING 1\n", "SET")
-                room.until(b"GET TRACKING 1\n", b"TRACKING 1 SUCCESS\n")
-                expect(room.ask(b"GET VAR su700 ups.id\n"), b'VAR su700 ups.id "new"\n', "a value before its success is told")
-                expect(client.ask(b"INSTCMD su700 load.off now\n"), b"OK TRACKING 2\n", "INSTCMD with a parameter")
-                room.until(b"GET TRACKING 2\n", b"TRACKING 2 SUCCESS\n")
-                expect(room.ask(STATUS), b'VAR su700 ups.status "OFF"\n', "what the command did, before its success is told")
-                with stopped(driver):
-                    expect(client.ask(b"INSTCMD su700 load.on\n"), b"OK TRACKING 3\n", "a driver that is stopped")
-                    expect(client.ask(b"GET TRACKING 3\n"), b"TRACKING 3 PENDING\n", "a driver that is stopped")
-                    driver.kill()
-                    room.until(b"GET TRACKING 3\n", b"TRACKING 3 FAILED\n")
-                expect(client.ask(b"GET TRACKING 2\n"), b"TRACKING 2 SUCCESS\n", "what was told before")
-
     def test_tools_that_wait(self):
         with self.room() as room:
             driver, _ = room.online()
@@ -197,20 +142,6 @@ class Tests(RoomTests):
                 expect(found.result(), (1, b"", b"Error: FAILED\n"), "a driver that is killed")
             refused = (1, b"", b"Error: DRIVER-NOT-CONNECTED\n")
             expect(ended_in_bytes([upscmd, "-w", *login, "load.on"]), refused, "a request without a driver")
-
-    def test_driver_that_says_how_requests_ended(self):
-        with self.room() as room, room.driver() as listener:
-            room.upsd()
-            with play_driver(listener, ON_LINE, b"ADDCMD load.off") as driver, room.client() as client, driver.makefile("rb") as asked:
-                room.until(STATUS, ONLINE)
-                client.log_in()
-                client.track()
-                for number, status, word in ((1, b"0", b"SUCCESS"), (2, b"1", b"FAILED"), (3, b"000", b"SUCCESS"), (4, b"42", b"FAILED")):
-                    expect(client.ask(b"INSTCMD su700 load.off x\n"), b"OK TRACKING %d\n" % number, "INSTCMD")
-                    until(lambda: asked.readline() == b'INSTCMD load.off "x" TRACKING %d\n' % number, "the request")
-                    expect(client.ask(b"GET TRACKING %d\n" % number), b"TRACKING %d PENDING\n" % number, "before it is told")
-                    driver.sendall(b"TRACKING %d %s\n" % (number, status))
-                    room.until(b"GET TRACKING %d\n" % number, b"TRACKING %d %s\n" % (number, word))
 
     def test_driver_that_never_reads(self):
         # the driver says nothing more, and its data must not become stale meanwhile
@@ -236,15 +167,6 @@ class Tests(RoomTests):
                         socket.send_fds(driver, [b"SETINFO ups.id %d\n" % i], [passed.fileno()])
                 room.until(b"GET VAR su700 ups.id\n", b'VAR su700 ups.id "49"\n')
 
-    def test_several_drivers(self):
-        ups = b"".join(b"[u%d]\n" % i for i in range(32))
-        with self.room(ups=ups) as room:
-            room.upsd()
-            for i in range(32):
-                room.dummy(b"ups.id: %d\nups.status: OL\n" % i, ups=f"u{i}")
-            for i in range(32):
-                room.until(b"GET VAR u%d ups.id\n" % i, b'VAR u%d ups.id "%d"\n' % (i, i))
-
     def test_dummy_removes_nothing_of_value(self):
         """A plain file with a byte, a directory, a link and a pipe stay, whatever has the name of the socket."""
         with self.room() as room:
@@ -265,8 +187,7 @@ class Tests(RoomTests):
             after = {it.name: it.stat(follow_symlinks=False).st_ino for it in os.scandir(room.folder)}
             expect(after, before, "what lies there")
             for path in (script, other):
-                with open(path, "rb") as file:
-                    expect(file.read(), DEVICE, path)
+                expect(read_bytes(path), DEVICE, path)
             # a socket that was left is replaced, and so is an empty file, but no socket at which a driver listens
             for name in ("socket", "empty"):
                 path = room.path(name)
@@ -447,21 +368,6 @@ class Tests(RoomTests):
             told = ["upsd: client refused: MAXCONN 2 is reached, and all clients are logged in"]
             expect(said(upsd), told * 2, "it is told once until a client was let in again")
 
-    def test_256_connections(self):
-        with self.room() as room:
-            upsd = room.upsd("-q")
-            with contextlib.ExitStack() as closing:
-                clients = [closing.enter_context(room.logged_in()) for _ in range(256)]
-                for client in clients:
-                    expect(client.ask(b"VER\n"), VERSION, "one of 256")
-                with room.client() as more:
-                    expect(more.is_closed(), True, "the 257th is closed")
-                for client in clients:
-                    client.send(b"VER\n" * 3)
-                for client in reversed(clients):
-                    expect([client.line() for _ in range(3)], [VERSION] * 3, "one of 256 again")
-            expect(said(upsd), ["upsd: client refused: MAXCONN 256 is reached, and all clients are logged in"], "what is told of the 257th")
-
     def test_want_of_descriptors(self):
         with self.room() as room:
             upsd = room.upsd("-q", preexec_fn=lambda: resource.setrlimit(resource.RLIMIT_NOFILE, (16, 16)))
@@ -529,7 +435,7 @@ class Tests(RoomTests):
             expect([line for line in lines.lines if line.startswith(missed)], wanted, "what is told")
 
     def test_stale_data_is_told(self):
-        stale, fresh = (f"upsd: UPS su700: data is {what}" for what in ("stale", "no longer stale"))
+        stale, fresh = "upsd: UPS su700: data is stale", "upsd: UPS su700: data is no longer stale"
         with self.room(conf=b"MAXAGE 2\n") as room, room.driver() as listener:
             lines = room.serve()
             with accepted(listener) as driver:
@@ -771,8 +677,7 @@ class Inside(Tests):
     def play_ipv6_alone(self):
         """A socket of IPv6 takes no clients of IPv4."""
         raise_loopback()
-        with open(ONLY_IPV6, "w") as file:
-            file.write("1")
+        write(ONLY_IPV6, "1")
         self.listens(["::", "::"], ["::"], ["::1"])
         for other in ("127.0.0.1", "0.0.0.0"):
             # it listens at every address of IPv6, and at this one of IPv4 or at all of them
@@ -786,8 +691,6 @@ def main():
         name, folder, *programs = sys.argv[2:]
         getattr(Inside(*programs, folder), name)()
         return 0
-    # 256 clients, and what else is open
-    resource.setrlimit(resource.RLIMIT_NOFILE, (1024, resource.getrlimit(resource.RLIMIT_NOFILE)[1]))
     signal.signal(signal.SIGPIPE, signal.SIG_IGN)
     return play(Tests, 4, "a machine with IPv6 runs them", at_once=4)
 

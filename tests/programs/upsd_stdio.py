@@ -1,9 +1,6 @@
-#!/usr/bin/env python3
 """Runs upsd over standard streams as its users do, and with each allocation, read and write of a run failing in turn.
 
-    python3 -m tests.programs.upsd_stdio UPSD [PART OF A NAME..]
-
-The last line is 'N passed, M failed'."""
+    python3 -m tests.programs.upsd_stdio UPSD [PART OF A NAME..]"""
 
 import contextlib
 import errno
@@ -15,7 +12,7 @@ import sys
 
 from tests.programs.files import faults_of_each_kind
 from tests.support.harness import Failed, Missing, ROOT, Shimmed, VERSION_SHOWN, cannot_read, children_time, ended_in_bytes, ensure, expect
-from tests.support.harness import needs_proved_build, play, refusal, refusals, unread
+from tests.support.harness import needs_proved_build, play, read_bytes, refusal, refusals, unread, write
 from tests.support.room import VERSION, until
 
 ROOM = ["--stdio", "--ups", "su700=Server room"]
@@ -97,10 +94,8 @@ class Tests(Shimmed):
         shutil.rmtree(folder, ignore_errors=True)
         os.mkdir(folder)
         for name, text in {"ups_conf": b"", "upsd_users": b"", "upsd_conf": b"", **texts}.items():
-            name = name.replace("_", ".")
             if text is not None:
-                with open(os.path.join(folder, name), "wb") as file:
-                    file.write(text)
+                write(os.path.join(folder, name.replace("_", ".")), text)
         return ["--stdio", "--conf", folder]
 
     def cut(self, data, at):
@@ -113,8 +108,6 @@ class Tests(Shimmed):
             process.stdin.write(data[at:])
         out, _ = process.communicate(timeout=60)
         return process.returncode, out
-
-    # From here on, each method whose name begins with 'test_' is a test.
 
     def test_requests_cut_anywhere(self):
         for at in range(len(ASKED) + 1):
@@ -147,16 +140,6 @@ class Tests(Shimmed):
         expect(self.run(ROOM, b"VER" + b" " * 2045 + b"\n"), (0, VERSION, b""), "2,048 bytes")
         expect(self.run(ROOM, b"VER" + b" " * 2046 + b"\nVER\n"), (0, invalid + VERSION, b""), "2,049 bytes")
         expect(self.run(ROOM, b"a" * 100_000 + b"\nVER\n"), (0, invalid + VERSION, b""), "100,000 bytes")
-
-    def test_bytes_without_sense(self):
-        found = self.run(ROOM, bytes(range(256)) + b"\n\xff\nVER\n")
-        invalid = error("INVALID-ARGUMENT")
-        expect(found, (0, invalid * 3 + VERSION, b""), "all bytes")
-
-    def test_many_lines(self):
-        count = 20_000
-        found = self.run(ROOM, b"GET UPSDESC su700\n" * count)
-        expect(found, (0, DESCRIPTION * count, b""), "many lines")
 
     def test_no_ups(self):
         expect(self.run(["--stdio"], b"LIST UPS\n"), (0, b"BEGIN LIST UPS\nEND LIST UPS\n", b""), "no UPS")
@@ -232,8 +215,7 @@ class Tests(Shimmed):
             expect(self.run(args, b"VER\n"), not_plain, f"{name} is a pipe")
             os.remove(path)
             if os.geteuid() != 0:
-                with open(path, "wb") as file:
-                    os.fchmod(file.fileno(), 0)
+                write(path, b"", 0)
                 expect(self.run(args, b"VER\n"), unreadable(path, errno.EACCES), f"{name} may not be read")
         for folder, why in ((os.path.join(self.folder, "no-such-folder"), errno.ENOENT), (self.upsd, errno.ENOTDIR), ("", errno.ENOENT)):
             wanted = unreadable(os.path.join(folder, "ups.conf"), why)
@@ -242,8 +224,7 @@ class Tests(Shimmed):
     def test_descriptions_of_nut(self):
         if not os.path.exists(NUT_DESCRIPTIONS):
             raise Missing(f"{NUT_DESCRIPTIONS} isn't installed (Debian's package nut-server)")
-        with open(NUT_DESCRIPTIONS, "rb") as file:
-            args = self.conf(cmdvartab=file.read())
+        args = self.conf(cmdvartab=read_bytes(NUT_DESCRIPTIONS))
         expect(self.run(args, b"VER\n"), (0, VERSION, b""), "NUT's descriptions")
 
     def test_conf_in_order(self):

@@ -1,9 +1,6 @@
-#!/usr/bin/env python3
 """Starts upsmon with upsd and dummy-ups, and with servers that the tests play.
 
-    python3 -m tests.programs.upsmon UPSD DUMMY_UPS UPSC UPSMON
-
-The last line is 'N passed, M failed'."""
+    python3 -m tests.programs.upsmon UPSD DUMMY_UPS UPSC UPSMON"""
 
 import contextlib
 import errno
@@ -20,12 +17,12 @@ import unittest.mock
 
 from tests.support import manual, room_model
 from tests.support.harness import (
-    NUTS_OPTIONS, ROOT, VERSION_SHOWN, build_library, cannot_read, ended, ensure, expect, named_error, read, refusals,
+    NUTS_OPTIONS, ROOT, VERSION_SHOWN, build_library, cannot_read, ended, ensure, expect, named_error, play, read, refusals,
     streams_without_readers, write,
 )
 from tests.support.monitored import (
     BATTERY_LOW, ESTABLISHED, FLAG, FORCED, LOST, OF_SHUTDOWN, ON_BATTERY, QUICK, SHUTDOWN, UNAVAILABLE, ByteByByte, MonitorTests, Silent,
-    Upstream, children_of, play, put_program,
+    Upstream, children_of, put_program,
 )
 from tests.support.room import SOON, accepted, free_port, until
 from tests.support.room_model import Watched
@@ -116,8 +113,6 @@ class Tests(MonitorTests):
             with self.watch(conf) as watch:
                 until(lambda: b"GET VAR b ups.status\n" in server.asked, "both are asked for")
                 yield server, watch, a, b
-
-    # From here on, each method whose name begins with 'test_' is a test.
 
     def test_power_fails(self):
         with self.room() as room:
@@ -211,24 +206,16 @@ class Tests(MonitorTests):
             expect(found[0], wanted[0], "what is told first")
             expect(watch.process.poll(), None, "it goes on")
 
-    def test_data_that_is_stale(self):
-        with self.watched("POLLFREQ 1\n", role="secondary") as (server, watch):
-            for status, line in ((b"ERR DATA-STALE\n", LOST), (b"OL", ESTABLISHED), (b"ERR DATA-STALE\n", LOST)):
-                server.until_asked_again(2)
-                count = watch.lines().count(line % server.target)
-                server.statuses[b"su700"] = status
-                until(lambda: watch.lines().count(line % server.target) == count + 1, f"{line} is told")
-            expect(watch.lines(), [it % server.target for it in (LOST, ESTABLISHED, LOST)], "what is told")
-
     def test_server_byte_by_byte(self):
         with self.watched(QUICK, status=b"OB LB", kind=ByteByByte) as (server, watch):
             self.expect_halt(watch, fails(server.target))
 
     def test_silent_server_is_unavailable(self):
-        """A silent server is unavailable before it is given up, which takes longer (tests/programs/upsmon_links.py)."""
+        """A silent server is unavailable before it is given up, which takes longer."""
         with self.watched("NOCOMMWARNTIME 1\n", kind=Silent) as (server, watch):
             watch.until_printed(UNAVAILABLE % server.target)
             expect(set(watch.lines()), {UNAVAILABLE % server.target}, "what is told")
+            watch.until_told(f"upsmon: UPS {server.target}: server does not answer", 20)
 
     def test_one_of_two_supplies(self):
         with self.two_supplies(1) as (server, watch, a, b):
@@ -408,33 +395,15 @@ class Tests(MonitorTests):
             expect((status, shown in out, err), (0, True, ""), word)
 
     def test_faults_of_files(self):
-        line = "MONITOR su700@h 1 mon m1 primary\n"
-        power = "the power values of the MONITOR lines sum to less than MINSUPPLIES, which is 1 unless it is set"
-        target = "UPS@HOST[:PORT] is meant, HOST a name or an IPv4 address (an IPv6 address needs a name in /etc/hosts)"
-        for text, said, meant in (
-            (None, None, None),
-            ("", "0: PastLimit", power),
-            (line + "MINSUPPLIES 2\n", "0: PastLimit", power),
-            ("MONITOR su700 1 mon m1 primary\n", "1: BadName", f"su700: {target}"),
-            ("MONITOR su700@h 1 mon m1\n", "1: BadForm", "MONITOR UPS@HOST[:PORT] POWER USER PASSWORD primary|secondary is meant"),
-            ("MONITOR su700@h 1001 mon m1 primary\n", "1: BadNumber", "POWER: a number from 0 to 1000 is meant"),
-            ("MONITOR su700@h 1 mon m1 master\n", "1: UnknownWord", "master: 'primary' or 'secondary' is meant"),
-            (line + "MONITOR su700@h:3493 1 mon m1 secondary\n", "2: Repeated", "su700@h:3493: a line before has it"),
-            (line + "NOTIFYFLAG ONBATT PRINT\n", "2: UnknownWord", "PRINT: SYSLOG, WALL, EXEC and IGNORE are meant, with '+' between them"),
-            (line + "NOTIFYMSG NOPARENT x\n", "2: UnknownWord", f"NOPARENT: {manual.type_meant()}"),
-            (line + "\nPOLLFREQ 0\n", "3: BadNumber", "0: a number from 1 to 1000000 is meant"),
-            (line + 'SHUTDOWNCMD ""\n', "2: PastLimit", "COMMAND: 1 to 256 bytes are meant"),
-            (line + 'SHUTDOWNCMD "a\n', "2: Unreadable", "the line can't be read as words: a quote is not closed"),
-            (line + "CERTPATH x\n", "2: UnknownDirective", "CERTPATH isn't taken here: see from-nut(7)"),
-        ):
-            with tempfile.TemporaryDirectory(dir=self.folder) as folder:
-                if text is not None:
-                    write(os.path.join(folder, "upsmon.conf"), text)
-                wanted = f"upsmon: upsmon.conf:{said}\nupsmon: {meant}\n"
-                if text is None:
-                    wanted = cannot_read("upsmon", "upsmon.conf", os.path.join(folder, "upsmon.conf"), errno.ENOENT)
+        """A start and -K say of a fault what --check says. tests/programs/files.py has all of them."""
+        with tempfile.TemporaryDirectory(dir=self.folder) as folder:
+            path = os.path.join(folder, "upsmon.conf")
+            missing = cannot_read("upsmon", "upsmon.conf", path, errno.ENOENT)
+            faulty = f"upsmon: upsmon.conf:1: UnknownWord\nupsmon: NOPARENT: {manual.type_meant()}\n"
+            for said in (missing, faulty):
                 for words in ([], ["--check"], ["-K"]):
-                    expect(ended([self.upsmon, "--conf", folder, *words]), (1, "", wanted), f"{text!r} {words}")
+                    expect(ended([self.upsmon, "--conf", folder, *words]), (1, "", said), words)
+                write(path, "NOTIFYMSG NOPARENT x\n")
 
     def checked(self, conf, *words, env=None, upsc=LASTS_LONG):
         """What 'upsmon --check' gives of such a file, whose folder the words and the environment name by FOLDER, where upsc
@@ -621,41 +590,37 @@ class Tests(MonitorTests):
         expect(sorted(err.splitlines(True)), wanted, "more UPSes than are asked in time")
         ensure(time.monotonic() - begun < 15, "twenty silent UPSes: it took too long")
 
-    def test_start_asks_how_early_lb_is_said(self):
-        """A server that can be asked only after some time: its answer is told once, and it isn't asked again."""
-        library = build_library("hasten", self.folder)
-        late = "upsmon: UPS %s: battery.runtime.low is 12 s, but this machine may shut down as late as 28 s after OB LB"
+    @contextlib.contextmanager
+    def asking(self, script, conf, haste):
+        """Watches a server by a clock that is so many times as fast, where upsc is such a script. Yields the server, the monitor, and how
+        often upsc was called."""
         with tempfile.TemporaryDirectory(dir=self.folder) as folder, Upstream() as server:
             asked = os.path.join(folder, "asked")
-            path = put_upsc(folder, f'echo >> {asked}; [ "$(wc -l < {asked})" = 1 ] && exit 1; echo 12')
-            conf = f"MONITOR {server.target} 1 mon m1 primary\nSHUTDOWNCMD true\n"
-            env = {**os.environ, "PATH": path, "LD_PRELOAD": library, "HASTE": "20"}
-            with self.watch(conf, "-q", env=env) as watch:
+            path = put_upsc(folder, f"echo >> {asked}; {script.replace('ASKED', asked)}")
+            env = {**os.environ, "PATH": path, "LD_PRELOAD": build_library("hasten", self.folder), "HASTE": str(haste)}
+            with self.watch(f"{server.line()}SHUTDOWNCMD true\n{conf}", "-q", env=env) as watch:
+                yield server, watch, lambda: read(asked).count("\n") if os.path.exists(asked) else 0
 
-                def told():
-                    # by this clock an answer of the server may take long, which is told too
-                    return [line for line in watch.lines("err") if "runtime" in line]
-
-                until(told, "a warning", 15)
-                count = read(asked).count("\n")
-                ensure(count >= 2, "it isn't asked again after it gave no answer")
-                time.sleep(3)
-                expect(told(), [late % server.target], "what is told")
-                expect(read(asked).count("\n"), count, "how often it was asked, once it had answered")
+    def test_start_asks_how_early_lb_is_said(self):
+        """A server that can be asked only after some time: its answer is told once, and it isn't asked again."""
+        late = "upsmon: UPS %s: battery.runtime.low is 12 s, but this machine may shut down as late as 28 s after OB LB"
+        with self.asking('[ "$(wc -l < ASKED)" = 1 ] && exit 1; echo 12', "", 20) as (server, watch, asked):
+            # by this clock an answer of the server may take long, which is told too
+            told = lambda: [line for line in watch.lines("err") if "runtime" in line]
+            until(told, "a warning", 15)
+            count = asked()
+            ensure(count >= 2, "it isn't asked again after it gave no answer")
+            time.sleep(3)
+            expect(told(), [late % server.target], "what is told")
+            expect(asked(), count, "how often it was asked, once it had answered")
 
     def test_shutdown_ends_the_questions(self):
         """A UPS that is asked for how early it says LB when the shutdown begins isn't asked for again."""
-        library = build_library("hasten", self.folder)
-        with tempfile.TemporaryDirectory(dir=self.folder) as folder, Upstream() as server:
-            asked = os.path.join(folder, "asked")
-            path = put_upsc(folder, f"echo >> {asked}; exec sleep 60")
-            conf = f"MONITOR {server.target} 1 mon m1 primary\nPOLLFREQ 1\nHOSTSYNC 1\nFINALDELAY 60\nSHUTDOWNCMD true\n"
-            env = {**os.environ, "PATH": path, "LD_PRELOAD": library, "HASTE": "8"}
-            with self.watch(conf, "-q", env=env) as watch:
-                until(lambda: os.path.exists(asked), "a question", 15)
-                server.statuses[b"su700"] = b"FSD"
-                expect(watch.status(30), 0, "the halt")
-                expect(read(asked).count("\n"), 1, "how often it was asked")
+        with self.asking("exec sleep 60", "POLLFREQ 1\nHOSTSYNC 1\nFINALDELAY 60\n", 8) as (server, watch, asked):
+            until(asked, "a question", 15)
+            server.statuses[b"su700"] = b"FSD"
+            expect(watch.status(30), 0, "the halt")
+            expect(asked(), 1, "how often it was asked")
 
     def test_folder_of_the_environment(self):
         conf = "MONITOR a@h 1 mon m1 primary\nSHUTDOWNCMD true\n"
@@ -692,4 +657,4 @@ class Tests(MonitorTests):
 
 
 if __name__ == "__main__":
-    sys.exit(play(Tests))
+    sys.exit(play(Tests, 4))

@@ -1,10 +1,7 @@
-#!/usr/bin/env python3
 """Runs upsmon as two processes: the one that halts the machine by orders that the test gives, the one that watches with its orders
 read by the test, and both by packaging/upsmon-apart, which needs root and a user nut.
 
-    python3 -m tests.programs.upsmon_apart UPSD DUMMY_UPS UPSC UPSMON
-
-The last line is 'N passed, M failed'."""
+    python3 -m tests.programs.upsmon_apart UPSD DUMMY_UPS UPSC UPSMON"""
 
 import contextlib
 import os
@@ -17,8 +14,8 @@ import sys
 import tempfile
 import time
 
-from tests.support.harness import ROOT, FullPipe, Missing, ended, ensure, expect, read, write
-from tests.support.monitored import FLAG, ON_BATTERY, QUICK, SHUTDOWN, MonitorTests, Watch, children_of, play
+from tests.support.harness import ROOT, FullPipe, Missing, ended, ensure, expect, play, read, status_of, write
+from tests.support.monitored import FLAG, ON_BATTERY, QUICK, SHUTDOWN, MonitorTests, Watch, children_of
 from tests.support.room import SOON, state_of, until
 
 LAUNCHER = os.path.join(ROOT, "packaging", "upsmon-apart")
@@ -136,8 +133,7 @@ def name_of(pid):
 
 def facts_of(pid, *names):
     """Returns these lines of what the system says of a process."""
-    facts = dict(line.split(":\t", 1) for line in read(f"/proc/{pid}/status").splitlines() if ":\t" in line)
-    return tuple(facts[name] for name in names)
+    return tuple(status_of(pid)[name].strip() for name in names)
 
 
 class Tests(MonitorTests):
@@ -163,8 +159,6 @@ class Tests(MonitorTests):
         except KeyError:
             raise Missing(f"there is no user {USER}") from None
         return self.watched(conf, start=Apart, **options)
-
-    # From here on, each method whose name begins with 'test_' is a test.
 
     def test_halts_once_and_last(self):
         for orders, ran, flag in (
@@ -410,4 +404,4 @@ class Tests(MonitorTests):
 
 
 if __name__ == "__main__":
-    sys.exit(play(Tests))
+    sys.exit(play(Tests, 4))

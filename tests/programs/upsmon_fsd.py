@@ -1,9 +1,6 @@
-#!/usr/bin/env python3
 """Forces shutdowns by 'upsmon --fsd', at upsd with dummy-ups and at servers that the tests play.
 
-    python3 -m tests.programs.upsmon_fsd UPSD DUMMY_UPS UPSC UPSMON
-
-The last line is 'N passed, M failed'."""
+    python3 -m tests.programs.upsmon_fsd UPSD DUMMY_UPS UPSC UPSMON"""
 
 import contextlib
 import errno
@@ -15,10 +12,10 @@ import tempfile
 import time
 
 from tests.support.harness import (
-    NUTS_OPTIONS, ROOT, cannot_read, ended, ensure, expect, named_error, read, refusals, streams_without_readers, write,
+    NUTS_OPTIONS, ROOT, cannot_read, ended, ensure, expect, named_error, play, read, refusals, streams_without_readers, write,
 )
 from tests.support.monitored import (
-    FLAG, FORCED, QUICK, SHUTDOWN, USERS, ByteByByte, Closing, Endless, MonitorTests, Rubbish, Silent, Upstream, play,
+    FLAG, FORCED, QUICK, SHUTDOWN, USERS, ByteByByte, Closing, Endless, MonitorTests, Rubbish, Silent, Upstream,
 )
 from tests.support.room import STATUS, free_port
 
@@ -125,8 +122,6 @@ class Tests(MonitorTests):
     def status(self, target):
         """Returns the status that upsc shows."""
         return ended([self.upsc, target, "ups.status"])[1]
-
-    # From here on, each method whose name begins with 'test_' is a test.
 
     def test_shutdown_is_forced(self):
         with self.room() as room:
@@ -260,20 +255,6 @@ class Tests(MonitorTests):
                     expect(found, (1, "", told + goes_on(server.target)), f"{answer} to {query}")
                     expect(server.queries(), QUERIES[: at + 1], f"what is asked if {query} gets {answer}")
 
-    def test_refusals(self):
-        with self.room() as room:
-            place = f"127.0.0.1:{room.port}"
-            for ups, user, password, why in (
-                ("su700", "mon", "wrong", "FSD refused: ACCESS-DENIED"),
-                ("su700", "nobody", "m1", "FSD refused: ACCESS-DENIED"),
-                ("su700", "guest", "g1", "FSD refused: ACCESS-DENIED"),
-                ("none", "mon", "m1", "FSD refused: UNKNOWN-UPS"),
-            ):
-                target = f"{ups}@{place}"
-                found = self.force(line_of(target, user, password))
-                expect(found, (1, "", failed(target, why) + goes_on(target)), f"{user} at {ups}")
-            expect(self.status(f"su700@{place}"), "OL\n", "the status")
-
     def test_files_by_which_nothing_is_forced(self):
         """One that isn't there, one with a fault, and those without a primary line."""
         with Upstream() as server:
@@ -357,4 +338,4 @@ class Tests(MonitorTests):
 
 
 if __name__ == "__main__":
-    sys.exit(play(Tests))
+    sys.exit(play(Tests, 4))

@@ -1,10 +1,7 @@
-#!/usr/bin/env python3
 """Starts upsmon, upsd and dummy-ups without what they need: readers of what they print, memory, a stack, a shell. The machine is
 halted all the same, except by an upsmon that refuses to start.
 
-    python3 -m tests.programs.upsmon_halting UPSD DUMMY_UPS UPSC UPSMON
-
-The last line is 'N passed, M failed'."""
+    python3 -m tests.programs.upsmon_halting UPSD DUMMY_UPS UPSC UPSMON"""
 
 import contextlib
 import errno
@@ -21,8 +18,8 @@ import sys
 import tempfile
 import time
 
-from tests.support.harness import ROOT, FullPipe, apart, cannot_read, ended, ensure, expect, patience, read, read_bytes, write
-from tests.support.monitored import FLAG, ON_BATTERY, QUICK, SHUTDOWN, MonitorTests, Upstream, children_of, play, put_program
+from tests.support.harness import ROOT, FullPipe, apart, cannot_read, ended, ensure, expect, patience, play, read, read_bytes, write
+from tests.support.monitored import FLAG, QUICK, SHUTDOWN, MonitorTests, Upstream, children_of, put_program
 from tests.support.room import ONLINE, SOON, STATUS, USERS, Lines, heed_modes, said, state_of, stopped, until
 
 WORD = FLAG.strip()
@@ -97,8 +94,6 @@ class Tests(MonitorTests):
             write(os.path.join(folder, "upsmon.conf"), f"MONITOR su700@localhost 1 mon m1 primary\n{conf}")
         return ended([self.upsmon, "-K", *options.pop("words", ["--conf", folder])], **options)
 
-    # From here on, each method whose name begins with 'test_' is a test.
-
     def test_too_little_stack(self):
         """A daemon that would be ended by SIGSEGV once its stack is full says so before anything else."""
         none = os.path.join(self.folder, "none")
@@ -161,18 +156,6 @@ class Tests(MonitorTests):
                 os.close(reader)
                 os.close(writer)
                 expect((watch.status(), watch.read("halted")), (0, b""), f"the halt without a reader of {names}")
-
-    def test_lines_that_were_let_go_are_counted(self):
-        with FullPipe() as pipe, self.watched("POLLFREQ 1\n", role="secondary", stdout=pipe.writer) as (server, watch):
-            for status in (b"OB", b"OL", b"OB"):
-                server.statuses[b"su700"] = status
-                server.until_asked_again(2)
-            expect(pipe.read(), b"", "nothing is printed where there is no room")
-            server.statuses[b"su700"] = b"OL"
-            told = f"upsmon: 3 log lines dropped (output blocked)\nUPS {server.target} on line power\n".encode()
-            until(lambda: told == pipe.read() or watch.process.poll(), "what was let go is told")
-            server.statuses[b"su700"] = b"OB"
-            until(lambda: (ON_BATTERY % server.target + "\n").encode() == pipe.read(), "the next line comes alone")
 
     def test_full_error_output_of_the_server(self):
         with FullPipe() as pipe, self.room() as room:
@@ -367,7 +350,8 @@ class Tests(MonitorTests):
             os.chmod(os.path.dirname(flag), 0o500)
             before = self.look(flag)
             with self.halting(f"POWERDOWNFLAG {flag}\n{HALTED}", "-q", preexec_fn=heed_modes) as (_, watch):
-                self.expect_halt(watch, *(f"upsmon: POWERDOWNFLAG {flag} cannot be {it}: " for it in ("removed", "written")))
+                told = f"upsmon: POWERDOWNFLAG {flag} cannot be removed: ", f"upsmon: POWERDOWNFLAG {flag} cannot be written: "
+                self.expect_halt(watch, *told)
             expect(self.look(flag), before, "what lies there")
 
     def test_is_the_flag_set(self):
@@ -668,4 +652,4 @@ class Tests(MonitorTests):
 
 
 if __name__ == "__main__":
-    sys.exit(play(Tests))
+    sys.exit(play(Tests, 4))

@@ -1,10 +1,7 @@
-#!/usr/bin/env python3
 """Has a running upsmon take up a changed upsmon.conf: lines that come and go, faults, a reload while a UPS is on battery or a
 shutdown is under way, and what is run at the halt after it.
 
-    python3 -m tests.programs.upsmon_reload UPSD DUMMY_UPS UPSC UPSMON
-
-The last line is 'N passed, M failed'."""
+    python3 -m tests.programs.upsmon_reload UPSD DUMMY_UPS UPSC UPSMON"""
 
 import contextlib
 import os
@@ -12,8 +9,8 @@ import sys
 import time
 
 from tests.support import manual
-from tests.support.harness import ended, expect, read, write
-from tests.support.monitored import FLAG, ON_BATTERY, QUICK, SHUTDOWN, MonitorTests, Upstream, Watch, children_of, play, put_program
+from tests.support.harness import ended, expect, play, read, write
+from tests.support.monitored import FLAG, ON_BATTERY, QUICK, SHUTDOWN, MonitorTests, Upstream, Watch, children_of, put_program
 from tests.support.room import ONLINE, STATUS, USERS, descriptors, until
 
 OLD = 'SHUTDOWNCMD "touch FOLDER/old"\n'
@@ -56,8 +53,6 @@ class Tests(MonitorTests):
         with self.watched(conf, *words, **options) as (server, watch):
             server.until_asked()
             yield server, watch
-
-    # From here on, each method whose name begins with 'test_' is a test.
 
     def test_lines_come_and_go(self):
         with Upstream() as first, Upstream() as second, self.watch(first.line() + QUICK + OLD) as watch:
@@ -363,4 +358,4 @@ class Tests(MonitorTests):
 
 
 if __name__ == "__main__":
-    sys.exit(play(Tests))
+    sys.exit(play(Tests, 4))

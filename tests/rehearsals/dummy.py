@@ -1,21 +1,17 @@
-#!/usr/bin/env python3
 """Plays dummy drivers on the program `rehearse`, alone and beside a server, and compares them with worked scenes.
 
     python3 -m tests.rehearsals.dummy REHEARSE
 
 If an allocation is refused, the script prints the driver's state and repeats the refused call, and all other lines have to
-be those of a run in which nothing is refused. The last line is 'N passed, M failed'."""
+be those of a run in which nothing is refused."""
 
-import os
-import random
 import re
 import sys
-import tempfile
 
 from tests.support.dummy_rows import ROOM, ROOM_SCRIPT, ROOM_UPS, ROOM_USERS, SCENES, SCRIPTS
-from tests.support.harness import Failed, ensure, expect, fewer, run_tests
+from tests.support.harness import ensure, expect, play
 from tests.support.player import escaped
-from tests.support.stage import Stage
+from tests.support.stage import StageTests
 
 DUMP_ALL = b"DUMPALL\n"
 LACK = re.compile(rb"Memory\(([0-9]+)\) waits=0")
@@ -130,10 +126,7 @@ def room(size):
     return due
 
 
-class Tests:
-    def __init__(self, program, folder):
-        self.stage = Stage(program, folder)
-
+class Tests(StageTests):
     def test_scenes(self):
         for scene in SCENES:
             play = Play(scene)
@@ -210,24 +203,6 @@ class Tests:
             refused += same < len(lines)
         ensure(refused > 0, "no engine answered a refusal")
 
-    def test_10000_pieces_without_sense(self):
-        """Lines that are no requests change nothing, and nothing is told about them."""
-        chance = random.Random(12)
-        pieces = [bytes(chance.choices(range(256), k=chance.randrange(513))) for _ in range(fewer(10_000))]
-        head = [("dummy dev", b"ups.status: OL\nups.id: x\n"), ("dummy link",)]
-        tail = [("dummy bytes", b"\n"), ("dummy table",), ("dummy bytes", b"PING\n"), ("dummy take",)]
-        lines = self.stage.play([*head, *(("dummy bytes", piece) for piece in pieces), *tail])
-        for at, line in enumerate(lines[2 : len(pieces) + 2]):
-            if line != b"ok waits=0":
-                raise Failed(f"piece {at}: {line!r}")
-        wanted = [b"ok waits=0", shown({"ups.id": "x", "ups.status": "OL"}), b"ok waits=5", escaped(b"PONG\n")]
-        expect(lines[len(pieces) + 2 :], wanted, "behind all pieces")
-
-
-def main():
-    with tempfile.TemporaryDirectory() as folder:
-        return run_tests(Tests(os.path.abspath(sys.argv[1]), folder))
-
 
 if __name__ == "__main__":
-    sys.exit(main())
+    sys.exit(play(Tests, 1))

@@ -1,21 +1,17 @@
-#!/usr/bin/env python3
 """Has the program `rehearse` read the files of `examples` and others, and looks at what they set, and at what is set where a
 file says nothing. Which lines are faults is tested on the programs, by tests/programs/files.py.
 
-    python3 -m tests.rehearsals.examples REHEARSE
-
-The last line is 'N passed, M failed'."""
+    python3 -m tests.rehearsals.examples REHEARSE"""
 
 import os
 import sys
-import tempfile
 import urllib.parse
 
 from tests.support import manual
-from tests.support.harness import ROOT, expect, run_tests
+from tests.support.harness import ROOT, expect, play, read_bytes
 from tests.support.monitor_rows import ONLINE, RUNS, Check, Run, ask, check_run, notice, phase, status, steps_of, tell, tells, waits
 from tests.support.server_rows import err, listed, live
-from tests.support.stage import Stage
+from tests.support.stage import StageTests
 
 OTHER_UPSES = b'[b]\n[a]\ndesc = ""\ndriver = x\n[c]\n'
 OTHER_USERS = b"[a]\npassword = p\nactions = FSD\ninstcmds = load.on\ninstcmds = load.off\n[b]\nactions = SET\ninstcmds = all\n"
@@ -45,8 +41,7 @@ OTHER_RIGHTS = (
 
 
 def example(name):
-    with open(os.path.join(ROOT, "examples", name), "rb") as file:
-        return file.read()
+    return read_bytes(os.path.join(ROOT, "examples", name))
 
 
 def server_of(ups=b"[su700]\n", users=b"", upsd=b""):
@@ -54,10 +49,7 @@ def server_of(ups=b"[su700]\n", users=b"", upsd=b""):
     return [("ups", ups), ("users", users), ("upsd", upsd), ("server",)]
 
 
-class Tests:
-    def __init__(self, program, folder):
-        self.stage = Stage(program, folder)
-
+class Tests(StageTests):
     def play(self, head, steps):
         """Returns what is printed of these steps, behind others."""
         return self.stage.play([*head, *steps])[len(head) :]
@@ -165,10 +157,5 @@ class Tests:
         expect(told, set(texts), "the types of notices that are given")
 
 
-def main():
-    with tempfile.TemporaryDirectory() as folder:
-        return run_tests(Tests(os.path.abspath(sys.argv[1]), folder))
-
-
 if __name__ == "__main__":
-    sys.exit(main())
+    sys.exit(play(Tests, 1))

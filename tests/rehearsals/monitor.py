@@ -1,22 +1,18 @@
-#!/usr/bin/env python3
 """Plays monitors on the program `rehearse`, alone and through the loop that watches, and compares them with worked runs.
 
     python3 -m tests.rehearsals.monitor REHEARSE
 
 If memory is refused for a piece of bytes, its link has to be lost at that line, and all else has to continue as if that link
 had been lost instead of the rest of the piece. That the loop does so in every world, also one that is slow, late or broken, is proved of
-`watch`. The last line is 'N passed, M failed'."""
+`watch`."""
 
-import os
-import random
 import re
 import sys
-import tempfile
 
-from tests.support.harness import Failed, ensure, expect, fewer, run_tests
-from tests.support.monitor_rows import MEMORY_RUNS, PRIMARY, RUNS, SCENES, Starved, check_run, steps_of
+from tests.support.harness import ensure, expect, play
+from tests.support.monitor_rows import LOOP, MEMORY_RUNS, PRIMARY, RUNS, Starved, check_run, steps_of
 from tests.support.player import places
-from tests.support.stage import Stage
+from tests.support.stage import StageTests
 
 LACK = re.compile(rb"Memory \{ link: Some\(([0-9]+)\), lines: ([0-9]+) \} .*")
 NO_FILE = b"1: Memory"
@@ -28,18 +24,7 @@ def is_piece(step):
     return step[0] == "monitor bytes"
 
 
-def steps_of_loop(scene):
-    """Returns the steps that queue a scene's events and run it, and the lines that the run has to print."""
-    # the bytes of a link and of its server end a line
-    lines = [line + "%0A" if TAKES.match(line) else line for line in scene.lines]
-    events = [line[2:] for line in lines if line[:2] in ("> ", "- ")]
-    return [*((f"watch {event}",) for event in events), ("watch run", scene.file)], [line for line in lines if line[:2] != "- "]
-
-
-class Tests:
-    def __init__(self, program, folder):
-        self.stage = Stage(program, folder)
-
+class Tests(StageTests):
     def test_runs(self):
         for run in RUNS:
             check_run(run, self.stage.play(steps_of(run)))
@@ -116,37 +101,13 @@ class Tests:
         answers = {lines[0] for _, lines, _ in self.stage.refused_in_turn([("monitor new", PRIMARY)]) if lines}
         expect(answers, {NO_FILE, NO_MONITOR}, "what is said of a monitor that isn't made")
 
-    def test_10000_pieces_without_sense(self):
-        """A line that is no answer loses the link, and gives one notice."""
-        chance = random.Random(13)
-        steps, wanted = [("monitor new", PRIMARY), ("monitor linked", 0)], [b"ok", b"ok Watching true:13"]
-        is_told = False
-        for _ in range(fewer(10_000)):
-            piece = bytes(chance.choices(range(256), k=chance.randrange(513)))
-            steps.append(("monitor bytes", 0, piece))
-            if b"\n" not in piece:
-                wanted.append(b"ok Watching true:13")
-                continue
-            steps += [("monitor notice",), ("monitor linked", 0)]
-            wanted += [b"ok Watching false:0", b"none" if is_told else None, b"ok Watching true:13"]
-            is_told = True
-        lines = self.stage.play(steps)
-        for at, (line, due) in enumerate(zip(lines, wanted)):
-            if due is not None and line != due:
-                raise Failed(f"step {at}: {line!r}, wanted {due!r}")
-        expect(len(lines), len(wanted), "lines")
-
     def test_the_loop(self):
-        for scene in SCENES:
-            steps, wanted = steps_of_loop(scene)
-            found = self.stage.play(steps)
-            expect([line.decode() for line in found[len(steps) - 1 :]], wanted, scene.title)
-
-
-def main():
-    with tempfile.TemporaryDirectory() as folder:
-        return run_tests(Tests(os.path.abspath(sys.argv[1]), folder))
+        # the bytes of a link and of its server end a line
+        lines = [line + "%0A" if TAKES.match(line) else line for line in LOOP.splitlines()]
+        steps = [*((f"watch {line[2:]}",) for line in lines if line[:2] in ("> ", "- ")), ("watch run", PRIMARY)]
+        found = self.stage.play(steps)[len(steps) - 1 :]
+        expect([line.decode() for line in found], [line for line in lines if line[:2] != "- "], "what happens")
 
 
 if __name__ == "__main__":
-    sys.exit(main())
+    sys.exit(play(Tests, 1))

@@ -1,26 +1,22 @@
-#!/usr/bin/env python3
 """Plays schedules of arrivals on the server, and compares each answer with that of the plain model in model.py.
 
     python3 -m tests.rehearsals.server REHEARSE
 
-The schedules are made from fixed seeds, so that each run of this test plays the same. The last line is
-'N passed, M failed'."""
+The schedules are made from fixed seeds, so that each run of this test plays the same."""
 
 import contextlib
 import itertools
 import os
-import random
 import re
 import shutil
 import subprocess
 import sys
-import tempfile
 import time
 import urllib.parse
 from unittest import mock
 
-from tests.support.harness import Failed, ensure, expect, fewer, has_read_all, patience, refusing, run_tests
-from tests.support.model import OPENED_MAX, Config
+from tests.support.harness import Failed, ensure, expect, has_read_all, patience, play, refusing
+from tests.support.model import Config
 from tests.support.player import Player, conf_steps, escaped, line_of, places, reload_steps
 from tests.support.reload_rows import RELOADS
 from tests.support.request_rows import FORMS, NO_FORMS, QUERIES
@@ -106,15 +102,9 @@ def memory_in_use(process):
 
 class Tests:
     def __init__(self, program, folder):
-        self.program = program
-        self.folder = folder
-        self.stage = Stage(program, folder)
+        self.program, self.folder, self.stage = program, folder, Stage(program, folder)
         # the steps that make a server of which each allocation was refused
         self.refused = set()
-
-    @property
-    def shim(self):
-        return self.stage.shim
 
     def run(self, path, env=None):
         """Plays a schedule. Returns the status, what is printed, what is written about a failure, and the memory in use at its
@@ -154,7 +144,7 @@ class Tests:
         due = b"".join(player.play(step) for step in steps)
         told, ended = [], 0
         for at in [*range(first, last + 1), NEVER]:
-            env, is_reached = refusing(self.shim, "allocation", at)
+            env, is_reached = refusing(self.stage.shim, "allocation", at)
             status, out, err, _ = self.run(path, env)
             if not is_reached():
                 expect((status, out, err), (0, due, b""), f"{name}, without a refusal")
@@ -182,8 +172,6 @@ class Tests:
             if due is not None:
                 expect(printed, escaped(due) + b"\n", f"{row.name}: {step}")
 
-    # From here on, each method whose name begins with 'test_' is a test.
-
     def test_256_connections_and_100000_arrivals(self):
         begun = time.monotonic()
         config = Config(UPSES, USERS)
@@ -200,12 +188,6 @@ class Tests:
         ensure(told > 200, f"SUCCESS is told {told} times, and {tracked} requests are tracked")
         took = time.monotonic() - begun
         print(f"   {opened} connections, 256 at once, {reloads} reloads, {tracked} tracked requests, SUCCESS {told} times, in {memory} KiB; {took:.1f} s")
-
-    def test_no_number_is_left(self):
-        """The model opens no connection once the last number was given. No run gets there, so the test sets the number."""
-        server = Player(ROOM).model
-        server.opened = OPENED_MAX - 1
-        expect([server.open(b"a"), server.opened, server.open(b"b"), server.opened], [None, OPENED_MAX, "Full", OPENED_MAX], "the last two numbers")
 
     def test_memory_does_not_grow(self):
         config = Config(UPSES, USERS)
@@ -257,25 +239,6 @@ class Tests:
                 lines = self.stage.play([*head, text, (verb,), ("open", b"b")])
                 expect(lines[len(head) :], [b"ok", fault, b"ok opened=2"], f"a {verb} with {text}")
         expect(self.stage.run([("reload",)]), (1, b"", b"rehearse: line 1 isn't a step\n"), "a reload of no server")
-
-    def test_endless_line(self):
-        steps = [("open", b"a"), *[("bytes", 1, b"a" * 500)] * 4000, ("bytes", 1, b"\n"), ("take", 1)]
-        schedule, _ = self.rehearse(Config(UPSES, USERS), steps)
-        kept = [b"ok waits=0 kept=%d reads=true leaves=false\n" % it for it in [500, 1000, 1500, 2000] + [0] * 3996]
-        expect(schedule.due[HEAD + 1 : HEAD + 4001], kept, "pieces of a line of 2,000,000 bytes")
-        expect(schedule.due[HEAD + 4002], b"ERR INVALID-ARGUMENT%0A\n", "the answer to it")
-
-    def test_bytes_without_sense(self):
-        chance = random.Random(10)
-        steps = [("open", b"a"), ("open", b"b"), ("up", 0), ("up", 1)]
-        for _ in range(fewer(10_000)):
-            piece = bytes(chance.choices(range(256), k=chance.randrange(513)))
-            number = chance.randrange(2)
-            if chance.random() < 0.5:
-                steps.append(("driver", number, piece))
-            else:
-                steps += [("bytes", 1 + number, piece), ("take", 1 + number)]
-        self.rehearse(Config(UPSES, USERS), steps)
 
     def test_tables(self):
         """What a driver told is listed: each answer is the model's, and together they are what the table's row says."""
@@ -377,10 +340,5 @@ class Tests:
             print(f"   {len(told)} refusals were answered, {ended} ended the program")
 
 
-def main():
-    with tempfile.TemporaryDirectory() as folder:
-        return run_tests(Tests(os.path.abspath(sys.argv[1]), folder))
-
-
 if __name__ == "__main__":
-    sys.exit(main())
+    sys.exit(play(Tests, 1))

@@ -1,11 +1,9 @@
-#!/usr/bin/env python3
 """Builds the program `rehearse`, which only tests use and which nothing proves.
 
     python3 -m tests.rehearse.build FOLDER
 
 tools/tried builds it, in a temporary repository that has this one's crates and one more. The program is then in FOLDER, where
-those that tools/tried has built of this repository are. If nothing that it is built from has changed, it stays. The last line is
-'N passed, M failed'."""
+those that tools/tried has built of this repository are. If nothing that it is built from has changed, it stays."""
 
 import os
 import pathlib

@@ -5,7 +5,7 @@ import functools
 import os
 import re
 
-from tests.support.harness import ROOT
+from tests.support.harness import ROOT, read
 
 # what a directive takes that has one number, by the name that its line's form has for it
 Number = collections.namedtuple("Number", "name least most default")
@@ -14,8 +14,7 @@ Number = collections.namedtuple("Number", "name least most default")
 @functools.cache
 def paragraphs(page):
     """Returns the head and the text of each paragraph with a head in bold."""
-    with open(os.path.join(ROOT, "man", page + ".5")) as file:
-        text = file.read()
+    text = read(os.path.join(ROOT, "man", page + ".5"))
     return re.findall(r"^\.TP\n\.B[IR]? ([^\n]*)\n(.*?)(?=^\.(?:TP|PP|S[SH])\b|\Z)", text, re.MULTILINE | re.DOTALL)
 
 

@@ -328,19 +328,10 @@ MEMORY_RUNS = [
 RUNS = [*REFUSAL_RUNS, *COMMUNICATION_RUNS, *STATUS_RUNS, *LINE_RUNS, *PRIMARY_RUNS, *FORCING_RUNS, *SECONDARY_RUNS]
 
 
-class Scene:
-    """The events of a monitor with this file, each a line that begins with '>', and what has to happen at them; then the
-    phase that it ends in, and the events that aren't asked for any more, by lines that begin with '-'. The bytes of a link
-    and of its server are followed by a line feed."""
-
-    def __init__(self, title, file, text):
-        self.title = title
-        self.file = file
-        self.lines = text.strip().splitlines()
-
-
-# The first link is made, and its first queries are answered, up to that for the status.
-LINKED = """\
+# What happens in a loop of a monitor with the file PRIMARY, a line each. One that begins with '>' is an event that is given; one with
+# '-' an event that isn't asked for any more. The bytes of the link and of its server are followed by a line feed.
+LOOP = """\
+> moment 0
 > linked 0
 link 0 takes USERNAME mon
 > bytes 0 OK
@@ -348,60 +339,19 @@ link 0 takes PASSWORD m1
 > bytes 0 OK
 link 0 takes LOGIN su700
 > bytes 0 OK
-link 0 takes GET VAR su700 ups.status"""
-LINKED_PRIMARY = LINKED.replace("link 0 takes GET", "link 0 takes PRIMARY su700\n> bytes 0 OK\nlink 0 takes GET")
-# The UPS of the first link is on a low battery.
-FAILING = "told Onbatt 0 UPS su700@localhost on battery\ntold Lowbatt 0 UPS su700@localhost battery is low"
-TWO = b"MONITOR a@localhost 1 mon m1 secondary\nMONITOR b@localhost 1 mon m1 primary\n"
-
-SCENES = [
-    Scene("A primary forces the shutdown", PRIMARY, f"""\
-> moment 0
-{LINKED_PRIMARY}
+link 0 takes PRIMARY su700
+> bytes 0 OK
+link 0 takes GET VAR su700 ups.status
 > bytes 0 VAR su700 ups.status "OB LB"
 link 0 takes FSD su700
-{FAILING}
+told Onbatt 0 UPS su700@localhost on battery
+told Lowbatt 0 UPS su700@localhost battery is low
 > bytes 0 OK FSD-SET
 link 0 takes GET NUMLOGINS su700
 > bytes 0 NUMLOGINS su700 1
 told Shutdown - Auto logout and shutdown proceeding
 > moment 4
 > moment 5
-= Halted {{ flag: true }}
+= Halted { flag: true }
 - moment 16
-- moment 21
-"""),
-    Scene("Two UPSes", TWO, """\
-> linked 0
-link 0 takes USERNAME mon
-> linked 1
-link 1 takes USERNAME mon
-> bytes 0 OK
-link 0 takes PASSWORD m1
-> bytes 1 OK
-link 1 takes PASSWORD m1
-> bytes 0 OK
-link 0 takes LOGIN a
-> bytes 1 OK
-link 1 takes LOGIN b
-> bytes 0 OK
-link 0 takes GET VAR a ups.status
-> bytes 1 OK
-link 1 takes PRIMARY b
-> bytes 0 VAR a ups.status "OB"
-told Onbatt 0 UPS a@localhost on battery
-> bytes 1 OK
-link 1 takes GET VAR b ups.status
-> bytes 1 VAR b ups.status "OL RB"
-told Replbatt 1 UPS b@localhost battery needs to be replaced
-> bytes 1 VAR b ups.status "OL"
-link 1 is closed
-told Commbad 1 Communications with UPS b@localhost lost
-> moment 5
-link 0 takes GET VAR a ups.status
-> bytes 0 VAR a ups.status "OB LB FSD"
-told Lowbatt 0 UPS a@localhost battery is low
-told Fsd 0 UPS a@localhost: forced shutdown in progress
-= Watching
-"""),
-]
+- moment 21"""

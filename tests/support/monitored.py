@@ -6,12 +6,11 @@ import shutil
 import signal
 import socket
 import subprocess
-import sys
 import tempfile
 import threading
 import time
 
-from tests.support.harness import Failed, Shimmed, expect, patience, processor_time, read, read_bytes, run_tests, write
+from tests.support.harness import Failed, Shimmed, expect, patience, processor_time, read, read_bytes, write
 from tests.support.room import SOON, STATUS, Room, family_of, free_port, stopped, until
 
 FLAG = b"upsmon-shutdown-file\n"
@@ -27,14 +26,6 @@ OF_SHUTDOWN = "upsmon: shutdown: "
 # so that each run is short: the status is asked for each second, and no delay is waited for
 QUICK = "POLLFREQ 1\nHOSTSYNC 1\nFINALDELAY 0\n"
 USERS = b"[mon]\npassword = m1\nupsmon primary\n[guest]\npassword = g1\nupsmon secondary\n"
-
-
-def play(tests, install="", at_once=1):
-    """Runs tests of this class by the words of the command line: UPSD DUMMY_UPS UPSC UPSMON, and then parts of the names of
-    the wanted tests, as for `run_tests`."""
-    programs, names = sys.argv[1:5], sys.argv[5:]
-    with tempfile.TemporaryDirectory() as folder:
-        return run_tests(tests([os.path.abspath(it) for it in programs], folder), names, install, at_once)
 
 
 def put_program(path, script, mode=0o755):
@@ -266,9 +257,9 @@ class Silent(Upstream):
 class MonitorTests(Shimmed):
     """Tests of a running upsmon, with the built programs and a folder for all that they write."""
 
-    def __init__(self, programs, folder):
-        self.programs, self.folder = programs, folder
-        self.upsd, self.dummy, self.upsc, self.upsmon = programs
+    def __init__(self, *programs_and_folder):
+        *self.programs, self.folder = programs_and_folder
+        self.upsd, self.dummy, self.upsc, self.upsmon = self.programs
 
     def room(self, users=USERS, **options):
         """Returns a room whose server knows a primary and a secondary."""

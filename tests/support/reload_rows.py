@@ -75,23 +75,11 @@ RELOADS = [
         ask(1, STATUS, ONLINE, NUMLOGINS, b"NUMLOGINS su700 1", b"GET VAR su700 ups.id", b'VAR su700 ups.id "x"'),
         (("driver-take", 0), b"DUMPALL\n"),
     ]),
-    Row("a reload twice", [
-        live(), OPEN, LOGIN,
-        reload(REDESCRIBED, up(b"su700")) * 2,
-        ask(1, STATUS, ONLINE, b"GET UPSDESC su700", b'UPSDESC su700 "New room"', NUMLOGINS, b"NUMLOGINS su700 1"),
-    ]),
     Row("another description", [
         live(), OPEN, ask(1, b"GET UPSDESC su700", b'UPSDESC su700 "Server room"'),
         reload(REDESCRIBED, up(b"su700")),
         ask(1, b"GET UPSDESC su700", b'UPSDESC su700 "New room"', b"LIST UPS", listed(b"UPS", b'UPS su700 "New room"')),
         ask(1, STATUS, ONLINE),
-    ]),
-    Row("another name", [
-        live(), OPEN, LOGIN, GUEST,
-        reload(RENAMED, down(b"neu"), drivers=[0], connections=[1]),
-        gone(1), refused(2, "UNKNOWN-UPS", STATUS, NUMLOGINS, b"GET UPSDESC su700"),
-        refused(2, "DRIVER-NOT-CONNECTED", b"GET VAR neu ups.status"),
-        (("driver", 0, b"DATAOK\n"), NOT_CONNECTED), live(), status_of(2, b"neu"),
     ]),
     Row("another name, and back", [
         live(), OPEN, LOGIN, GUEST, monitor(2),
@@ -112,12 +100,6 @@ RELOADS = [
         status_of(1, b"old", b"OB"), told(b'SETINFO ups.status "OB LB"', u=1), status_of(1, b"old", b"OB LB"),
         ask(1, b"GET NUMLOGINS old", b"NUMLOGINS old 1", NUMLOGINS, b"NUMLOGINS su700 0"),
     ], config=PAIR),
-    Row("the last UPS becomes the first", [
-        OPEN, live(u=2),
-        reload(conf(C, A, B), down(b"a"), down(b"b"), up(b"c")),
-        ask(1, b"LIST UPS", listed(b"UPS", b'UPS c ""', b'UPS a ""', b'UPS b ""')), status_of(1, b"c"),
-        told(b"SETINFO ups.status OB", u=2), status_of(1, b"c", b"OB"), (("driver", 0, b"PONG\n"), NOT_CONNECTED),
-    ], config=conf(A, B, C)),
     Row("another driver", [
         live(), OPEN, LOGIN,
         reload(REDRIVEN, down(b"su700"), drivers=[0]),
@@ -137,11 +119,6 @@ RELOADS = [
         ask(1, STATUS, ONLINE),
         reload(ROOM, up(b"su700")),
     ]),
-    Row("another driver of one of two UPSes, which change places", [
-        BOTH_LIVE, OPEN,
-        reload(conf(OLD, SU700, drivers=OTHER_DRIVER), down(b"su700"), up(b"old"), drivers=[0]),
-        refused(1, "DRIVER-NOT-CONNECTED", STATUS), status_of(1, b"old"),
-    ], config=PAIR),
     Row("another driver while requests wait", [
         live(*ID), OPEN, ADMIN, ask(1, SET_ID, b"OK"),
         reload(REDRIVEN, down(b"su700"), drivers=[0]),
@@ -163,13 +140,6 @@ RELOADS = [
         live(), OPEN, MONITOR, ask(1, b"FSD su700", b"OK FSD-SET"),
         reload(conf(NEU, NEW_ROOM), up(b"su700"), down(b"neu")),
         ask(1, STATUS, FORCED), live(u=1), status_of(1, b"neu"),
-    ]),
-    Row("a UPS that comes back isn't forced", [
-        live(), OPEN, MONITOR, ask(1, b"FSD su700", b"OK FSD-SET"),
-        reload(RENAMED, down(b"neu"), drivers=[0]),
-        live(), status_of(1, b"neu"),
-        reload(ROOM, down(b"su700"), drivers=[0]),
-        live(), ask(1, STATUS, ONLINE),
     ]),
     Row("what a driver told stays", [
         live(*ID, *SENSITIVITY, b"ADDCMD load.off"), OPEN,
@@ -266,11 +236,6 @@ RELOADS = [
         (("open", b"d"), b"Full opened=3"), ("close", 1), (("open", b"d"), b"ok opened=4"), (("open", b"e"), b"Full opened=4"),
         ask(3, b"VER", VERSION), ask(4, b"VER", VERSION),
     ]),
-    Row("MAXCONN raised", [
-        (("open", b"a"), b"ok opened=1"), (("open", b"b"), b"Full opened=1"),
-        reload(conf(SU700, max_conn=2), down(b"su700")),
-        (("open", b"b"), b"ok opened=2"), (("open", b"c"), b"Full opened=2"),
-    ], config=conf(SU700, max_conn=1)),
     Row("MAXCONN and connections that a reload closes", [
         OPEN * 2, monitor(1, b"old"),
         reload(conf(SU700, max_conn=1), down(b"su700"), down(), connections=[1]),
@@ -281,11 +246,6 @@ RELOADS = [
         reload(conf(SU700, max_age=9), up(b"su700", 13)),
         refused(1, "DATA-STALE", STATUS),
         reload(conf(SU700, max_age=10), up(b"su700", 13)),
-        ask(1, STATUS, ONLINE),
-    ]),
-    Row("a greater MAXAGE: data become fresh at once", [
-        live(), OPEN, ("moment", 16), refused(1, "DATA-STALE", STATUS),
-        reload(conf(SU700, max_age=16), up(b"su700", 13)),
         ask(1, STATUS, ONLINE),
     ]),
     Row("another MAXAGE, and when a driver is sent PING", [
@@ -338,11 +298,6 @@ RELOADS = [
         reload(conf(NEU, NEW_ROOM), up(b"su700", 25), down(b"neu")),
         ask(1, SET_ID, b"OK"), (("driver-take", 0, 10), b"DUMPALL\nSE"), (("driver-take", 0), b'T ups.id "abc"\n' + ASKED_ID),
     ]),
-    Row("requests that wait for a driver that goes", [
-        live(*ID), OPEN, ADMIN, ask(1, SET_ID, b"OK"),
-        reload(RENAMED, down(b"neu"), drivers=[0]),
-        (("driver-take", 0), b""), (("next-driver", 0), b"none"), ("up", 0), (("driver-take", 0), b"DUMPALL\n"),
-    ]),
     Row("tracked requests to a UPS that stays", [
         live(*ID), OPEN, ADMIN, TRACK, ask(1, SET_ID, b"OK TRACKING 1"),
         reload(conf(NEU, NEW_ROOM), up(b"su700", 36), down(b"neu")),
@@ -358,10 +313,4 @@ RELOADS = [
         ask(1, b"GET TRACKING 1", b"TRACKING 1 UNKNOWN", b"GET TRACKING 3", b"TRACKING 3 UNKNOWN"), live(*ID),
         ask(1, SET_ID, b"OK TRACKING 4"),
     ]),
-    Row("descriptions change places, and names keep their numbers", [
-        BOTH_LIVE, OPEN, told(b"SETINFO ups.status OB", u=1),
-        reload(conf((b"su700", b"O"), (b"old", b"Server room")), up(b"su700"), up(b"old")),
-        ask(1, b"GET UPSDESC su700", b'UPSDESC su700 "O"', b"GET UPSDESC old", b'UPSDESC old "Server room"', STATUS, ONLINE),
-        status_of(1, b"old", b"OB"),
-    ], config=PAIR),
 ]

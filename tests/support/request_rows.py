@@ -4,7 +4,7 @@ docs/protocol.md, with the examples there."""
 import os
 import re
 
-from tests.support.harness import ROOT
+from tests.support.harness import ROOT, read
 from tests.support.model import words_of
 
 # what stands in a form for the names of docs/protocol.md
@@ -41,8 +41,8 @@ class Query:
 
 
 def queries():
-    with open(os.path.join(ROOT, "docs", "protocol.md")) as file:
-        tables = re.search(r"^## Asking$.*?(?=^## Who you are$)", file.read(), re.MULTILINE | re.DOTALL)[0]
+    page = read(os.path.join(ROOT, "docs", "protocol.md"))
+    tables = re.search(r"^## Asking$.*?(?=^## Who you are$)", page, re.MULTILINE | re.DOTALL)[0]
     # the example of a GET is in its last cell, that of a LIST in the next
     found = re.findall(r"^\| `(GET [^`]+)` \| .* \| `([^`]+)` \|$", tables, re.MULTILINE)
     return [Query(*it) for it in found + re.findall(r"^\| `(LIST [^`]+)` \| `([^`]+)`", tables, re.MULTILINE)]

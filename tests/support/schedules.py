@@ -44,73 +44,26 @@ ADDRESSES = [b"10.0.0.1", b"::1", b"a" * 64, b"!~", b"192.0.2.7%eth0"]
 BAD_ADDRESSES = [b"", b"a" * 65, b"a b", b"a\x7f", b'a"', b"a\\b", b"a#", b"a=b", b"\xc3\xa9", b"a\n"]
 
 
-class Reconfigured:
-    """A configuration that is changed at random, a piece at a time."""
-
-    def __init__(self, chance, config):
-        self.random = chance
-        self.upses, self.drivers, self.users = list(config.upses), dict(config.drivers), dict(config.users)
-        self.max_age, self.max_conn = config.max_age, config.max_conn
-
-    def config(self):
-        drivers = {name: driver for name, driver in self.drivers.items() if name in dict(self.upses)}
-        return Config(self.upses, self.users, self.max_age, self.max_conn, drivers)
-
-    def change(self):
-        changes_of_upses = [self.add, self.remove, self.rename, self.reorder, self.describe, self.change_driver]
-        self.random.choice([*changes_of_upses, self.change_user, self.change_numbers])()
-
-    def place(self):
-        return self.random.randrange(len(self.upses) or 1)
-
-    def add(self):
-        new = [it for it in NAMES if it not in dict(self.upses)]
-        if new and len(self.upses) < UPSES_MAX:
-            self.upses.insert(self.place(), (self.random.choice(new), b"new"))
-
-    def remove(self):
-        at = self.place()
-        del self.upses[at : at + 1]
-
-    def rename(self):
-        self.remove()
-        self.add()
-
-    def reorder(self):
-        self.random.shuffle(self.upses)
-
-    def describe(self):
-        if self.upses:
-            at = self.place()
-            self.upses[at] = self.upses[at][0], self.random.choice([b"", b"another", b'"#"', b"e" * 128])
-
-    def change_driver(self):
-        if self.upses:
-            self.drivers[self.upses[self.place()][0]] = self.random.choice(DRIVERS)
-
-    def change_user(self):
-        name = self.random.choice(list(OTHER_USERS))
-        if name in self.users and self.random.random() < 0.3:
-            del self.users[name]
-        else:
-            self.users[name] = OTHER_USERS[name]
-
-    def change_numbers(self):
-        self.max_age = self.random.choice([self.max_age, self.max_age, 1, 5, 30, 86_400])
-        self.max_conn = self.random.choice([self.max_conn, self.max_conn, 1, 5, 100, 256])
+def varied(chance, config):
+    """Returns a configuration that differs from this one by chance: UPSes that go, come, have another text or driver or are in another
+    order, users, and the two numbers."""
+    upses = [it for it in config.upses if chance.random() < 0.85]
+    upses += [(name, b"new") for name in NAMES if name not in dict(config.upses) and chance.random() < 0.1]
+    upses = [(name, chance.choice([text] * 8 + [b"", b"another", b'"#"', b"e" * 128])) for name, text in upses[:UPSES_MAX]]
+    if chance.random() < 0.3:
+        chance.shuffle(upses)
+    drivers = {name: chance.choice(DRIVERS) for name, _ in upses if chance.random() < 0.15}
+    users = {name: user for name, user in config.users.items() if chance.random() < 0.97}
+    users |= {name: user for name, user in OTHER_USERS.items() if chance.random() < 0.15}
+    max_age = chance.choice([config.max_age] * 12 + [1, 5, 30, 86_400])
+    return Config(upses, users, max_age, chance.choice([config.max_conn] * 12 + [1, 5, 100, 256]), drivers)
 
 
 def variants(seed, config):
-    """Returns configurations for reloads: some that differ from this one in a few things, itself, one without UPSes, and one
-    with as many as there can be."""
+    """Returns configurations for reloads: this one, one without UPSes, one with as many as there can be, and some by chance."""
     chance = random.Random(seed)
-    found = [config, Config([], config.users), Config([(b"u%d" % it, b"") for it in range(28)] + UPSES, config.users)]
-    for _ in range(33):
-        changed = Reconfigured(chance, config)
-        for _ in range(chance.randrange(1, 5)):
-            changed.change()
-        found.append(changed.config())
-    return found
+    most = Config([(b"u%d" % it, b"") for it in range(28)] + UPSES, config.users)
+    return [config, Config([], config.users), most, *(varied(chance, config) for _ in range(33))]
 
 
 class ScheduleMaker:

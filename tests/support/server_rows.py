@@ -118,10 +118,6 @@ ROWS = [
             b"LIST RANGE su700 battery.charge", listed(b"RANGE su700 battery.charge", b'RANGE su700 battery.charge "-5" "100"'),
             b"LIST ENUM su700 input.sensitivity", listed(b"ENUM su700 input.sensitivity", b'ENUM su700 input.sensitivity ""')),
     ]),
-    Row("a variable that went, and came again", [
-        live(SENSITIVITY[0], SENSITIVITY[2], b"DELINFO input.sensitivity", SENSITIVITY[0]), OPEN,
-        ask(1, b"LIST ENUM su700 input.sensitivity", listed(b"ENUM su700 input.sensitivity")),
-    ], wanted=[b"Memory(Report(0, 0))"]),
     Row("a silent driver", [
         live(), OPEN, (("driver-take", 0), b"DUMPALL\n"), ("moment", 5), (("driver-take", 0), b""), ("moment", 6),
         (("driver-take", 0), b"PING\n"), ("moment", 7), (("driver-take", 0), b""), ("moment", 12), (("driver-take", 0), b"PING\n"),
@@ -170,11 +166,6 @@ ROWS = [
         OPEN, ("up", 0), (("driver-take", 0), b"DUMPALL\n"), told(b'SETINFO ups.status "OL"', b"DATAOK"),
         ask(1, STATUS, err("DATA-STALE")), told(b"DUMPDONE"), ask(1, STATUS, ONLINE), ("up", 0),
         ask(1, STATUS, err("DATA-STALE")), (("driver-take", 0), b"DUMPALL\n"),
-    ]),
-    Row("pieces", [
-        OPEN, ("bytes", 1, b"GE"), ("bytes", 1, b"T VAR su700 ups.sta"), ("bytes", 1, b"tus\n"),
-        (("take", 1), err("DRIVER-NOT-CONNECTED") + b"\n"),
-        ask(1, b"GET UPSDESC su700", b'UPSDESC su700 "Server room"', b"LIST UPS", ROOMS),
     ]),
     Row("one who may do little", [
         live(), OPEN, ADMIN,

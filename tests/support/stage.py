@@ -59,3 +59,10 @@ class Stage(Shimmed):
         expect((self.run(steps, env)[0], is_reached()), (0, False), "a run without a refusal")
         # the file of the count takes one
         return counted(self.shim) - 1
+
+
+class StageTests:
+    """Tests with a stage of their own, made of the program and a folder."""
+
+    def __init__(self, program, folder):
+        self.stage = Stage(program, folder)

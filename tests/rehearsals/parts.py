@@ -1,0 +1,137 @@
+"""Plays the parts that have the program `rehearse` to themselves, and compares them with worked rows: the words of lines, the links
+of a client, and the loop of a server over arrivals in memory.
+
+    python3 -m tests.rehearsals.parts REHEARSE"""
+
+import random
+import sys
+
+from tests.support.harness import ensure, expect, fewer, play
+from tests.support.model import words_of
+from tests.support.player import escaped
+from tests.support.request_rows import FORMS, LINK_ROWS, SHORTER_FORMS
+from tests.support.stage import StageTests
+
+THIRTY_TWO = b" ".join([b"a"] * 32)
+
+# lines, and the words that each spells
+LINES = [
+    (b"", []),
+    (b" \t\r", []),
+    (b"# no word", []),
+    (b'a=b "" # c', [b"a", b"=", b"b", b""]),
+    (b"foo=bar", [b"foo", b"=", b"bar"]),
+    (b"a\\ b", [b"a b"]),
+    (b'"a#b"', [b"a#b"]),
+    (b'"a\\#b"', [b"a#b"]),
+    (b"a#b", [b"a"]),
+    (b"a # tab\tand return\r", [b"a"]),
+    (b" a\tb\r", [b"a", b"b"]),
+    (b'\\"a\\" \\\\', [b'"a"', b"\\"]),
+    (b'"a"="b c"#d', [b"a", b"=", b"b c"]),
+    (b"==", [b"=", b"="]),
+    (THIRTY_TWO, [b"a"] * 32),
+]
+
+# lines that spell no words, and the fault
+FAULTS = [
+    (b"a\x01", "BadByte"),
+    (b"a\x80", "BadByte"),
+    (b'"\xff"', "BadByte"),
+    (b"# \x7f", "BadByte"),
+    (b'"a\tb"', "BadByte"),
+    (b'"a\rb"', "BadByte"),
+    (b"a\\\t", "BadByte"),
+    (b'"a', "OpenQuote"),
+    (b'a="', "OpenQuote"),
+    (b"a\\", "LoneBackslash"),
+    (b'"a\\', "LoneBackslash"),
+    (b'a"b', "QuoteInWord"),
+    (b'"a"b', "AfterQuote"),
+    (b'"a""b"', "AfterQuote"),
+    (b'"a"\\', "AfterQuote"),
+    (THIRTY_TWO + b" a", "TooManyWords"),
+    (b'a"b \x80', "QuoteInWord"),
+    (b'\x80 a"b', "BadByte"),
+]
+
+# the queries that begin with two command words
+LONG_FORMS = (b"GET", b"LIST", b"SET")
+
+# A server's files, and a line for each thing that its world does: behind '>' an arrival that is given.
+FILES = [("ups", b"[su700]\n"), ("users", b""), ("upsd", b"MAXCONN 2")]
+LOOP = r"""
+> open a
+> open b
+> up 0
+driver 0 takes DUMPALL\n
+> bytes 1 VER\nFOO\n
+connection 1 takes Network UPS Tools upsd profile 1.3\nERR UNKNOWN-COMMAND\n
+> bytes 2 VER\nLOGOUT\nVER\n
+connection 2 takes Network UPS Tools upsd profile 1.3\nOK Goodbye\n
+connection 2 is closed
+= 0 0
+"""
+
+
+def shown_words(words):
+    return b"".join(escaped(word) + b"|" for word in words)
+
+
+def written(query):
+    """Returns a query as a link writes it: with its commands in capitals."""
+    words = query.split(b" ")
+    commands = 2 if words[0].upper() in LONG_FORMS else 1
+    return b" ".join([word.upper() for word in words[:commands]] + words[commands:]) + b"\n"
+
+
+class Tests(StageTests):
+    def split(self, lines):
+        return [("words split", line) for line in lines]
+
+    def test_words_of_lines(self):
+        rows = [(line, shown_words(words)) for line, words in LINES] + [(line, fault.encode()) for line, fault in FAULTS]
+        for (line, wanted), it in zip(rows, self.stage.play(self.split(line for line, _ in rows))):
+            expect(it, wanted, f"the words of {line!r}, or its fault")
+
+    def test_copied_words_with_each_allocation_refused(self):
+        steps = self.split(line for line, _ in LINES)
+        whole = self.stage.play(steps)
+        seen = set()
+        for at, lines, is_whole in self.stage.refused_in_turn(steps):
+            changed = [place for place, (one, other) in enumerate(zip(lines, whole)) if one != other]
+            ensure(len(changed) <= 1 and all(lines[place] == b"Memory" for place in changed), f"allocation {at}: {lines}")
+            seen.update(changed)
+        expect(seen, {at for at, (line, _) in enumerate(LINES) if b"\\" in line}, "lines for which memory was refused")
+
+    def test_10000_lines_without_sense(self):
+        chance = random.Random(14)
+        lines = b"".join(bytes(chance.choices(range(256), k=chance.randrange(513))) for _ in range(fewer(10_000))).split(b"\n")
+        for line, it in zip(lines, self.stage.play(self.split(lines))):
+            words = words_of(line)
+            ensure(it == shown_words(words) if words is not None else it.isalpha(), f"{line!r}: {it!r}")
+
+    def test_answers_on_links(self):
+        steps = [[("link ask", query), ("link bytes", lines), ("link answer",)] for query, lines, *_ in LINK_ROWS]
+        found = self.stage.play(sum(steps, []))
+        for at, (query, lines, outcome, fault) in enumerate(LINK_ROWS):
+            due = [escaped(written(query)), (fault or "ok").encode(), outcome.encode()]
+            expect(found[3 * at : 3 * at + 3], due, f"{query}, answered by {lines}")
+
+    def test_forms_of_queries(self):
+        """Each form is asked in mixed case, and as it is written."""
+        pairs = [(mixed, capitals) for mixed, capitals, *_ in FORMS + SHORTER_FORMS]
+        pairs += [(capitals, capitals) for _, capitals in pairs]
+        for (query, capitals), taken in zip(pairs, self.stage.play([("link ask", query) for query, _ in pairs])):
+            expect(taken, escaped(capitals + b"\n"), f"{query}, as it is written")
+
+    def test_the_loop_of_a_server(self):
+        """That it does so in every world, also one that is slow, late or broken, is proved of `serve`."""
+        lines = LOOP.replace("\\n", "%0A").strip().splitlines()
+        steps = [*FILES, *((f"serve {line[2:]}",) for line in lines if line[0] == ">"), ("serve run",)]
+        found = self.stage.play(steps)[len(steps) - 1 :]
+        expect([line.decode() for line in found], lines, "what is taken and closed")
+
+
+if __name__ == "__main__":
+    sys.exit(play(Tests, 1))
