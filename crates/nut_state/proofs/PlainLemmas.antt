@@ -1,12 +1,12 @@
--- What a plain SETINFO asks for.
+-- What a plain SETINFO and a plain PONG ask for.
 use Rattle.std.proofs.Common.{◌≡◌, ℕ, ◌+◌, true, List, [], ◌∷◌, ◌++◌, Some, length, take, drop, codes, refl, sym, ap, ◌∙◌}
 use Rattle.std.specs.Str.{bytes_eq}
 use Rattle.std.proofs.lemmas.List.{take-append-drop}
 use Rattle.std.proofs.lemmas.Slice.Eq.{bytes_eq-Decides}
 use Rattle.nut_words.specs.Quoting.{IsPrintable, quoted, stands_bare}
-use Rattle.nut_words.specs.Reader.{spelled}
+use Rattle.nut_words.specs.Reader.{read, spelled}
 use Rattle.nut_words.proofs.PlainLemmas.{setting_spelled}
-use Rattle.nut_state.specs.Change.{asked, heard, set_info}
+use Rattle.nut_state.specs.Change.{asked, heard, pong, set_info}
 use Rattle.nut_state.specs.Verb.{verb_of}
 use Rattle.nut_state.proofs.HistoryLemmas.{heard_words}
 
@@ -26,3 +26,7 @@ setting_heard line words name behind value begins named told =
     ∙ ap (λ t. codes "SETINFO " ++ t) (sym begins.1 ∙ named.0 ∙ ap (λ t. name ++ 32 ∷ t) told.0) in
     heard_words line (codes "SETINFO" ∷ name ∷ value ∷ []) (ap spelled text ∙ setting_spelled (codes "SETINFO") name value refl named.1 told.1)
     ∙ setting_asked name value
+
+pub pong_heard : heard (codes "PONG") ≡ Some pong
+unfolding heard read asked verb_of
+pong_heard = refl

@@ -1,6 +1,6 @@
-//! Reads a SETINFO as nearly all drivers write it.
-ghost use Rattle.std.specs.Prelude.{◌≡◌, Some, IfSome};
-ghost use Rattle.nut_state.specs.Change.{heard, set_info};
+//! Reads a SETINFO and a PONG as nearly all drivers write them.
+ghost use Rattle.std.specs.Prelude.{◌≡◌, Some, IfSome, IsTrue};
+ghost use Rattle.nut_state.specs.Change.{heard, set_info, pong};
 
 use nut_words::{bare_word, quoted_text};
 
@@ -13,4 +13,11 @@ pub(crate) fn plain_setting(line: &[u8]) -> Option<(&[u8], &[u8])>
     let (name, behind) = bare_word(words, b' ')?;
     let value = quoted_text(behind)?;
     Some((name, value))
+}
+
+/// Whether a line is a plain PONG: the four letters in upper case and nothing else. Any other line, even another PONG, isn't.
+pub(crate) fn is_plain_pong(line: &[u8]) -> bool
+    ensures { IsTrue result → heard line.now ≡ Some pong }
+{
+    line == b"PONG".as_slice()
 }

@@ -16,7 +16,7 @@ ghost use Rattle.nut_words.specs.Reader.{has_backslash};
 use crate::heard::{Heard, StateFault};
 use crate::limits::{COMMANDS_MAX, VARIABLES_MAX};
 use crate::number::Range;
-use crate::plain::plain_setting;
+use crate::plain::{is_plain_pong, plain_setting};
 use crate::sorted::{place_of_command, place_of_likely, place_of_variable};
 use crate::text::{Name, Text, is_name};
 use crate::variable::{Flags, Variable};
@@ -361,11 +361,14 @@ impl UpsState {
             self.set_info(name, value)?;
             return Ok(Heard::Heard);
         }
+        if is_plain_pong(line) {
+            return Ok(Heard::Heard);
+        }
         self.apply_any(line)
     }
 
-    /// Does what [`apply`](Self::apply) does, whatever the line is. It stands apart, so that a plain SETINFO doesn't pay for the
-    /// place of all words.
+    /// Does what [`apply`](Self::apply) does, whatever the line is. It stands apart, so that a plain SETINFO or PONG doesn't pay for
+    /// the place of all words.
     #[inline(never)]
     #[tactic(auto, unfolding(crate::specs::Step::applied, crate::specs::Change::heard, crate::specs::Step::line_adds))]
     fn apply_any(&mut self, line: &[u8]) -> Result<Heard, StateFault>
