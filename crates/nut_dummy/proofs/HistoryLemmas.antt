@@ -10,7 +10,7 @@ use Rattle.nut_words.proofs.StreamGrowth.{rest-append}
 use Rattle.nut_proto.specs.declared.driver_ask.DriverAsk.{DriverAsk}
 use Rattle.nut_proto.specs.declared.driver_ask.DriverAsk.TheVariants as asks
 use Rattle.nut_dummy.specs.declared.dummy.DummyFault.TheVariants as faults
-use Rattle.nut_dummy.specs.declared.command.Command.{Command}
+use Rattle.nut_dummy.specs.declared.command.KnownCommand.{KnownCommand}
 use Rattle.nut_dummy.specs.Command.{variable_set, value_set, command_of}
 use Rattle.nut_dummy.specs.Script.{Script, Timeline}
 use Rattle.nut_dummy.specs.Teller.{Teller, Change, Passing, Assigning, Doing, followed, dumped, untold, changed, dumped_all, commanded, answered, heard_all, relinked, asked_by}
@@ -44,7 +44,7 @@ module _ (ts : List Timeline) where
     fails_is number =
         ap (λ w. record { variables = map (seen past) ts; asked = has_asked past; waits = w }) (sym (drop-append-le n (told ts past) (owed ts (Fails number) past) room))
 
-    command_is : (number : Option ℕ) (command : Option Command) → commanded number command (told_by ts past n) ≡ told_by ts (by_command number command past) n
+    command_is : (number : Option ℕ) (command : Option KnownCommand) → commanded number command (told_by ts past n) ≡ told_by ts (by_command number command past) n
     command_is number None = fails_is number
     command_is number (Some c) = change_is number (Doing (variable_set c) (value_set c))
 
@@ -56,7 +56,7 @@ module _ (ts : List Timeline) where
     ask_is (Some (asks.Set name value number)) = change_is number (Assigning name value)
     ask_is (Some (asks.InstCmd name parameter number)) = command_is number (command_of name)
 
-    command_room : (number : Option ℕ) (command : Option Command) → n ≤ length (told ts (by_command number command past))
+    command_room : (number : Option ℕ) (command : Option KnownCommand) → n ≤ length (told ts (by_command number command past))
     command_room number None = omega (arith, room, length-append (told ts past) (owed ts (Fails number) past))
     command_room number (Some c) = omega (arith, room, length-append (told ts past) (owed ts (Changes number (Doing (variable_set c) (value_set c))) past))
 
@@ -80,7 +80,7 @@ module _ (ts : List Timeline) where
   lines_room (l ∷ ls) past n room = lines_room ls (by_ask (asked_by l) past) n (ask_room past n room (asked_by l))
 
   -- what lines owe is appended to what was told before them
-  command_tells : (number : Option ℕ) (command : Option Command) (past : List Deed) → (more : List ℕ) × (told ts (by_command number command past) ≡ told ts past ++ more)
+  command_tells : (number : Option ℕ) (command : Option KnownCommand) (past : List Deed) → (more : List ℕ) × (told ts (by_command number command past) ≡ told ts past ++ more)
   command_tells number None past = (owed ts (Fails number) past, refl)
   command_tells number (Some c) past = (owed ts (Changes number (Doing (variable_set c) (value_set c))) past, refl)
 

@@ -21,8 +21,8 @@ use Rattle.nut_state.specs.Sorted.{put, IsAscending}
 use Rattle.nut_state.specs.Text.{is_name}
 use Rattle.nut_state.proofs.PutLemmas.{All-put, All-named, ascending-put, length-put, length-put_found}
 use Rattle.nut_state.specs.declared.limits.TheConstants.{VARIABLES_MAX}
-use Rattle.nut_dummy.specs.declared.command.Command.{Command}
-use Rattle.nut_dummy.specs.declared.command.Command.TheVariants.{BeeperDisable}
+use Rattle.nut_dummy.specs.declared.command.KnownCommand.{KnownCommand}
+use Rattle.nut_dummy.specs.declared.command.KnownCommand.TheVariants.{BeeperDisable}
 use Rattle.nut_dummy.specs.declared.fault.ScriptFaultKind.{ScriptFaultKind}
 use Rattle.nut_dummy.specs.declared.fault.ScriptFaultKind.TheVariants as kinds
 use Rattle.nut_dummy.specs.declared.item.ScriptKind.{ScriptKind}
@@ -274,11 +274,11 @@ changed_sound : (number : Option ℕ) (change : Change) (t : Teller) → IsPrope
 changed_sound number change t proper h =
     kept (followed t.asked change) (λ v. refl) (λ v s. (s.0, s.1, after_valued change v.name v.steps v.value proper s.1 s.2)) t.variables h
 
-proper_command : (c : Command) → is_value (value_set c) ≡ true
+proper_command : (c : KnownCommand) → is_value (value_set c) ≡ true
 proper_command BeeperDisable = refl
 proper_command _ = refl
 
-commanded_sound : (number : Option ℕ) (command : Option Command) (t : Teller) → AreSound t.variables → AreSound (commanded number command t).variables
+commanded_sound : (number : Option ℕ) (command : Option KnownCommand) (t : Teller) → AreSound t.variables → AreSound (commanded number command t).variables
 commanded_sound number None t h = h
 commanded_sound number (Some c) t h = changed_sound number (Doing (variable_set c) (value_set c)) t (proper_command c) h
 

@@ -1,10 +1,10 @@
 -- The instant commands of a dummy driver, and what they set: this project's own.
 use Rattle.std.specs.Prelude.{ℕ, List, [], ◌∷◌, Option, codes, find}
 use Rattle.std.specs.Str.{bytes_eq}
-use Rattle.nut_dummy.specs.declared.command.Command.{Command}
-use Rattle.nut_dummy.specs.declared.command.Command.TheVariants.{BeeperDisable, BeeperEnable, LoadOff, LoadOn, BatteryTestStart, BatteryTestStop, FailureStart, FailureStop}
+use Rattle.nut_dummy.specs.declared.command.KnownCommand.{KnownCommand}
+use Rattle.nut_dummy.specs.declared.command.KnownCommand.TheVariants.{BeeperDisable, BeeperEnable, LoadOff, LoadOn, BatteryTestStart, BatteryTestStop, FailureStart, FailureStop}
 
-abbrev pub command_name : Command → List ℕ
+abbrev pub command_name : KnownCommand → List ℕ
 command_name BeeperDisable = codes "beeper.disable"
 command_name BeeperEnable = codes "beeper.enable"
 command_name LoadOff = codes "load.off"
@@ -15,7 +15,7 @@ command_name FailureStart = codes "test.failure.start"
 command_name FailureStop = codes "test.failure.stop"
 
 -- the variable that a command sets
-abbrev pub variable_set : Command → List ℕ
+abbrev pub variable_set : KnownCommand → List ℕ
 variable_set BeeperDisable = codes "ups.beeper.status"
 variable_set BeeperEnable = codes "ups.beeper.status"
 variable_set LoadOff = codes "ups.status"
@@ -26,7 +26,7 @@ variable_set FailureStart = codes "ups.status"
 variable_set FailureStop = codes "ups.status"
 
 -- the value that a command sets
-abbrev pub value_set : Command → List ℕ
+abbrev pub value_set : KnownCommand → List ℕ
 value_set BeeperDisable = codes "disabled"
 value_set BeeperEnable = codes "enabled"
 value_set LoadOff = codes "OFF"
@@ -37,7 +37,7 @@ value_set FailureStart = codes "OB"
 value_set FailureStop = codes "OL"
 
 -- all commands, ascending by name
-abbrev pub all_commands : List Command
+abbrev pub all_commands : List KnownCommand
 all_commands =
     BeeperDisable ∷ BeeperEnable ∷ LoadOff ∷ LoadOn ∷ BatteryTestStart ∷ BatteryTestStop ∷ FailureStart ∷ FailureStop ∷ []
 
@@ -46,5 +46,5 @@ abbrev pub command_variables : List (List ℕ)
 command_variables = codes "ups.beeper.status" ∷ codes "ups.status" ∷ codes "ups.test.result" ∷ []
 
 -- the command of a name, if there is one
-unfoldable pub command_of : List ℕ → Option Command
+unfoldable pub command_of : List ℕ → Option KnownCommand
 command_of name = find (λ c. bytes_eq (command_name c) name) all_commands

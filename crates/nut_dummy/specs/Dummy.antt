@@ -117,10 +117,7 @@ abbrev pub Passes : {U : Type 0} → ℕ → Content → Content → Result U Du
 Passes t old new (Ok u) = (moment_refusal old ≡ None) × (new ≡ passed t old)
 Passes t old new (Err (faults.Memory k)) =
     (moment_refusal old ≡ None) × IsTrue (tells_more old.teller (passed t old).teller) × (k ≡ 0) × (new ≡ old)
-Passes t old new (Err faults.NotLinked) = IsRefused old new (moment_refusal old) faults.NotLinked
-Passes t old new (Err faults.Busy) = IsRefused old new (moment_refusal old) faults.Busy
-Passes t old new (Err faults.TooMuchTaken) = IsRefused old new (moment_refusal old) faults.TooMuchTaken
-Passes t old new (Err faults.PieceTooLong) = IsRefused old new (moment_refusal old) faults.PieceTooLong
+Passes t old new (Err fault) = IsRefused old new (moment_refusal old) fault
 
 -- A piece is heard or refused. If memory ran out, it was at a line that may take some; the lines before it took effect,
 -- and the link is cut.
@@ -128,10 +125,7 @@ abbrev pub Hears : {U : Type 0} → List ℕ → Content → Content → Result 
 Hears piece old new (Ok u) = (bytes_refusal piece old ≡ None) × (new ≡ told_bytes piece old)
 Hears piece old new (Err (faults.Memory k)) =
     (bytes_refusal piece old ≡ None) × MayRunOut k piece old × (new ≡ cut_behind k piece old)
-Hears piece old new (Err faults.NotLinked) = IsRefused old new (bytes_refusal piece old) faults.NotLinked
-Hears piece old new (Err faults.Busy) = IsRefused old new (bytes_refusal piece old) faults.Busy
-Hears piece old new (Err faults.TooMuchTaken) = IsRefused old new (bytes_refusal piece old) faults.TooMuchTaken
-Hears piece old new (Err faults.PieceTooLong) = IsRefused old new (bytes_refusal piece old) faults.PieceTooLong
+Hears piece old new (Err fault) = IsRefused old new (bytes_refusal piece old) fault
 
 -- The bytes taken are removed, or the call is refused.
 abbrev pub Takes : {U : Type 0} → ℕ → Content → Content → Result U DummyFault → Type 0

@@ -7,7 +7,7 @@ use Rattle.nut_proto.specs.declared.driver_ask.DriverAsk.{DriverAsk}
 use Rattle.nut_proto.specs.declared.driver_ask.DriverAsk.TheVariants as asks
 use Rattle.nut_dummy.specs.declared.dummy.DummyFault.{DummyFault}
 use Rattle.nut_dummy.specs.declared.dummy.DummyFault.TheVariants as faults
-use Rattle.nut_dummy.specs.declared.command.Command.{Command}
+use Rattle.nut_dummy.specs.declared.command.KnownCommand.{KnownCommand}
 use Rattle.nut_dummy.specs.Command.{variable_set, value_set, command_of, command_variables}
 use Rattle.nut_dummy.specs.Due.{at_start}
 use Rattle.nut_dummy.specs.Script.{Script, Timeline}
@@ -29,20 +29,15 @@ pub data Deed : Type 0 where
 abbrev pub has_asked : List Deed → Bool
 has_asked [] = false
 has_asked (Fresh ∷ past) = false
-has_asked (Changes number change ∷ past) = has_asked past
 has_asked (Dumps ∷ past) = true
-has_asked (Pongs ∷ past) = has_asked past
-has_asked (Fails number ∷ past) = has_asked past
+has_asked (deed ∷ past) = has_asked past
 
 -- The value of a variable: the newest of its steps that became due, of its SETs that were obeyed, and of the commands
 -- that set it; before any, the one due at the start.
 abbrev pub value : Timeline → List Deed → Option (List ℕ)
 value t [] = at_start t.steps
-value t (Fresh ∷ past) = value t past
 value t (Changes number change ∷ past) = value_after change t.name t.steps (value t past)
-value t (Dumps ∷ past) = value t past
-value t (Pongs ∷ past) = value t past
-value t (Fails number ∷ past) = value t past
+value t (deed ∷ past) = value t past
 
 -- whether a variable was reported on this link
 abbrev pub was_told : Timeline → List Deed → Bool
@@ -50,8 +45,7 @@ was_told t [] = false
 was_told t (Fresh ∷ past) = false
 was_told t (Changes number change ∷ past) = was_told t past || (has_asked past && is_told change t.name t.steps (value t past))
 was_told t (Dumps ∷ past) = was_told t past || is_some (value t past)
-was_told t (Pongs ∷ past) = was_told t past
-was_told t (Fails number ∷ past) = was_told t past
+was_told t (deed ∷ past) = was_told t past
 
 -- a variable as looking back shows it
 abbrev pub seen : List Deed → Timeline → Variable
@@ -70,15 +64,12 @@ owed ts Pongs past = codes "PONG\n"
 abbrev pub told : List Timeline → List Deed → List ℕ
 told ts [] = []
 told ts (Fresh ∷ past) = []
-told ts (Changes number change ∷ past) = told ts past ++ owed ts (Changes number change) past
-told ts (Fails number ∷ past) = told ts past ++ owed ts (Fails number) past
-told ts (Dumps ∷ past) = told ts past ++ owed ts Dumps past
-told ts (Pongs ∷ past) = told ts past ++ owed ts Pongs past
+told ts (deed ∷ past) = told ts past ++ owed ts deed past
 
 -- ---- what calls do
 
 -- the deeds after one that was asked
-abbrev pub by_command : Option ℕ → Option Command → List Deed → List Deed
+abbrev pub by_command : Option ℕ → Option KnownCommand → List Deed → List Deed
 by_command number None past = Fails number ∷ past
 by_command number (Some c) past = Changes number (Doing (variable_set c) (value_set c)) ∷ past
 
@@ -105,10 +96,7 @@ pub data Call : Type 0 where
 abbrev pub clock : ℕ → List Call → ℕ
 clock start [] = start
 clock start (Moment t ∷ h) = max (clock start h) t
-clock start (Linked ∷ h) = clock start h
-clock start (Bytes piece ∷ h) = clock start h
-clock start (Lost k piece ∷ h) = clock start h
-clock start (Took n ∷ h) = clock start h
+clock start (call ∷ h) = clock start h
 
 -- the bytes that came on this link, joined
 abbrev pub input : List Call → List ℕ
@@ -116,8 +104,7 @@ input [] = []
 input (Linked ∷ h) = []
 input (Lost k piece ∷ h) = []
 input (Bytes piece ∷ h) = input h ++ piece
-input (Moment t ∷ h) = input h
-input (Took n ∷ h) = input h
+input (call ∷ h) = input h
 
 -- how many bytes were taken on this link
 abbrev pub count_taken : List Call → ℕ
@@ -125,8 +112,7 @@ count_taken [] = 0
 count_taken (Linked ∷ h) = 0
 count_taken (Lost k piece ∷ h) = 0
 count_taken (Took n ∷ h) = count_taken h + n
-count_taken (Moment t ∷ h) = count_taken h
-count_taken (Bytes piece ∷ h) = count_taken h
+count_taken (call ∷ h) = count_taken h
 
 -- The deeds of a history. A piece stands for the lines that it completes.
 abbrev pub deeds : ℕ → ℕ → List Call → List Deed
@@ -174,9 +160,7 @@ abbrev pub is_linked : List Call → Bool
 is_linked [] = false
 is_linked (Linked ∷ h) = true
 is_linked (Lost k piece ∷ h) = false
-is_linked (Moment t ∷ h) = is_linked h
-is_linked (Bytes piece ∷ h) = is_linked h
-is_linked (Took n ∷ h) = is_linked h
+is_linked (call ∷ h) = is_linked h
 
 -- What a cut left of the bytes owed to the link: those that were taken.
 abbrev pub left_by_cut : List Timeline → ℕ → ℕ → List Call → List ℕ
@@ -184,9 +168,7 @@ left_by_cut ts round start [] = []
 left_by_cut ts round start (Linked ∷ h) = []
 left_by_cut ts round start (Lost k piece ∷ h) =
     take (count_taken h) (told ts (by_lines (take k (lines_after (rest (input h)) piece)) (deeds round start h)))
-left_by_cut ts round start (Moment t ∷ h) = left_by_cut ts round start h
-left_by_cut ts round start (Bytes piece ∷ h) = left_by_cut ts round start h
-left_by_cut ts round start (Took n ∷ h) = left_by_cut ts round start h
+left_by_cut ts round start (call ∷ h) = left_by_cut ts round start h
 
 -- The bytes reported on the last link: those owed to it; after a cut, those of them that were accepted.
 abbrev pub told_on_link : List Timeline → ℕ → ℕ → List Call → List ℕ
@@ -197,9 +179,7 @@ abbrev pub received : Script → ℕ → List Call → List ℕ
 received script start [] = []
 received script start (Linked ∷ h) = []
 received script start (Took n ∷ h) = received script start h ++ take n (waits_of (driver script start h))
-received script start (Moment t ∷ h) = received script start h
-received script start (Bytes piece ∷ h) = received script start h
-received script start (Lost k piece ∷ h) = received script start h
+received script start (call ∷ h) = received script start h
 
 -- ---- after a history of accepted calls
 
@@ -226,7 +206,4 @@ LooksBack = (script : Script) (start : ℕ) (h : List Call) → IsAccepted scrip
 abbrev pub BytesStand : {U : Type 0} → List ℕ → Script → ℕ → List Call → Content → Result U DummyFault → Type 0
 BytesStand piece script start h s (Ok u) = Stands script start (Bytes piece ∷ h) s
 BytesStand piece script start h s (Err (faults.Memory k)) = Stands script start (Lost k piece ∷ h) s
-BytesStand piece script start h s (Err faults.NotLinked) = Stands script start h s
-BytesStand piece script start h s (Err faults.Busy) = Stands script start h s
-BytesStand piece script start h s (Err faults.TooMuchTaken) = Stands script start h s
-BytesStand piece script start h s (Err faults.PieceTooLong) = Stands script start h s
+BytesStand piece script start h s (Err fault) = Stands script start h s

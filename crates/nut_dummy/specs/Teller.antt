@@ -11,7 +11,7 @@ use Rattle.nut_words.specs.Reader.{spelled, with_backslash}
 use Rattle.nut_proto.specs.declared.driver_ask.DriverAsk.{DriverAsk}
 use Rattle.nut_proto.specs.declared.driver_ask.DriverAsk.TheVariants as asks
 use Rattle.nut_proto.specs.DriverAsks.{ask_of}
-use Rattle.nut_dummy.specs.declared.command.Command.{Command}
+use Rattle.nut_dummy.specs.declared.command.KnownCommand.{KnownCommand}
 use Rattle.nut_dummy.specs.Command.{variable_set, value_set, command_of}
 use Rattle.nut_dummy.specs.Due.{latest}
 use Rattle.nut_dummy.specs.Script.{Step}
@@ -116,7 +116,7 @@ abbrev pub dumped_all : Teller → Teller
 dumped_all s = record { variables = map dumped s.variables; asked = true; waits = s.waits ++ dump s.variables }
 
 -- A command that the driver knows sets its variable, whatever its parameter.
-abbrev pub commanded : Option ℕ → Option Command → Teller → Teller
+abbrev pub commanded : Option ℕ → Option KnownCommand → Teller → Teller
 commanded number None s = record s { waits = s.waits ++ (if s.asked then ended number false else []) }
 commanded number (Some c) s = changed number (Doing (variable_set c) (value_set c)) s
 

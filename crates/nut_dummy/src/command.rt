@@ -7,7 +7,7 @@ use crate::text::Text;
 
 /// An instant command that the driver knows.
 #[derive(Clone, Copy, PartialEq, Eq)]
-pub enum Command {
+pub enum KnownCommand {
     BeeperDisable,
     BeeperEnable,
     LoadOff,
@@ -18,36 +18,36 @@ pub enum Command {
     FailureStop,
 }
 
-const ALL: [Command; 8] = [
-    Command::BeeperDisable,
-    Command::BeeperEnable,
-    Command::LoadOff,
-    Command::LoadOn,
-    Command::BatteryTestStart,
-    Command::BatteryTestStop,
-    Command::FailureStart,
-    Command::FailureStop,
+const ALL: [KnownCommand; 8] = [
+    KnownCommand::BeeperDisable,
+    KnownCommand::BeeperEnable,
+    KnownCommand::LoadOff,
+    KnownCommand::LoadOn,
+    KnownCommand::BatteryTestStart,
+    KnownCommand::BatteryTestStop,
+    KnownCommand::FailureStart,
+    KnownCommand::FailureStop,
 ];
 
-impl Command {
+impl KnownCommand {
     fn name(self) -> &'static [u8]
         ensures { result.now ≡ command_name self }
     {
         match self {
-            Command::BeeperDisable => b"beeper.disable",
-            Command::BeeperEnable => b"beeper.enable",
-            Command::LoadOff => b"load.off",
-            Command::LoadOn => b"load.on",
-            Command::BatteryTestStart => b"test.battery.start",
-            Command::BatteryTestStop => b"test.battery.stop",
-            Command::FailureStart => b"test.failure.start",
-            Command::FailureStop => b"test.failure.stop",
+            KnownCommand::BeeperDisable => b"beeper.disable",
+            KnownCommand::BeeperEnable => b"beeper.enable",
+            KnownCommand::LoadOff => b"load.off",
+            KnownCommand::LoadOn => b"load.on",
+            KnownCommand::BatteryTestStart => b"test.battery.start",
+            KnownCommand::BatteryTestStop => b"test.battery.stop",
+            KnownCommand::FailureStart => b"test.failure.start",
+            KnownCommand::FailureStop => b"test.failure.stop",
         }
     }
 
     /// Returns the command of this name, if there is one.
     #[tactic(auto, unfolding(crate::specs::Command::command_of))]
-    pub fn of(name: &[u8]) -> Option<Command>
+    pub fn of(name: &[u8]) -> Option<KnownCommand>
         ensures { result ≡ command_of name.now }
     {
         ALL.iter().copied().find(|c| c.name() == name)
@@ -58,10 +58,12 @@ impl Command {
         ensures { result.now ≡ variable_set self }
     {
         match self {
-            Command::BeeperDisable | Command::BeeperEnable => b"ups.beeper.status",
-            Command::LoadOff | Command::LoadOn | Command::FailureStart | Command::FailureStop =>
-                b"ups.status",
-            Command::BatteryTestStart | Command::BatteryTestStop => b"ups.test.result",
+            KnownCommand::BeeperDisable | KnownCommand::BeeperEnable => b"ups.beeper.status",
+            KnownCommand::LoadOff
+            | KnownCommand::LoadOn
+            | KnownCommand::FailureStart
+            | KnownCommand::FailureStop => b"ups.status",
+            KnownCommand::BatteryTestStart | KnownCommand::BatteryTestStop => b"ups.test.result",
         }
     }
 
@@ -70,13 +72,13 @@ impl Command {
         ensures valued { IsTrue (is_value result.now) }
     {
         match self {
-            Command::BeeperDisable => b"disabled",
-            Command::BeeperEnable => b"enabled",
-            Command::LoadOff => b"OFF",
-            Command::LoadOn | Command::FailureStop => b"OL",
-            Command::BatteryTestStart => b"In progress",
-            Command::BatteryTestStop => b"Aborted",
-            Command::FailureStart => b"OB",
+            KnownCommand::BeeperDisable => b"disabled",
+            KnownCommand::BeeperEnable => b"enabled",
+            KnownCommand::LoadOff => b"OFF",
+            KnownCommand::LoadOn | KnownCommand::FailureStop => b"OL",
+            KnownCommand::BatteryTestStart => b"In progress",
+            KnownCommand::BatteryTestStop => b"Aborted",
+            KnownCommand::FailureStart => b"OB",
         }
     }
 

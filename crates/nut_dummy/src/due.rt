@@ -3,7 +3,7 @@ ghost use Rattle.std.specs.Prelude.{◌≡◌, ◌≤◌, ◌<◌, ◌+◌, ◌*
 ghost use Rattle.nut_dummy.specs.Due.{is_due, latest};
 
 use crate::text::Text;
-use crate::timeline::Step;
+use crate::timeline::DueValue;
 
 /// Returns the last round in which a step is due later than `after` and not later than `until`, in seconds since the
 /// start.
@@ -27,7 +27,7 @@ fn last_round(at: u128, round: u128, after: u128, until: u128) -> Option<u128>
 }
 
 /// Returns the value that was due last, later than `after` and not later than `until`; a round takes `round` seconds.
-pub fn latest(steps: &[Step], round: u128, after: u128, until: u128) -> Option<&Text>
+pub fn latest(steps: &[DueValue], round: u128, after: u128, until: u128) -> Option<&Text>
     ensures { option_map (λ t. t.now) result ≡ latest round after until steps.now }
 {
     if round == 0 {

@@ -66,22 +66,6 @@ fn colon(line: &[u8]) -> Option<usize>
     line.iter().position(|byte| *byte == b':')
 }
 
-fn read_seconds(kind: ScriptKind, seconds: Option<u32>) -> Result<Item, ScriptFaultKind>
-    ensures item { Gives item_of result (timer kind seconds) }
-    ensures memory { result ≡ Err ScriptFaultKind.Memory → ⊥ }
-{
-    let Some(seconds) = seconds else {
-        return Err(ScriptFaultKind::BadTimer);
-    };
-    if seconds == 0 || seconds > TIMER_MAX {
-        return Err(ScriptFaultKind::BadTimer);
-    }
-    match kind {
-        ScriptKind::Dev => Err(ScriptFaultKind::TimerInDev),
-        ScriptKind::Seq => Ok(Item::Timer(seconds)),
-    }
-}
-
 /// Reads a line without a colon, which has to be a timer.
 fn read_timer(alloc: Global, kind: ScriptKind, line: &[u8]) -> Result<Item, ScriptFaultKind>
     ensures item { Gives item_of result (timed kind (spelled line.now)) }
@@ -102,7 +86,16 @@ fn timer_of(kind: ScriptKind, words: &Words<'_>) -> Result<Item, ScriptFaultKind
     if words.len() != 2 || words.get(0) != b"TIMER".as_slice() {
         return Err(ScriptFaultKind::BadLine);
     }
-    read_seconds(kind, natural(words.get(1)))
+    let Some(seconds) = natural(words.get(1)) else {
+        return Err(ScriptFaultKind::BadTimer);
+    };
+    if seconds == 0 || seconds > TIMER_MAX {
+        return Err(ScriptFaultKind::BadTimer);
+    }
+    match kind {
+        ScriptKind::Dev => Err(ScriptFaultKind::TimerInDev),
+        ScriptKind::Seq => Ok(Item::Timer(seconds)),
+    }
 }
 
 /// Reads a name and a value, without the blanks around them.
@@ -116,16 +109,6 @@ fn read_setting(name: &[u8], value: &[u8]) -> Result<Item, ScriptFaultKind>
     if name.len() > NAME_MAX {
         return Err(ScriptFaultKind::PastLimit);
     }
-    with_value(name, value)
-}
-
-/// Reads the value of a setting with this name.
-fn with_value(name: &[u8], value: &[u8]) -> Result<Item, ScriptFaultKind>
-    requires { IsTrue (is_name name.now) }
-    ensures item { Gives item_of result (if not (list_all is_printing value.now) then Err ScriptFaultKind.BadLine else
-        if nat_lt VALUE_MAX (length value.now) then Err ScriptFaultKind.PastLimit else Ok (said.Setting name.now value.now)) }
-    ensures memory { result ≡ Err ScriptFaultKind.Memory → ⊥ }
-{
     if !are_printing(value) {
         return Err(ScriptFaultKind::BadLine);
     }
@@ -143,15 +126,6 @@ pub fn read_item(alloc: Global, kind: ScriptKind, line: &[u8]) -> Result<Item, S
     if line.len() > SCRIPT_LINE_MAX {
         return Err(ScriptFaultKind::PastLimit);
     }
-    read_short(alloc, kind, line)
-}
-
-/// Reads a line that isn't to be skipped and isn't too long.
-fn read_short(alloc: Global, kind: ScriptKind, line: &[u8]) -> Result<Item, ScriptFaultKind>
-    requires { length line.now ≤ SCRIPT_LINE_MAX }
-    ensures item { Gives item_of result (item kind line.now) }
-    ensures memory { result ≡ Err ScriptFaultKind.Memory → IsEscaped line.now }
-{
     if !has_line_bytes(line) {
         return Err(ScriptFaultKind::BadLine);
     }

@@ -12,7 +12,7 @@ use crate::fault::{ScriptFault, ScriptFaultKind};
 use crate::item::{Item, ScriptKind, is_skipped, read_item};
 use crate::limits::{SCRIPT_VARIABLES_MAX, STEPS_MAX, TIMER_MAX};
 use crate::text::{Name, Text};
-use crate::timeline::{Step, Timeline, place_of};
+use crate::timeline::{DueValue, Timeline, place_of};
 use nut_words::cut;
 use std::alloc::{AllocError, Global};
 use std::marker::Model;
@@ -45,7 +45,7 @@ fn insert_step(
     variables: &mut Vec<Timeline>,
     place: usize,
     name: Name,
-    step: Step,
+    step: DueValue,
 ) -> Result<(), AllocError>
     requires { place ≤ length variables.old.items }
     ensures ok { OnOk result (variables.new.items ≡ insert variables.old.items place (record { name = name; steps = step ∷ [] })) }
@@ -62,7 +62,7 @@ fn add_step(
     alloc: Global,
     variables: &mut Vec<Timeline>,
     name: Name,
-    step: Step,
+    step: DueValue,
 ) -> Result<(), ScriptFaultKind>
     requires { IsAscending (map (λ t. t.name) variables.old.items) }
     ensures step { Gives (λ u. variables.new.items) result (if is_some (timeline name variables.old.items) || nat_lt (length variables.old.items) SCRIPT_VARIABLES_MAX
@@ -123,7 +123,7 @@ impl Script {
         if self.count >= STEPS_MAX {
             return Err(ScriptFaultKind::PastLimit);
         }
-        let step = Step::new(self.round, value);
+        let step = DueValue::new(self.round, value);
         add_step(self.alloc, &mut self.variables, name, step)?;
         self.count += 1;
         Ok(())
@@ -137,22 +137,6 @@ impl Script {
         self.round += u128::from(seconds);
     }
 
-    /// Adds what a line says, which isn't to be skipped.
-    fn take_in(&mut self, kind: ScriptKind, line: &[u8]) -> Result<(), ScriptFaultKind>
-        requires { self.old.round < 2 ^ 120 }
-        ensures line { Gives (λ u. self.new) result (taken_in self.old (item kind line.now)) }
-        ensures round { OnOk result (self.new.round ≤ self.old.round + TIMER_MAX) }
-        ensures memory { result ≡ Err ScriptFaultKind.Memory → IsEscaped line.now ⊎ IsTrue (grows self.old (item kind line.now)) }
-    {
-        match read_item(self.alloc, kind, line)? {
-            Item::Timer(seconds) => {
-                self.add_timer(seconds);
-                Ok(())
-            }
-            Item::Setting(name, value) => self.add_setting(name, value),
-        }
-    }
-
     /// Adds one more line.
     fn add_line(&mut self, kind: ScriptKind, line: &[u8]) -> Result<(), ScriptFaultKind>
         requires { self.old.round < 2 ^ 120 }
@@ -163,7 +147,13 @@ impl Script {
         if is_skipped(line) {
             return Ok(());
         }
-        self.take_in(kind, line)
+        match read_item(self.alloc, kind, line)? {
+            Item::Timer(seconds) => {
+                self.add_timer(seconds);
+                Ok(())
+            }
+            Item::Setting(name, value) => self.add_setting(name, value),
+        }
     }
 
     /// Adds the lines of a text, up to the first faulty one.
@@ -202,19 +192,6 @@ impl Script {
         Ok(())
     }
 
-    /// Adds the lines of a whole text, and refuses it if it is repeated but has no timer.
-    fn add_all(&mut self, kind: ScriptKind, bytes: &[u8]) -> Result<(), ScriptFault>
-        requires { self.old ≡ no_script }
-        ensures script { OnOk result (read_script kind bytes.now ≡ Ok self.new) }
-        ensures fault { IfErr result (λ fault. IsFaultOf fault.line fault.kind (read_script kind bytes.now)) }
-        ensures memory { IfErr result (λ fault. fault.kind ≡ ScriptFaultKind.Memory → MayRunOut kind bytes.now fault.line) }
-    {
-        match self.add_lines(kind, bytes) {
-            Ok(()) => self.check_round(kind),
-            Err(fault) => Err(fault),
-        }
-    }
-
     /// Reads a script (NUT manual page dummy-ups(8)).
     ///
     /// A blank line is skipped, and so is a line whose first byte after blanks is `#`. A skipped line may hold any
@@ -242,13 +219,8 @@ impl Script {
         ensures memory { IfErr result (λ fault. fault.kind ≡ ScriptFaultKind.Memory → MayRunOut kind bytes.now fault.line) }
     {
         let mut script = Script::new(alloc);
-        match script.add_all(kind, bytes) {
-            Ok(()) => Ok(script),
-            Err(fault) => {
-                // dropped by a call, which keeps the proof of this function short
-                drop(script);
-                Err(fault)
-            }
-        }
+        script.add_lines(kind, bytes)?;
+        script.check_round(kind)?;
+        Ok(script)
     }
 }

@@ -5,7 +5,7 @@ ghost use Rattle.nut_dummy.specs.Command.{command_of};
 ghost use Rattle.nut_dummy.specs.Teller.{changed, commanded, dumped_all, answered, ended, heard, is_done, may_take_memory, relinked, says, tells_more};
 ghost use Rattle.nut_dummy.specs.inside.Changes.{change_of};
 
-use crate::command::Command;
+use crate::command::KnownCommand;
 use crate::telling::{dump, ended, follow_all, forget_link, is_done, mark_all_dumped, say_all};
 use crate::variable::{Change, Variable};
 use nut_proto::DriverAsk;
@@ -173,7 +173,7 @@ impl Teller {
         ensures ok { OnOk result (self.new ≡ commanded number (command_of name.now) self.old) }
         ensures err { OnErr result ((self.new ≡ self.old) × IsTrue (tells_more self.old (commanded number (command_of name.now) self.old))) }
     {
-        match Command::of(name) {
+        match KnownCommand::of(name) {
             Some(command) => self.change(
                 &Change::Doing {
                     name: command.variable(),

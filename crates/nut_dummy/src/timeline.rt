@@ -8,12 +8,12 @@ use std::marker::Model;
 
 /// A value, and how many seconds after the beginning of a round it is due.
 #[derive(Drop)]
-pub struct Step {
+pub struct DueValue {
     pub at: u128,
     pub value: Text,
 }
 
-impl Model for Step {
+impl Model for DueValue {
     ghost use Rattle.nut_dummy.specs.Script.{Step as StepValue};
 
     ghost Value = { StepValue };
@@ -25,7 +25,7 @@ impl Model for Step {
 #[derive(Drop)]
 pub struct Timeline {
     pub name: Name,
-    pub steps: Vec<Step>,
+    pub steps: Vec<DueValue>,
 }
 
 impl Model for Timeline {
@@ -36,12 +36,12 @@ impl Model for Timeline {
     ghost view = { λ t. record { name = t.name; steps = t.steps.items } };
 }
 
-impl Step {
+impl DueValue {
     /// Makes a value that is due `at` seconds after the beginning of a round.
-    pub fn new(at: u128, value: Text) -> Step
+    pub fn new(at: u128, value: Text) -> DueValue
         ensures { result ≡ record { at = at; value = value } }
     {
-        Step { at, value }
+        DueValue { at, value }
     }
 }
 
@@ -64,7 +64,7 @@ impl Timeline {
     }
 
     /// Appends a value.
-    pub fn add(&mut self, step: Step) -> Result<(), AllocError>
+    pub fn add(&mut self, step: DueValue) -> Result<(), AllocError>
         ensures ok { OnOk result (self.new ≡ record self.old { steps = self.old.steps ++ step ∷ [] }) }
         ensures err { OnErr result (self.new ≡ self.old) }
     {

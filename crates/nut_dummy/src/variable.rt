@@ -9,7 +9,7 @@ ghost use Rattle.nut_dummy.specs.Dummy.{begun};
 
 use crate::due::latest;
 use crate::text::{Name, Text};
-use crate::timeline::{Step, Timeline};
+use crate::timeline::{DueValue, Timeline};
 use crate::writable::{Writable, may_be};
 use nut_words::{append_quoted, append_word};
 use std::alloc::AllocError;
@@ -41,7 +41,7 @@ pub enum Change<'a> {
 #[derive(Drop)]
 pub struct Variable {
     name: Name,
-    steps: Vec<Step>,
+    steps: Vec<DueValue>,
     value: Option<Text>,
     told: bool,
 }
@@ -104,7 +104,7 @@ fn put_variable(
 }
 
 /// Returns the value that is due at the start.
-fn at_start(steps: &[Step]) -> Option<Text>
+fn at_start(steps: &[DueValue]) -> Option<Text>
     ensures { result ≡ at_start steps.now }
 {
     let mut found = None;

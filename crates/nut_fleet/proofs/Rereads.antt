@@ -12,7 +12,7 @@ use Rattle.nut_words.specs.Lines.{LineText}
 use Rattle.nut_server_spec.specs.Configuration.{Configuration, Ups, number_of_ups}
 use Rattle.nut_server_spec.specs.Event.{Step, Said, Reported, Reloaded, steps, with_lines, with_reports, brought, input, driver_input}
 use Rattle.nut_server_spec.specs.Event as arrivals
-use Rattle.nut_server_spec.specs.Numbering.{Kept, Numbering, below, fate_between, first_numbers, number_of, renumbered, ups_with, with_numbers}
+use Rattle.nut_server_spec.specs.Numbering.{Kept, Numbering, below, fate_between, number_of, renumbered, ups_with, with_numbers}
 use Rattle.nut_server_spec.specs.Trace.{Entry, trace, configuration, fate_at, numbers, numbering, places}
 use Rattle.nut_server_spec.proofs.Places.{IsCount, below-length, below_counts, get_below}
 use Rattle.nut_fleet.specs.Schedule as schedules
@@ -39,7 +39,7 @@ pub record AreFirst (first now : Configuration) (given : List ℕ) (count : ℕ)
   pub as_many : length now.upses ≡ length first.upses
   pub named : (name : List ℕ) → number_of_ups name now.upses ≡ number_of_ups name first.upses
   pub alike : (u : ℕ) → shape (slice_get now.upses u) ≡ shape (slice_get first.upses u)
-  pub numbered : given ≡ first_numbers first.upses
+  pub numbered : given ≡ below (length first.upses)
   pub counted : count ≡ length first.upses
 
 -- After this past that is so.
@@ -65,7 +65,7 @@ described-alike (suc u) (x ∷ upses) (y ∷ new) = described-alike u upses new
 described-alike zero (x ∷ upses) (y ∷ new) = refl
 described-alike u _ _ = refl
 
-kept-first : (first new : Configuration) (given : List ℕ) (count : ℕ) → given ≡ first_numbers first.upses → count ≡ length first.upses → AreFirst first (kept_from first new) given count
+kept-first : (first new : Configuration) (given : List ℕ) (count : ℕ) → given ≡ below (length first.upses) → count ≡ length first.upses → AreFirst first (kept_from first new) given count
 kept-first first new given count numbered counted = grind (arith, described-length, described-number, described-alike)
 
 pub as-made : (first : Configuration) (s : List Step) → KeepsRoom first s → IsAsMade first (trace first s)
@@ -86,7 +86,7 @@ number-within name upses u is = (position-Some (λ (x : Ups). bytes_eq x.name na
 
 -- the UPSes and their numbers when a server is made
 abbrev pub first_numbering : Configuration → Numbering
-first_numbering first = record { upses = first.upses; numbers = first_numbers first.upses }
+first_numbering first = record { upses = first.upses; numbers = below (length first.upses) }
 
 -- the number of a UPS is its place in the file
 number-first : (first : Configuration) (name : List ℕ) → number_of name (first_numbering first) ≡ number_of_ups name first.upses
@@ -118,7 +118,7 @@ position-below n u less =
     ∙ rw (lt-ltb u (length (below n)) (omega (arith, less, long))) refl
 
 -- the UPS with a number is at that place
-with-number : (first : Configuration) (upses : List Ups) (ns : List ℕ) (u : ℕ) → ns ≡ first_numbers first.upses → u < length first.upses → ups_with u (with_numbers upses ns) ≡ slice_get upses u
+with-number : (first : Configuration) (upses : List Ups) (ns : List ℕ) (u : ℕ) → ns ≡ below (length first.upses) → u < length first.upses → ups_with u (with_numbers upses ns) ≡ slice_get upses u
 with-number first upses ns u is less =
     ap (λ x. option_and_then (slice_get upses) (position (λ m. eqb m u) x)) is ∙ ap (option_and_then (slice_get upses)) (position-below (length first.upses) u less)
 

@@ -7,14 +7,14 @@ use Rattle.nut_words.specs.declared.limits.TheConstants.{LINE_MAX}
 use Rattle.nut_proto.specs.declared.request.Request.{Request}
 use Rattle.nut_proto.specs.Lines.{message}
 use Rattle.nut_proto.specs.Requests.{request_parts, request_line}
-use Rattle.nut_link.specs.declared.expected.Expected.{Expected}
+use Rattle.nut_link.specs.declared.expected.ExpectedAnswer.{ExpectedAnswer}
 use Rattle.nut_link.specs.Matching.{expected}
 use Rattle.nut_proto.specs.declared.limits.TheConstants.{ROWS_MAX}
 
 -- What a query expects, the bytes of its line that the server hasn't taken yet, and the rows of its list so far once
 -- the list has begun.
 pub record Asked : Type 0 where
-  pub expected : Expected
+  pub expected : ExpectedAnswer
   pub waits : List ℕ
   pub rows : Option (List (List (List ℕ)))
 

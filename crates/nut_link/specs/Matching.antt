@@ -14,7 +14,7 @@ use Rattle.nut_proto.specs.Lines.{message_words}
 use Rattle.nut_proto.specs.Positions.{word_at}
 use Rattle.nut_proto.specs.Requests.{query_parts, request_parts}
 use Rattle.nut_proto.specs.Tracking.{tracking_number}
-use Rattle.nut_link.specs.declared.expected.Expected.{Expected}
+use Rattle.nut_link.specs.declared.expected.ExpectedAnswer.{ExpectedAnswer}
 use Rattle.nut_link.specs.declared.expected.AnswerKind.{AnswerKind}
 use Rattle.nut_link.specs.declared.expected.AnswerKind.TheVariants as kinds
 use Rattle.nut_link.specs.declared.expected.More.{More}
@@ -47,16 +47,16 @@ columns (queries.Client ups) = 1
 
 -- what a LIST expects: the words behind LIST in its first and last line, and rows that begin with them and have this
 -- many further words
-abbrev pub listing : ListQuery → Expected
+abbrev pub listing : ListQuery → ExpectedAnswer
 listing query = record { kind = kinds.Listing (columns query); heading = message_words (query_parts query) }
 
 -- an answer that repeats no words
-abbrev pub unheaded : AnswerKind → Expected
+abbrev pub unheaded : AnswerKind → ExpectedAnswer
 unheaded kind = record { kind = kind; heading = [] }
 
 -- What a request expects. The commands that are answered `OK`: that, for SET VAR and INSTCMD perhaps with the number under
 -- which they are tracked. VER, NETVER and HELP: any line. STARTTLS: only a refusal. Each GET: the words behind it and more.
-abbrev pub expected : Request → Expected
+abbrev pub expected : Request → ExpectedAnswer
 expected (requests.List query) = listing query
 expected (requests.SetVar ups variable value) = unheaded kinds.NumberedSuccess
 expected (requests.SetTracking on) = unheaded kinds.Success
@@ -130,7 +130,7 @@ next kind heading rows answer = Err NotMine
 
 -- What a line does to a query that expects this. `rows` are those of its list so far, once that has begun. A line that
 -- doesn't match is `NotMine`.
-abbrev pub progress : Expected → Option (List (List (List ℕ))) → Answer → Result Progress LinkFault
+abbrev pub progress : ExpectedAnswer → Option (List (List (List ℕ))) → Answer → Result Progress LinkFault
 progress e None answer = first e.kind e.heading answer
 progress e (Some rows) answer = next e.kind e.heading rows answer
 

@@ -48,7 +48,7 @@ pub enum AnswerKind {
 
 /// The answer that a query expects: its kind, and the words that it repeats.
 #[derive(Drop)]
-pub struct Expected {
+pub struct ExpectedAnswer {
     pub kind: AnswerKind,
     pub heading: Heading,
 }
@@ -83,10 +83,10 @@ fn is_numbered(words: &Rest<'_>) -> bool
         && tracking_number(words.get(1)).is_some()
 }
 
-impl Expected {
+impl ExpectedAnswer {
     /// Returns what nothing is expected by yet.
-    pub(crate) fn empty() -> Expected {
-        Expected {
+    pub(crate) fn empty() -> ExpectedAnswer {
+        ExpectedAnswer {
             kind: AnswerKind::Refusal,
             heading: Heading::empty(),
         }

@@ -18,7 +18,7 @@ mod query;
 
 pub use copied::{Fields, Rows, Text};
 pub use exchange::{Exchange, QueryState};
-pub use expected::{AnswerKind, Expected, More};
+pub use expected::{AnswerKind, ExpectedAnswer, More};
 pub use fault::LinkFault;
 pub use heading::{Heading, HeadingWord};
 pub use laws::{bounds_stay, cuts_do_not_matter, ok_takes_no_memory, replies_match, rests_stay};

@@ -8,7 +8,7 @@ ghost use Rattle.nut_link.specs.Matching.{first, next};
 ghost use Rattle.nut_link.specs.declared.fault.LinkFault.TheVariants.{BadLine, Memory};
 
 use crate::copied::{Fields, Rows, Text};
-use crate::expected::{AnswerKind, Expected};
+use crate::expected::{AnswerKind, ExpectedAnswer};
 use crate::fault::LinkFault;
 use crate::limits::QUERY_MAX;
 use crate::outcome::Outcome;
@@ -23,7 +23,7 @@ use std::mem;
 /// begun, also its rows so far.
 #[derive(Drop)]
 pub struct AskedQuery {
-    expected: Expected,
+    expected: ExpectedAnswer,
     line: ArrayVec<u8, QUERY_MAX>,
     taken: usize,
     rows: Option<Rows>,
@@ -57,7 +57,7 @@ impl AskedQuery {
     /// Returns a place for queries.
     pub(crate) fn empty() -> AskedQuery {
         AskedQuery {
-            expected: Expected::empty(),
+            expected: ExpectedAnswer::empty(),
             line: ArrayVec::new(),
             taken: 0,
             rows: None,
@@ -126,7 +126,7 @@ impl AskedQuery {
 /// Takes in the first line. Returns the outcome of the query, or `None` if a list begins.
 fn hear_first(
     alloc: Global,
-    expected: &Expected,
+    expected: &ExpectedAnswer,
     answer: &Answer<'_>,
 ) -> Result<Option<Outcome>, LinkFault>
     ensures { Gives (first expected.now.kind expected.now.heading answer.now) answer.now result [] }
@@ -146,7 +146,7 @@ fn hear_first(
 /// Takes in a line behind the beginning of a list that has these rows so far.
 fn hear_next(
     alloc: Global,
-    expected: &Expected,
+    expected: &ExpectedAnswer,
     rows: &mut Rows,
     answer: &Answer<'_>,
 ) -> Result<Option<Outcome>, LinkFault>

@@ -1,5 +1,5 @@
 -- The history and the content after an event, and after the oldest notice was asked for.
-use Rattle.std.proofs.Common.{◌≡◌, ◌<◌, ℕ, Bool, refl, sym, ap, subst, ◌∙◌, List, [], ◌∷◌, length, drop, slice_get, Option, Some, None, Result, Ok, arith}
+use Rattle.std.proofs.Common.{◌≡◌, ◌<◌, ℕ, Bool, inr, refl, sym, ap, subst, ◌∙◌, List, [], ◌∷◌, length, drop, slice_get, Option, Some, None, Result, Ok, arith}
 use Rattle.std.proofs.lemmas.Bool.{lt-ltb}
 use Rattle.nut_monitor_spec.specs.Acceptance.{Tells, answer_on, is_linked, waiting_on, watch_at}
 use Rattle.nut_monitor_spec.specs.Configuration.{Configuration}
@@ -43,7 +43,7 @@ stands_taken s old left taken same first rest configuration events told =
 pub linked_told : (s : Content) (i : ℕ) (there : Bool) → there ≡ is_linked (watch_at i s.watches)
     → (configuration : Configuration) (events : List Event) → Tells configuration events s → there ≡ linked i (trace configuration events)
 linked_told s i there is configuration events told =
-    is ∙ ap (λ (x : Content). is_linked (watch_at i x.watches)) told.1 ∙ links-told.there configuration events i told.0
+    is ∙ ap (λ (x : Content). is_linked (watch_at i x.watches)) told.1 ∙ links-told.there configuration events i (inr told.0)
 
 pub waiting_told : (s : Content) (i : ℕ) (bytes : List ℕ) → bytes ≡ waiting_on (watch_at i s.watches)
     → (configuration : Configuration) (events : List Event) → Tells configuration events s → bytes ≡ waits configuration i (trace configuration events)

@@ -14,7 +14,7 @@ use Rattle.nut_link.specs.Link.{LinkValue, answer_by, heard, left_of, lines_hear
 use Rattle.nut_link.specs.Matching.{Progress, Listing, Complete, begins, first, has_more, is_heading, is_line, is_numbered, is_row, next, progress}
 use Rattle.nut_link.specs.Exchange.{Exchange, Stage}
 use Rattle.nut_link.specs.Exchange as stages
-use Rattle.nut_link.specs.declared.expected.Expected.{Expected}
+use Rattle.nut_link.specs.declared.expected.ExpectedAnswer.{ExpectedAnswer}
 use Rattle.nut_link.specs.declared.expected.AnswerKind.{AnswerKind}
 use Rattle.nut_link.specs.declared.expected.AnswerKind.TheVariants as kinds
 use Rattle.nut_link.specs.declared.expected.More.TheVariants as mores
@@ -176,7 +176,7 @@ nm_next (kinds.Listing count) heading rows (answers.Row words) = nm_row heading 
 nm_next (kinds.Listing count) heading rows (answers.End words) = nm_if (is_heading heading words) (Ok (Complete (outcomes.List rows))) tt
 nm_next kind heading rows answer = tt
 
-nm_progress : (e : Expected) (rows : Option (List (List (List ℕ)))) (a : Answer) → Fed (progress e rows a)
+nm_progress : (e : ExpectedAnswer) (rows : Option (List (List (List ℕ)))) (a : Answer) → Fed (progress e rows a)
 nm_progress e None a = nm_first e.kind e.heading a
 nm_progress e (Some rows) a = nm_next e.kind e.heading rows a
 

@@ -161,31 +161,6 @@ pub fn with_loss(known: Known) -> Known
     }
 }
 
-/// Takes in the words of a status and queues the notices that they give. Returns what is known after it.
-fn hear_status(
-    config: &MonConfig,
-    scene: AnswerScene,
-    known: Known,
-    fields: &Fields,
-    notices: &mut Notices,
-) -> Known
-    requires room { length notices.old + ANSWER_NOTICES_MAX < NOTICES_MAX }
-    ensures few { length notices.new ≤ length notices.old + ANSWER_NOTICES_MAX }
-    ensures known { result
-        ≡ known_answered (configuration_of config.now) scene.clock scene.watching queries.Status (outcomes.Said fields.now) known }
-    ensures told { notices.new ≡ notices.old ++ (if scene.watching
-        then answer_notices (configuration_of config.now) scene.clock scene.line known queries.Status (outcomes.Said fields.now) else []) }
-{
-    let Some(value) = fields.as_slice().first() else {
-        return known;
-    };
-    let flags = read_flags(value.as_bytes());
-    if scene.watching {
-        tell_status(config, scene, known, flags, notices);
-    }
-    with_status(config, scene, known, flags)
-}
-
 /// Returns the number of logins that an answer gives, or `before` if it gives none.
 fn count_said(fields: &Fields, before: Option<u32>) -> Option<u32>
     requires { IsCount queries.NumLogins (outcomes.Said fields.now) }
@@ -201,7 +176,7 @@ fn count_said(fields: &Fields, before: Option<u32>) -> Option<u32>
 }
 
 /// Takes in the outcome of a query for the status and queues the notices that it gives. Returns what is known after it.
-fn hear_status_outcome(
+fn hear_status(
     config: &MonConfig,
     scene: AnswerScene,
     known: Known,
@@ -215,7 +190,16 @@ fn hear_status_outcome(
         then answer_notices (configuration_of config.now) scene.clock scene.line known queries.Status outcome.now else []) }
 {
     match outcome {
-        Outcome::Said(fields) => hear_status(config, scene, known, fields, notices),
+        Outcome::Said(fields) => {
+            let Some(value) = fields.as_slice().first() else {
+                return known;
+            };
+            let flags = read_flags(value.as_bytes());
+            if scene.watching {
+                tell_status(config, scene, known, flags, notices);
+            }
+            with_status(config, scene, known, flags)
+        }
         Outcome::Refused(_) => {
             tell_loss(scene, known, notices);
             with_loss(known)
@@ -259,7 +243,7 @@ pub fn hear(
         then answer_notices (configuration_of config.now) scene.clock scene.line known query outcome.now else []) }
 {
     match query {
-        Query::Status => hear_status_outcome(config, scene, known, outcome, notices),
+        Query::Status => hear_status(config, scene, known, outcome, notices),
         Query::Fsd => Known {
             forced: is_done(outcome) || known.forced,
             ..known

@@ -1,5 +1,5 @@
 -- Laws of answers, of links and what waits on them, and of the shutdown.
-use Rattle.std.proofs.Common.{◌≡◌, ℕ, Bool, List, [], ◌∷◌, length, drop, refl, ◌∙◌, ap, arith, Option, Some, None, if◌then◌else◌}
+use Rattle.std.proofs.Common.{◌≡◌, ℕ, Bool, List, [], ◌∷◌, length, drop, refl, ◌∙◌, ap, arith, Option, Some, None, if◌then◌else◌, ◌<◌}
 use Rattle.std.specs.Prelude.{Ok, Err}
 use Rattle.std.proofs.lemmas.List.{take-append-drop}
 use Rattle.std.proofs.Math.ListN.{drop_of_length-le}
@@ -8,12 +8,12 @@ use Rattle.nut_monitor_spec.specs.declared.MonitorFault.TheVariants.{Memory}
 use Rattle.nut_monitor_spec.specs.Configuration.{Configuration, line_in}
 use Rattle.nut_monitor_spec.specs.Event.{Event, LinkBytes, OutOfMemory}
 use Rattle.nut_monitor_spec.specs.Trace.{Asked, Entry, earliest, moment_of, linked, input, taken, outstanding, due, waits, trace}
-use Rattle.nut_monitor_spec.specs.Content.{Content, stage_in, watch}
-use Rattle.nut_monitor_spec.specs.Acceptance.{Accepts, Tells, answer_on, waiting_on, waits_on}
+use Rattle.nut_monitor_spec.specs.Content.{Content, stage_in, watch, content}
+use Rattle.nut_monitor_spec.specs.Acceptance.{Accepts, Tells, answer_on, waiting_on, waits_on, IsAccepted, is_linked, watch_at}
 use Rattle.nut_monitor_spec.specs.machine.Machine.{advance}
 use Rattle.nut_monitor_spec.specs.Outcome.{IsRefusal, after}
 use Rattle.nut_monitor_spec.specs.machine.MachineOutcome.{AnswersKeepContent, content_after}
-use Rattle.nut_monitor_spec.specs.laws.Laws.{AnswersAreTold, LinkedIsMade, WaitingIsLeft, SentAndWaitingIsDue, ShutdownStays}
+use Rattle.nut_monitor_spec.specs.laws.Laws.{AnswersAreTold, SentAndWaitingIsDue, ShutdownStays}
 use Rattle.nut_monitor_spec.proofs.Lists.{get_at, earliest-moment, number-none, number-head}
 use Rattle.nut_monitor_spec.proofs.Settled.{IsTidy}
 use Rattle.nut_monitor_spec.proofs.Kept.{all-hold, keeps-content}
@@ -36,7 +36,8 @@ answers-keep configuration events s event (Err _) told is = told
 
 -- ---- links
 
-pub linked-made : LinkedIsMade
+pub linked-made : (configuration : Configuration) (events : List Event) (i : ℕ) → i < length configuration.lines
+    → is_linked (watch_at i (content configuration events).watches) ≡ linked i (trace configuration events)
 linked-made configuration events i less = grind (arith, get_at)
 
 pub answers-told : AnswersAreTold
@@ -58,7 +59,8 @@ module _ (configuration : Configuration) (past : List Entry) (i : ℕ) where
   waits-if : (b : Bool) → linked i past ≡ b → (IsTidy configuration i past) → waiting_by b (outstanding i past) ≡ (if b then drop (taken i past) (due configuration i past) else [])
   waits-if b is tidy = grind (arith, number-none, nothing-left, number-head)
 
-pub waiting-left : WaitingIsLeft
+pub waiting-left : (configuration : Configuration) (events : List Event) (i : ℕ) → IsAccepted configuration events → i < length configuration.lines
+    → waiting_on (watch_at i (content configuration events).watches) ≡ waits configuration i (trace configuration events)
 waiting-left configuration events i accepted less =
     let past = trace configuration events in
     ap waiting_on (get_at i (watch configuration past) configuration.lines less)

@@ -4,9 +4,9 @@ use Rattle.std.proofs.lemmas.Bool.{cases_Bool, eqb-true, ltb-true, ltb-false}
 use Rattle.nut_monitor_spec.specs.declared.MonitorFault.TheVariants.{NoSuchLink}
 use Rattle.nut_monitor_spec.specs.Configuration.{Configuration}
 use Rattle.nut_monitor_spec.specs.Event.{Event, Linked}
-use Rattle.nut_monitor_spec.specs.Trace.{Entry, since_linked, linked, entry_of, trace}
+use Rattle.nut_monitor_spec.specs.Trace.{Entry, since_linked, linked, entry_of, trace, waits}
 use Rattle.nut_monitor_spec.specs.Content.{content}
-use Rattle.nut_monitor_spec.specs.Acceptance.{IsAccepted, linked_refusal, watch_at}
+use Rattle.nut_monitor_spec.specs.Acceptance.{IsAccepted, linked_refusal, watch_at, is_linked, waiting_on}
 use Rattle.nut_monitor_spec.specs.laws.Laws.{LinksAreTold}
 use Rattle.nut_monitor_spec.proofs.Lists.{found_within}
 use Rattle.nut_monitor_spec.proofs.Settled.{entry_is}
@@ -35,5 +35,19 @@ never-linked configuration (Linked j ∷ events) i accepted past_end =
     ])
 never-linked configuration (event ∷ events) i accepted past_end = linked-after configuration (trace configuration events) event i (never-linked configuration events i accepted.0 past_end)
 
+linked-told : (configuration : Configuration) (events : List Event) (i : ℕ) → IsAccepted configuration events
+    → is_linked (watch_at i (content configuration events).watches) ≡ linked i (trace configuration events)
+linked-told = grind (arith, cases_Bool, linked-made, ltb-true, ltb-false, none-there, never-linked)
+
+left-told : (configuration : Configuration) (events : List Event) (i : ℕ) → IsAccepted configuration events
+    → waiting_on (watch_at i (content configuration events).watches) ≡ waits configuration i (trace configuration events)
+left-told = grind (arith, cases_Bool, ltb-true, ltb-false, none-there, never-linked, waiting-left)
+
 pub links-told : LinksAreTold
-links-told = grind (arith, cases_Bool, linked-made, ltb-true, ltb-false, none-there, never-linked, waiting-left)
+links-told = record {
+  there = λ configuration events i known. elim known [
+    | inl within ↦ linked-made configuration events i within
+    | inr accepted ↦ linked-told configuration events i accepted
+  ];
+  left = left-told;
+}

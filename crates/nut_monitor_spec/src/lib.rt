@@ -4,7 +4,7 @@
 
 ghost use Rattle.nut_monitor_spec.specs.machine.Machine.{KeepsContent};
 ghost use Rattle.nut_monitor_spec.specs.machine.MachineOutcome.{AnswersKeepContent};
-ghost use Rattle.nut_monitor_spec.specs.laws.Laws.{AnswersAreTold, AnswersComeInTurn, CutsDoNotMatter, LinkedIsMade, LinksAreBounded, LinksAreTold, LoginsFollowFsd, NoticesAreFew, NoticesComeInOrder, OthersStay, QueriesComeAlone, SentAndWaitingIsDue, ShutdownStays, WaitingIsLeft};
+ghost use Rattle.nut_monitor_spec.specs.laws.Laws.{AnswersAreTold, AnswersComeInTurn, CutsDoNotMatter, LinksAreBounded, LinksAreTold, LoginsFollowFsd, NoticesAreFew, NoticesComeInOrder, OthersStay, QueriesComeAlone, SentAndWaitingIsDue, ShutdownStays};
 ghost use Rattle.nut_monitor_spec.specs.examples.Examples.{CommunicationExamples, EdgeExamples, OrderExamples, PrimaryExamples, RefusalExamples, RoomExamples, SecondaryExamples};
 
 mod limits;
@@ -159,19 +159,10 @@ pub fn answers_keep_content()
     ensures { AnswersKeepContent }
 {}
 
-/// States a law and does nothing when called: a link is up in the content exactly if it was made and not lost since.
-pub fn linked_is_made()
-    ensures { LinkedIsMade }
-{}
-
-/// States a law and does nothing when called: what waits on a link is left of its queries. It is what the server
-/// hasn't accepted yet of the queries put on it since it was made, joined. On a link that isn't up it is empty.
-pub fn waiting_is_left()
-    ensures { WaitingIsLeft }
-{}
-
-/// States a law and does nothing when called: `linked_is_made` and `waiting_is_left` hold for every number, also for one
-/// that no MONITOR line has, after every history of accepted events.
+/// States a law and does nothing when called: a link is up in the content exactly if it was made and not lost since. What
+/// waits on it is left of its queries. It is what the server hasn't accepted yet of the queries put on it since it was
+/// made, joined; on a link that isn't up it is empty. After every history of accepted events this holds for every number,
+/// also for one that no MONITOR line has.
 pub fn links_are_told()
     ensures { LinksAreTold }
 {}

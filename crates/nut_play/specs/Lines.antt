@@ -37,34 +37,22 @@ verb_of word = find (λ verb. bytes_eq word (verb_name verb)) all_verbs
 
 -- The numbers behind a verb, if there are exactly this many words and each has 1 to 9 digits.
 abbrev pub one_number : List (List ℕ) → Option ℕ
-one_number [] = None
-one_number (verb ∷ []) = None
 one_number (verb ∷ a ∷ []) = natural a
-one_number (verb ∷ a ∷ b ∷ more) = None
+one_number words = None
 
 abbrev pub two_numbers : List (List ℕ) → Option (ℕ × ℕ)
-two_numbers [] = None
-two_numbers (verb ∷ []) = None
-two_numbers (verb ∷ a ∷ []) = None
 two_numbers (verb ∷ a ∷ b ∷ []) = option_and_then (λ x. option_map (λ y. (x, y)) (natural b)) (natural a)
-two_numbers (verb ∷ a ∷ b ∷ c ∷ more) = None
+two_numbers words = None
 
 abbrev pub three_numbers : List (List ℕ) → Option (ℕ × ℕ × ℕ)
-three_numbers [] = None
-three_numbers (verb ∷ []) = None
-three_numbers (verb ∷ a ∷ []) = None
-three_numbers (verb ∷ a ∷ b ∷ []) = None
 three_numbers (verb ∷ a ∷ b ∷ c ∷ []) =
     option_and_then (λ x. option_and_then (λ y. option_map (λ z. (x, y, z)) (natural c)) (natural b)) (natural a)
-three_numbers (verb ∷ a ∷ b ∷ c ∷ d ∷ more) = None
+three_numbers words = None
 
 -- a number and a word behind a verb
 abbrev pub numbered_word : List (List ℕ) → Option (ℕ × List ℕ)
-numbered_word [] = None
-numbered_word (verb ∷ []) = None
-numbered_word (verb ∷ a ∷ []) = None
 numbered_word (verb ∷ a ∷ word ∷ []) = option_map (λ x. (x, word)) (natural a)
-numbered_word (verb ∷ a ∷ word ∷ c ∷ more) = None
+numbered_word words = None
 
 abbrev pub one : (ℕ → Step) → List (List ℕ) → Option Step
 one step words = option_map step (one_number words)

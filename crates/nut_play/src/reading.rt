@@ -1,6 +1,7 @@
 //! The steps that the lines of a schedule spell.
 
 ghost use Rattle.std.specs.Prelude.{◌≡◌, Err, IsTrue};
+ghost use Rattle.std.specs.Option.{ok_or, option_map};
 ghost use Rattle.nut_words.specs.Number.{natural};
 ghost use Rattle.nut_play.specs.declared.reading.StepFault.{StepFault};
 ghost use Rattle.nut_play.specs.Lines.{Gives, form, is_of_driver, meant, one, one_number, said, said_by_driver, takes_memory, three, three_numbers, two, two_numbers};
@@ -146,52 +147,50 @@ fn form(alloc: Global, verb: Verb, words: &Words<'_>) -> Result<Step, StepFault>
     ensures memory { result ≡ Err StepFault.Memory → IsTrue (is_of_driver (form verb words.now)) }
 {
     match verb {
-        Verb::Server => with_one(OneNumber::Server, words),
-        Verb::Monitor => with_two(TwoNumbers::Monitor, words),
-        Verb::Up => with_one(OneNumber::Up, words),
         Verb::Driver => said_by_driver(alloc, words),
-        Verb::Down => with_one(OneNumber::Down, words),
-        Verb::Link => with_two(TwoNumbers::Link, words),
-        Verb::Out => with_three(ThreeNumbers::Out, words),
-        Verb::Reach => with_three(ThreeNumbers::Reach, words),
-        Verb::Back => with_three(ThreeNumbers::Back, words),
-        Verb::Land => with_three(ThreeNumbers::Land, words),
-        Verb::CutServer => with_two(TwoNumbers::CutServer, words),
-        Verb::CutMonitor => with_two(TwoNumbers::CutMonitor, words),
+        Verb::Server => told(with_one(OneNumber::Server, words)),
+        Verb::Monitor => told(with_two(TwoNumbers::Monitor, words)),
+        Verb::Up => told(with_one(OneNumber::Up, words)),
+        Verb::Down => told(with_one(OneNumber::Down, words)),
+        Verb::Link => told(with_two(TwoNumbers::Link, words)),
+        Verb::Out => told(with_three(ThreeNumbers::Out, words)),
+        Verb::Reach => told(with_three(ThreeNumbers::Reach, words)),
+        Verb::Back => told(with_three(ThreeNumbers::Back, words)),
+        Verb::Land => told(with_three(ThreeNumbers::Land, words)),
+        Verb::CutServer => told(with_two(TwoNumbers::CutServer, words)),
+        Verb::CutMonitor => told(with_two(TwoNumbers::CutMonitor, words)),
     }
+}
+
+/// Returns the step, or that there is none.
+fn told(step: Option<Step>) -> Result<Step, StepFault>
+    ensures { result ≡ ok_or step StepFault.BadStep }
+{
+    step.ok_or(StepFault::BadStep)
 }
 
 /// Returns the step of a verb with one number.
-fn with_one(verb: OneNumber, words: &Words<'_>) -> Result<Step, StepFault>
-    ensures step { Gives step_of (one (one_form verb) words.now) result }
-    ensures memory { result ≡ Err StepFault.Memory → ⊥ }
+fn with_one(verb: OneNumber, words: &Words<'_>) -> Option<Step>
+    ensures { option_map step_of result ≡ one (one_form verb) words.now }
 {
-    match one_number(words) {
-        Ok(number) => Ok(verb.step(number)),
-        Err(fault) => Err(fault),
-    }
+    let number = one_number(words)?;
+    Some(verb.step(number))
 }
 
 /// Returns the step of a verb with two numbers.
-fn with_two(verb: TwoNumbers, words: &Words<'_>) -> Result<Step, StepFault>
-    ensures step { Gives step_of (two (two_form verb) words.now) result }
-    ensures memory { result ≡ Err StepFault.Memory → ⊥ }
+fn with_two(verb: TwoNumbers, words: &Words<'_>) -> Option<Step>
+    ensures { option_map step_of result ≡ two (two_form verb) words.now }
 {
-    match two_numbers(words) {
-        Ok((m, i)) => Ok(verb.step(m, i)),
-        Err(fault) => Err(fault),
-    }
+    let (m, i) = two_numbers(words)?;
+    Some(verb.step(m, i))
 }
 
 /// Returns the step of a verb with three numbers.
-fn with_three(verb: ThreeNumbers, words: &Words<'_>) -> Result<Step, StepFault>
-    ensures step { Gives step_of (three (three_form verb) words.now) result }
-    ensures memory { result ≡ Err StepFault.Memory → ⊥ }
+fn with_three(verb: ThreeNumbers, words: &Words<'_>) -> Option<Step>
+    ensures { option_map step_of result ≡ three (three_form verb) words.now }
 {
-    match three_numbers(words) {
-        Ok((m, i, n)) => Ok(verb.step(m, i, n)),
-        Err(fault) => Err(fault),
-    }
+    let (m, i, n) = three_numbers(words)?;
+    Some(verb.step(m, i, n))
 }
 
 /// Returns the step of a `driver` line.
@@ -202,7 +201,9 @@ fn said_by_driver(alloc: Global, words: &Words<'_>) -> Result<Step, StepFault>
     if words.len() != 3 {
         return Err(StepFault::BadStep);
     }
-    let ups = number(words.get(1))?;
+    let Some(ups) = number(words.get(1)) else {
+        return Err(StepFault::BadStep);
+    };
     let mut line = Vec::new(alloc);
     if line.extend_from_slice(words.get(2)).is_err() {
         return Err(StepFault::Memory);
@@ -211,47 +212,41 @@ fn said_by_driver(alloc: Global, words: &Words<'_>) -> Result<Step, StepFault>
 }
 
 /// Reads a number of 1 to 9 digits.
-fn number(word: &[u8]) -> Result<usize, StepFault>
-    ensures number { Gives (λ n. n) (natural word.now) result }
-    ensures memory { result ≡ Err StepFault.Memory → ⊥ }
+fn number(word: &[u8]) -> Option<usize>
+    ensures { result ≡ natural word.now }
 {
-    match natural(word) {
-        Some(number) => Ok(number as usize),
-        None => Err(StepFault::BadStep),
-    }
+    let number = natural(word)?;
+    Some(number as usize)
 }
 
 /// Reads the number behind a verb, if there is exactly one.
-fn one_number(words: &Words<'_>) -> Result<usize, StepFault>
-    ensures number { Gives (λ n. n) (one_number words.now) result }
-    ensures memory { result ≡ Err StepFault.Memory → ⊥ }
+fn one_number(words: &Words<'_>) -> Option<usize>
+    ensures { result ≡ one_number words.now }
 {
     if words.len() != 2 {
-        return Err(StepFault::BadStep);
+        return None;
     }
     number(words.get(1))
 }
 
 /// Reads the numbers behind a verb, if there are exactly two.
-fn two_numbers(words: &Words<'_>) -> Result<(usize, usize), StepFault>
-    ensures numbers { Gives (λ n. n) (two_numbers words.now) result }
-    ensures memory { result ≡ Err StepFault.Memory → ⊥ }
+fn two_numbers(words: &Words<'_>) -> Option<(usize, usize)>
+    ensures { result ≡ two_numbers words.now }
 {
     if words.len() != 3 {
-        return Err(StepFault::BadStep);
+        return None;
     }
-    Ok((number(words.get(1))?, number(words.get(2))?))
+    Some((number(words.get(1))?, number(words.get(2))?))
 }
 
 /// Reads the numbers behind a verb, if there are exactly three.
-fn three_numbers(words: &Words<'_>) -> Result<(usize, usize, usize), StepFault>
-    ensures numbers { Gives (λ n. n) (three_numbers words.now) result }
-    ensures memory { result ≡ Err StepFault.Memory → ⊥ }
+fn three_numbers(words: &Words<'_>) -> Option<(usize, usize, usize)>
+    ensures { result ≡ three_numbers words.now }
 {
     if words.len() != 4 {
-        return Err(StepFault::BadStep);
+        return None;
     }
-    Ok((
+    Some((
         number(words.get(1))?,
         number(words.get(2))?,
         number(words.get(3))?,

@@ -5,7 +5,7 @@ use Rattle.std.proofs.lemmas.Bool.{cases_Bool}
 use Rattle.nut_state.specs.Table.{Entry, variable, has_command}
 use Rattle.nut_proto.specs.declared.refusal.Refusal.{Refusal}
 use Rattle.nut_proto.specs.declared.reply.Reply.{Reply}
-use Rattle.nut_server_spec.specs.Answer.{Answer, Scene, Caller, Line, accepted, answer_request, check, refused, device_at, handed_on, misfit, on_data, parameter_misfit, require, unless, with_right, numbering_in, ups_number}
+use Rattle.nut_server_spec.specs.Answer.{Answer, Scene, Caller, Line, accepted, answer_request, check, refused, device_at, handed_on, misfit, on_data, parameter_misfit, require, unless, with_right, ups_number}
 use Rattle.nut_server_spec.specs.Command.{Command, Blank, Asks}
 use Rattle.nut_server_spec.specs.Content.{Supply}
 use Rattle.nut_proto.specs.declared.refusal.Refusal.TheVariants.{CmdNotSupported, DriverNotConnected, InstCmdFailed, SetFailed, VarNotSupported}
@@ -22,18 +22,19 @@ use Rattle.nut_server.specs.inside.Decisions.{Answers, Decides, Grants, HandsOn,
 use Rattle.nut_server.specs.inside.Effects.{Does, forced}
 use Rattle.nut_server.specs.inside.Tasks.{entry_misfit, right_to, task_answer, task_ask, task_failure, task_misfit, task_request}
 use Rattle.nut_server.specs.declared.changes.HandedOn.{HandedOn}
-use Rattle.nut_server.specs.declared.changes.Task.{Task}
-use Rattle.nut_server.specs.declared.changes.Task.TheVariants as tasks
+use Rattle.nut_server.specs.declared.changes.DriverTask.{DriverTask}
+use Rattle.nut_server.specs.declared.changes.DriverTask.TheVariants as tasks
 use Rattle.nut_server.specs.declared.decision.Decision.{Decision}
 use Rattle.nut_server.specs.declared.effect.Effect.{Effect}
 use Rattle.nut_server.specs.declared.effect.Effect.TheVariants as effects
 use Rattle.nut_server.proofs.Acting.{act_idle, requested_none, update_at_same}
 use Rattle.nut_server.proofs.Quiet.{IsQuiet, quiet_question}
+use Rattle.nut_server_spec.specs.Numbering.{with_numbers}
 
 -- A quiet answer to a line that changes nothing.
 pub tells : (s : Scene) (d : Decision) (reply : Answer) (line : List ℕ) → given d.answer ≡ reply → d.effect ≡ effects.Nothing → IsQuiet reply → Answers s Blank reply d line
 tells s d reply line is none quiet =
-    (is, rw none (λ k. rw (quiet.0 k.logged_out, quiet.1 (numbering_in s) k.login) refl, λ supplies. refl, rw quiet.2 refl), rw none tt)
+    (is, rw none (λ k. rw (quiet.0 k.logged_out, quiet.1 (with_numbers s.configuration.upses s.numbers) k.login) refl, λ supplies. refl, rw quiet.2 refl), rw none tt)
 
 -- What only asks is none of the other requests.
 pub only_asks : (request : Request) → (request ≡ requests.GetTracking → ⊥) → ((u v x : List ℕ) → request ≡ requests.SetVar u v x → ⊥)
@@ -92,20 +93,20 @@ at_rest d = ap (λ w. record d { device = record d.device { waits = w } }) (requ
 
 -- ---- the requests that act on a UPS
 
-pub refusable_task : (s : Scene) (ups : List ℕ) (task : Task) → IsRefusable s (Asks (task_request ups task))
+pub refusable_task : (s : Scene) (ups : List ℕ) (task : DriverTask) → IsRefusable s (Asks (task_request ups task))
 refusable_task s ups (tasks.Set variable value) r line =
     let command = Asks (requests.SetVar ups variable value) in
-    (λ k. refl, λ supplies. sym (act_idle (target (numbering_in s) command) (acted command (refused r)) supplies at_rest), refl)
+    (λ k. refl, λ supplies. sym (act_idle (target (with_numbers s.configuration.upses s.numbers) command) (acted command (refused r)) supplies at_rest), refl)
 refusable_task s ups (tasks.Run name parameter) r line =
     let command = Asks (requests.InstCmd ups name parameter) in
-    (λ k. refl, λ supplies. sym (act_idle (target (numbering_in s) command) (acted command (refused r)) supplies at_rest), refl)
+    (λ k. refl, λ supplies. sym (act_idle (target (with_numbers s.configuration.upses s.numbers) command) (acted command (refused r)) supplies at_rest), refl)
 
 pub refusable_fsd : (s : Scene) (ups : List ℕ) → IsRefusable s (Asks (requests.Fsd ups))
 refusable_fsd s ups r line =
     let command = Asks (requests.Fsd ups) in
-    (λ k. refl, λ supplies. sym (act_idle (target (numbering_in s) command) (acted command (refused r)) supplies at_rest), refl)
+    (λ k. refl, λ supplies. sym (act_idle (target (with_numbers s.configuration.upses s.numbers) command) (acted command (refused r)) supplies at_rest), refl)
 
-pub does_task : (s : Scene) (ups : List ℕ) (task : Task) (u : ℕ) (number : Option ℕ) (line : List ℕ) → ups_number s ups ≡ Some u
+pub does_task : (s : Scene) (ups : List ℕ) (task : DriverTask) (u : ℕ) (number : Option ℕ) (line : List ℕ) → ups_number s ups ≡ Some u
     → line ≡ ask_line (task_ask task number) → IsNextNumber s number
     → Does s (Asks (task_request ups task)) (accepted number) (effects.Ask u number) line
 does_task s ups (tasks.Set variable value) u None line there is next = (λ k. refl, λ supplies. rw (there, is) refl, next)
@@ -123,13 +124,13 @@ forces s ups u line number = (
 )
 
 -- the answer to a task, by the tests of the user and the UPS
-pub asked_for : (s : Scene) (k : Caller) (ups : List ℕ) (task : Task)
+pub asked_for : (s : Scene) (k : Caller) (ups : List ℕ) (task : DriverTask)
     → answer_request s k (task_request ups task) ≡ with_right s k (right_to task) ups (λ u. on_data s u (task_answer s k task))
 asked_for s k ups (tasks.Set variable value) = refl
 asked_for s k ups (tasks.Run name parameter) = refl
 
 -- the answer to a task, by the tests of the task
-pub task_tested : (s : Scene) (k : Caller) (task : Task) (d : Device)
+pub task_tested : (s : Scene) (k : Caller) (task : DriverTask) (d : Device)
     → task_answer s k task d ≡ unless (task_misfit task d) (handed_on (task_failure task) s k (task_ask task) d)
 task_tested s k (tasks.Set name value) d = by_entry (variable d.table name) where
   by_entry : (o : Option Entry) → require VarNotSupported o (λ v. unless (misfit v value) (handed_on SetFailed s k (asks.Set name value) d))
@@ -143,7 +144,7 @@ task_tested s k (tasks.Run name parameter) d = by_test (has_command d.table name
   by_test false = refl
 
 -- the answer to a task that the UPS can do
-pub task_handed : (s : Scene) (k : Caller) (task : Task) (d : Device) (failure : Refusal) → failure ≡ task_failure task → task_misfit task d ≡ None
+pub task_handed : (s : Scene) (k : Caller) (task : DriverTask) (d : Device) (failure : Refusal) → failure ≡ task_failure task → task_misfit task d ≡ None
     → task_answer s k task d ≡ handed_on failure s k (task_ask task) d
 task_handed s k task d failure is none =
     task_tested s k task d ∙ ap (λ t. unless t (handed_on (task_failure task) s k (task_ask task) d)) none ∙ ap (λ r. handed_on r s k (task_ask task) d) (sym is)

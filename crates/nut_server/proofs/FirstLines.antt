@@ -14,8 +14,8 @@ use Rattle.nut_server_spec.specs.Command.{command_of}
 use Rattle.nut_server_spec.specs.Content.{Session, Content, numbering_of}
 use Rattle.nut_server_spec.specs.Event.{Close}
 use Rattle.nut_server_spec.specs.machine.Machine.{advance, answer_in, answered, bytes_heard}
-use Rattle.nut_server_spec.specs.Outcome.{line_takes, unfinished_of}
-use Rattle.nut_server_spec.specs.machine.MachineOutcome.{RunsOut, content_lost}
+use Rattle.nut_server_spec.specs.Outcome.{line_takes}
+use Rattle.nut_server_spec.specs.machine.MachineOutcome.{RunsOut, content_lost, unfinished_of}
 use Rattle.nut_server_spec.proofs.Hearing.{with_unfinished-same}
 use Rattle.nut_server_spec.proofs.Sessions.{session_of-update}
 use Rattle.nut_server.specs.inside.Effects.{answered_by}

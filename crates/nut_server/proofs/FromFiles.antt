@@ -22,7 +22,7 @@ use Rattle.nut_conf.specs.declared.users.Commands.TheVariants as commands
 use Rattle.nut_words.specs.declared.limits.TheConstants.{UPS_NAME_MAX}
 use Rattle.nut_conf.proofs.NameLookup.{slice_get-names}
 use Rattle.nut_conf.proofs.SlotLemmas.{length-map}
-use Rattle.nut_server_spec.specs.Configuration.{Ups, number_of_ups, user_named, covers, has_password}
+use Rattle.nut_server_spec.specs.Configuration.{Ups, number_of_ups, user_named, has_password}
 use Rattle.nut_server.specs.Configured.{ups_of, user_of, user_in, command_of}
 
 bytes_eq-symm : (a b : List ℕ) → bytes_eq a b ≡ bytes_eq b a
@@ -107,7 +107,7 @@ password_kept password name u =
     [ None ↦ refl | Some t ↦ refl ]
 
 -- the commands that a user may give
-pub covered : (name : List ℕ) (cs : List Commands) → list_any (files.covers name) cs ≡ list_any (covers name) (map command_of cs)
+pub covered : (name : List ℕ) (cs : List Commands) → list_any (files.covers name) cs ≡ list_any (λ allowed. option_map_or (bytes_eq name) allowed true) (map command_of cs)
 covered name [] = refl
 covered name (commands.All ∷ cs) = refl
 covered name (commands.Named n ∷ cs) = ap (λ b. bytes_eq name n.bytes.items || b) (covered name cs)

@@ -12,8 +12,8 @@ use Rattle.nut_server_spec.specs.Effect.{target}
 use Rattle.nut_server_spec.specs.Trace.{given_then}
 use Rattle.nut_server_spec.specs.Acceptance.{front, line_feeds, session_of}
 use Rattle.nut_server_spec.specs.Event.{Close}
-use Rattle.nut_server_spec.specs.machine.MachineOutcome.{RunsOut, content_lost}
-use Rattle.nut_server_spec.specs.Outcome.{line_takes, unfinished_of}
+use Rattle.nut_server_spec.specs.machine.MachineOutcome.{RunsOut, content_lost, unfinished_of}
+use Rattle.nut_server_spec.specs.Outcome.{line_takes}
 use Rattle.nut_server_spec.specs.machine.Machine.{update, with_rest, with_sessions, answer_in, answered, act_on, acted, after_answer, without, advance, byte_heard, bytes_heard, line_heard}
 use Rattle.nut_server_spec.proofs.Hearing.{byte_feed, byte_other, update-update, with_unfinished, with_unfinished-same}
 use Rattle.nut_server_spec.proofs.Sessions.{IsOpen, KeepsNumber, session_of-update, without-update}

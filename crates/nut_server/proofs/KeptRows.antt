@@ -13,10 +13,11 @@ use Rattle.nut_proto.specs.declared.request.ListQuery.TheVariants as queries
 use Rattle.nut_proto.specs.Lines.{line}
 use Rattle.nut_proto.specs.Replies.{reply_line}
 use Rattle.nut_proto.specs.Requests.{begin_line, end_line}
-use Rattle.nut_server_spec.specs.Answer.{Line, Listing, described, on_variable, require, shown, text_of, var_row}
+use Rattle.nut_server_spec.specs.Answer.{Line, Listing, on_variable, require, shown, text_of, var_row}
 use Rattle.nut_server_spec.specs.Configuration.{Ups}
 use Rattle.nut_server_spec.specs.Device.{Device}
 use Rattle.nut_server.specs.inside.Rows.{row_front, row_word, value_row, variable_row}
+use Rattle.nut_server.specs.inside.Answers.{described}
 
 in_two : (ups name value : List ℕ) → (ups ++ 32 ∷ (name ++ 32 ∷ (value ++ []))) ++ 10 ∷ [] ≡ (ups ++ 32 ∷ []) ++ (name ++ 32 ∷ (value ++ 10 ∷ []))
 in_two ups name value =

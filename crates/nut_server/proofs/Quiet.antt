@@ -8,7 +8,7 @@ use Rattle.nut_proto.specs.declared.request.ListQuery.TheVariants as queries
 use Rattle.nut_proto.specs.declared.request.Request.{Request}
 use Rattle.nut_proto.specs.declared.request.Request.TheVariants as requests
 use Rattle.nut_state.specs.Table.{Entry, has_command, variable}
-use Rattle.nut_server_spec.specs.Answer.{Answer, Scene, check, require, unless, on_command, on_device, Line, Listing, on_ups, on_data, on_variable, ups_number, device_at, described, guests_of, rw_row, type_reply, var_row}
+use Rattle.nut_server_spec.specs.Answer.{Answer, Scene, check, require, unless, on_command, on_device, Line, Listing, on_ups, on_data, on_variable, ups_number, device_at, guests_of, var_row, kind_of, shown}
 use Rattle.nut_server_spec.specs.Command.{Blank}
 use Rattle.nut_server_spec.specs.Configuration.{Ups, ups_named}
 use Rattle.nut_server_spec.specs.Device.{Device, trouble}
@@ -34,10 +34,6 @@ of_check : (refusal : Refusal) (holds : Bool) (next : Answer) → IsQuiet next �
 of_check refusal true next quiet = quiet
 of_check refusal false next quiet = (λ b. refl, λ now b. refl, refl)
 
-of_described : (name : List ℕ) (ups : Option Ups) → IsQuiet (described name ups)
-of_described name None = (λ b. refl, λ now b. refl, refl)
-of_described name (Some ups) = (λ b. refl, λ now b. refl, refl)
-
 of_ups : (s : Scene) (name : List ℕ) (next : ℕ → Device → Answer) → ((u : ℕ) (d : Device) → IsQuiet (next u d)) → IsQuiet (on_ups s name (λ u. on_data s u (next u)))
 of_ups s name next quiet =
     of_require _ (ups_number s name) (λ u. on_data s u (next u)) (λ u. of_unless (trouble s.configuration.max_age s.clock (device_at s u)) (next u (device_at s u)) (quiet u (device_at s u)))
@@ -53,9 +49,10 @@ of_variable s ups name next quiet =
 pub quiet_question : (s : Scene) (request : Request) → is_question request ≡ true → IsQuiet (told s request)
 quiet_question s (requests.GetNumLogins ups) asks-only =
     of_ups s ups (λ u d. Line (replies.NumLogins ups (length (guests_of u s.guests)))) (λ u d. (λ b. refl, λ now b. refl, refl))
-quiet_question s (requests.GetUpsDesc ups) asks-only = of_described ups (ups_named ups s.configuration.upses)
+quiet_question s (requests.GetUpsDesc ups) asks-only =
+    of_require _ (ups_named ups s.configuration.upses) (λ found. Line (replies.UpsDesc ups found.description)) (λ found. (λ b. refl, λ now b. refl, refl))
 quiet_question s (requests.GetVar ups name) asks-only = of_variable s ups name (λ d v. Line (var_row ups d v)) (λ d v. (λ b. refl, λ now b. refl, refl))
-quiet_question s (requests.GetType ups name) asks-only = of_variable s ups name (λ d v. Line (type_reply ups v)) (λ d v. (λ b. refl, λ now b. refl, refl))
+quiet_question s (requests.GetType ups name) asks-only = of_variable s ups name (λ d v. Line (replies.Type ups v.name v.flags.writable (kind_of v))) (λ d v. (λ b. refl, λ now b. refl, refl))
 quiet_question s (requests.GetDesc ups name) asks-only =
     of_variable s ups name (λ d v. Line (replies.Desc ups name (variable_description s.configuration.variable_texts name))) (λ d v. (λ b. refl, λ now b. refl, refl))
 quiet_question s (requests.GetCmdDesc ups name) asks-only =
@@ -65,7 +62,7 @@ quiet_question s (requests.List queries.Ups) asks-only = (λ b. refl, λ now b. 
 quiet_question s (requests.List (queries.Var ups)) asks-only =
     of_device s ups (λ d. Listing (queries.Var ups) (map (var_row ups d) d.table.variables)) (λ d. (λ b. refl, λ now b. refl, refl))
 quiet_question s (requests.List (queries.Rw ups)) asks-only =
-    of_device s ups (λ d. Listing (queries.Rw ups) (map (rw_row ups d) (filter (λ v. v.flags.writable) d.table.variables))) (λ d. (λ b. refl, λ now b. refl, refl))
+    of_device s ups (λ d. Listing (queries.Rw ups) (map (λ v. replies.Rw ups v.name (shown d v)) (filter (λ v. v.flags.writable) d.table.variables))) (λ d. (λ b. refl, λ now b. refl, refl))
 quiet_question s (requests.List (queries.Cmd ups)) asks-only =
     of_device s ups (λ d. Listing (queries.Cmd ups) (map (λ k. replies.Cmd ups k) d.table.commands)) (λ d. (λ b. refl, λ now b. refl, refl))
 quiet_question s (requests.List (queries.Enum ups name)) asks-only =

@@ -9,7 +9,7 @@ use Rattle.nut_server_spec.specs.Content.{Supply, down}
 use Rattle.nut_server_spec.specs.Device.{Device}
 use Rattle.nut_server_spec.specs.machine.Machine.{bytes_reported}
 use Rattle.nut_server_spec.specs.machine.MachineOutcome.{RunsOutOf}
-use Rattle.nut_server_spec.specs.Outcome.{report_takes, text_takes}
+use Rattle.nut_server_spec.specs.Outcome.{text_takes}
 use Rattle.nut_server.specs.inside.Lines.{line_reported, line_told}
 use Rattle.nut_server.proofs.Pieces.{HearsLines, heard_whole, stops_in}
 
@@ -43,7 +43,7 @@ abbrev pub Stopped : Device → LineText → Device → Type 0
 Stopped after line before = ⊤ × ((after ≡ before) × IsTrue (text_takes line before.table))
 
 abbrev SupplyStopped : Supply → LineText → Supply → Type 0
-SupplyStopped after line before = (after ≡ before) × IsTrue (report_takes line (Some before))
+SupplyStopped after line before = (after ≡ before) × IsTrue (text_takes line before.device.table)
 
 supply_stopped : (time : ℕ) (lines : List LineText) (r : LineText) (d after : Device) (done : ℕ) → StopsAt (line_reported time) (Stopped after) lines d done
     → StopsAt (line_told time) (SupplyStopped (beside r after)) lines (beside r d) done
@@ -60,7 +60,7 @@ pub report_stopped : (time : ℕ) (b p : List ℕ) (r left : LineText) (d after 
     → (done < line_feeds p) × (down (beside left after) ≡ down (bytes_reported time (front done p) started)) × RunsOutOf time p done (Some started)
 report_stopped time b p r left d after started done here began stops =
     let at = stops_in (hears_driver time) b p r (beside r d) started done here began (supply_stopped time (lines_after r p) r d after done stops) in
-    let P : Option LineText → Supply → Type 0 = λ line d. IsTrue (option_map_or (λ l. report_takes l (Some d)) line false) in
+    let P : Option LineText → Supply → Type 0 = λ line d. IsTrue (option_map_or (λ l. text_takes l d.device.table) line false) in
     let takes = subst (λ line. P line at.now) (sym at.nth) at.stops.1 in (
       at.few,
       ap down at.stops.0 ∙ sym (ap down at.is),

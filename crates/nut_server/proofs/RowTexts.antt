@@ -7,7 +7,7 @@ use Rattle.nut_state.specs.Table.{Entry}
 use Rattle.nut_proto.specs.declared.reply.Reply.{Reply}
 use Rattle.nut_proto.specs.declared.reply.Reply.TheVariants as replies
 use Rattle.nut_proto.specs.Replies.{reply_line}
-use Rattle.nut_server_spec.specs.Answer.{guests_of, is_logged_in, rw_row}
+use Rattle.nut_server_spec.specs.Answer.{guests_of, is_logged_in, shown}
 use Rattle.nut_server_spec.specs.Content.{Session}
 use Rattle.nut_server_spec.specs.Device.{Device}
 use Rattle.nut_server_spec.specs.machine.Machine.{guest_of}
@@ -33,9 +33,9 @@ row_kept row false x xs text is = is
 
 -- the rows of LIST RW
 pub writable_rows : (ups : List ℕ) (d : Device) (vs : List Entry) →
-    flat_map (writable_text ups d) vs ≡ flat_map reply_line (map (rw_row ups d) (filter (λ v. v.flags.writable) vs))
+    flat_map (writable_text ups d) vs ≡ flat_map reply_line (map (λ v. replies.Rw ups v.name (shown d v)) (filter (λ v. v.flags.writable) vs))
 writable_rows ups d [] = refl
-writable_rows ups d (v ∷ vs) = row_kept (rw_row ups d) v.flags.writable v (filter (λ v. v.flags.writable) vs) _ (writable_rows ups d vs)
+writable_rows ups d (v ∷ vs) = row_kept (λ v. replies.Rw ups v.name (shown d v)) v.flags.writable v (filter (λ v. v.flags.writable) vs) _ (writable_rows ups d vs)
 
 -- the rows of LIST CLIENT
 pub client_rows : (ups : List ℕ) (u : ℕ) (ks : List Session) →

@@ -55,7 +55,7 @@ fn next_number(
 
 /// What a client asks the driver of a UPS to do.
 #[derive(Drop)]
-pub enum Task<'a> {
+pub enum DriverTask<'a> {
     /// To set a variable to a value.
     Set {
         variable: Word<'a>,
@@ -68,14 +68,14 @@ pub enum Task<'a> {
     },
 }
 
-impl<'a> Task<'a> {
+impl<'a> DriverTask<'a> {
     /// Returns the right that it needs.
     fn right(&self) -> Right<'_>
         ensures { allows result ≡ right_to self.now }
     {
         match self {
-            Task::Set { .. } => Right::Set,
-            Task::Run { command, .. } => Right::Command(command.as_bytes()),
+            DriverTask::Set { .. } => Right::Set,
+            DriverTask::Run { command, .. } => Right::Command(command.as_bytes()),
         }
     }
 
@@ -85,11 +85,11 @@ impl<'a> Task<'a> {
         ensures { result ≡ task_misfit self.now device.now.device }
     {
         match self {
-            Task::Set { variable, value } => match variable_of(device, variable.as_bytes()) {
+            DriverTask::Set { variable, value } => match variable_of(device, variable.as_bytes()) {
                 Ok(variable) => misfit(variable, value.as_bytes()),
                 Err(refusal) => Some(refusal),
             },
-            Task::Run { command, parameter } => {
+            DriverTask::Run { command, parameter } => {
                 if !device.table().has_cmd(command.as_bytes()) {
                     return Some(Refusal::CmdNotSupported);
                 }
@@ -103,8 +103,8 @@ impl<'a> Task<'a> {
         ensures { result ≡ task_failure self.now }
     {
         match self {
-            Task::Set { .. } => Refusal::SetFailed,
-            Task::Run { .. } => Refusal::InstCmdFailed,
+            DriverTask::Set { .. } => Refusal::SetFailed,
+            DriverTask::Run { .. } => Refusal::InstCmdFailed,
         }
     }
 
@@ -113,12 +113,12 @@ impl<'a> Task<'a> {
         ensures { result ≡ task_ask self.entry number }
     {
         match self {
-            Task::Set { variable, value } => DriverAsk::Set {
+            DriverTask::Set { variable, value } => DriverAsk::Set {
                 variable,
                 value,
                 number,
             },
-            Task::Run { command, parameter } => DriverAsk::InstCmd {
+            DriverTask::Run { command, parameter } => DriverAsk::InstCmd {
                 command,
                 parameter,
                 number,
@@ -140,7 +140,7 @@ pub fn ask_driver(
     scene: &Scene<'_>,
     caller: &Connection,
     ups: &[u8],
-    task: Task<'_>,
+    task: DriverTask<'_>,
     line: &mut ArrayVec<u8, ASKS_MAX>,
 ) -> Result<HandedOn, Refusal>
     ensures { HandsOn scene.now (caller_of caller.now) (Asks (task_request ups.now task.entry)) result line.new.items }

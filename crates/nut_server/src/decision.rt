@@ -12,7 +12,7 @@ ghost use Rattle.nut_server.specs.declared.effect.Effect.TheVariants as effects;
 
 use crate::answer::Answer;
 use crate::changes::{
-    HandedOn, Task, ask_driver, become_primary, force, give_password, give_user, log_in,
+    DriverTask, HandedOn, ask_driver, become_primary, force, give_password, give_user, log_in,
     switch_tracking,
 };
 use crate::connection::Connection;
@@ -121,7 +121,7 @@ fn decide_request<'a, 'l>(
             scene,
             caller,
             ups.as_bytes(),
-            Task::Set {
+            DriverTask::Set {
                 variable: variable.copy(),
                 value: value.copy(),
             },
@@ -136,7 +136,7 @@ fn decide_request<'a, 'l>(
             scene,
             caller,
             ups.as_bytes(),
-            Task::Run {
+            DriverTask::Run {
                 command: command.copy(),
                 parameter: parameter.as_ref().map(Word::copy),
             },

@@ -3,10 +3,10 @@
 ghost use Rattle.std.specs.Prelude.{◌≡◌, ◌++◌, List, ℕ, IfSome, OnOk, codes, map};
 ghost use Rattle.nut_proto.specs.PlainQueries.{request_of, ups_of};
 ghost use Rattle.nut_proto.specs.declared.request.ListQuery.TheVariants as queries;
-ghost use Rattle.nut_server_spec.specs.Answer.{Caller, Line, Listing, answer, described, on_variable, refused, text_of, var_row};
+ghost use Rattle.nut_server_spec.specs.Answer.{Caller, Line, Listing, answer, on_variable, refused, text_of, var_row};
 ghost use Rattle.nut_server_spec.specs.Command.{Asks};
 ghost use Rattle.nut_server_spec.specs.Configuration.{number_of_ups};
-ghost use Rattle.nut_server.specs.inside.Answers.{answer_from};
+ghost use Rattle.nut_server.specs.inside.Answers.{answer_from, described};
 ghost use Rattle.nut_server.specs.inside.Rows.{row_front};
 
 use crate::config::Ups;

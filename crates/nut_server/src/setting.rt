@@ -1,11 +1,12 @@
 //! Which values a variable allows, and requests to drivers.
 
-ghost use Rattle.std.specs.Prelude.{◌≡◌};
+ghost use Rattle.std.specs.Prelude.{◌≡◌, false};
 ghost use Rattle.std.specs.Bool.{OnTrue};
 ghost use Rattle.std.specs.List.{list_any};
+ghost use Rattle.std.specs.Option.{option_map_or};
 ghost use Rattle.nut_proto.specs.DriverAsks.{ask_line};
 ghost use Rattle.nut_state.specs.Attribute.{lists_enum};
-ghost use Rattle.nut_server_spec.specs.Answer.{is_in_range, is_in_ranges, kind_of, misfit, misfit_by, parameter_misfit};
+ghost use Rattle.nut_server_spec.specs.Answer.{is_in_range, kind_of, misfit, misfit_by, parameter_misfit};
 ghost use Rattle.nut_server_spec.specs.Device.{fits};
 
 use crate::device::Device;
@@ -50,7 +51,7 @@ fn lists_number(number: i32, ranges: &[Range]) -> bool
 }
 
 fn is_in_ranges(number: Option<i32>, ranges: &[Range]) -> bool
-    ensures { result ≡ is_in_ranges number ranges.now }
+    ensures { result ≡ option_map_or (λ n. list_any (is_in_range n) ranges.now) number false }
 {
     number.is_some_and(|number| lists_number(number, ranges))
 }

@@ -9,7 +9,7 @@ use Rattle.nut_server_spec.specs.Configuration.{Configuration}
 use Rattle.nut_server_spec.specs.Event.{Event, Bytes, Took, DriverBytes, Step, Said, Reported, input, driver_input, steps, with_lines, with_reports, brought, Reload}
 use Rattle.nut_server_spec.specs.Answer.{Guest, text_of}
 use Rattle.nut_server_spec.specs.Device.{Device}
-use Rattle.nut_server_spec.specs.Trace.{Entry, address, open_numbers, device, guest, scene, reports, ups_numbers, answer_to, trace, configuration}
+use Rattle.nut_server_spec.specs.Trace.{Entry, address, open_numbers, device, scene, reports, ups_numbers, answer_to, trace, configuration, login}
 use Rattle.nut_server_spec.specs.Content.{Session, past, session}
 use Rattle.nut_server_spec.specs.Acceptance.{IsAccepted}
 use Rattle.nut_server_spec.specs.laws.Limits.{IsWithin, AreWithin, AnswersAreBounded, longest_answer}
@@ -33,6 +33,10 @@ module _ {X Y : Type 0} (P : Y → Type 0) (f : X → Y) where
   as_mapped : (xs : List X) → AllByRecursion (λ x. P (f x)) xs → AllByRecursion P (map f xs)
   as_mapped [] all = tt
   as_mapped (x ∷ xs) all = (all.0, as_mapped xs all.1)
+
+-- what the server knows of the connection c when a line is answered
+abbrev pub guest : Configuration → List Entry → ℕ → Guest
+guest first past c = record { address = address c past; login = login first c past }
 
 abbrev AreFit : List Entry → Type 0
 AreFit t = AllByRecursion (λ e. length (text_of e.answer) ≤ longest_answer) t

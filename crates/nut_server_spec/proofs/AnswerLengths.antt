@@ -39,7 +39,7 @@ use Rattle.nut_words.specs.Lines.{LineText}
 use Rattle.nut_words.specs.declared.words.WordFault.{WordFault}
 use Rattle.nut_server_spec.specs.Command.{Command, Asks, asked, command_in, command_of}
 use Rattle.nut_server_spec.specs.Device.{Device, absent}
-use Rattle.nut_server_spec.specs.Answer.{Answer, Silence, Line, Listing, text_of, Guest, Scene, Caller, refused, device_at, on_ups, on_data, on_device, on_variable, on_command, may_set, may_log_in, may_be_primary, may_force, shown, kind_of, guests_of, is_logged_in, var_row, rw_row, type_reply, described, list_answer, misfit, parameter_misfit, accepted, status_of, set_answer, command_answer, once, answer_request, answer}
+use Rattle.nut_server_spec.specs.Answer.{Answer, Silence, Line, Listing, text_of, Guest, Scene, Caller, refused, device_at, on_ups, on_data, on_device, on_variable, on_command, may_set, may_log_in, may_be_primary, may_force, shown, kind_of, guests_of, is_logged_in, var_row, list_answer, misfit, parameter_misfit, accepted, status_of, set_answer, command_answer, answer_request, answer, require, check}
 use Rattle.nut_server_spec.specs.laws.Limits.{IsUpsWithin, IsWithin, longest_answer}
 use Rattle.nut_server_spec.proofs.Alls.{all_weaker, all_filter, all_places}
 use Rattle.nut_server_spec.proofs.Lengths.{length-word, name_within}
@@ -205,7 +205,7 @@ all_within d table = all_places IsWithinLimits d.table.variables table.in_order.
 kind_few : (v : Entry) (m : ℕ) → v.aux ≤ VALUE_MAX → kind_of v ≡ kinds.String m → m ≤ VALUE_MAX
 kind_few v m few is = grind arith
 
-described_fit : (name : List ℕ) (upses : List Ups) → AllByRecursion IsUpsWithin upses → IsFit (described name (ups_named name upses))
+described_fit : (name : List ℕ) (upses : List Ups) → AllByRecursion IsUpsWithin upses → IsFit (require refusals.UnknownUps (ups_named name upses) (λ ups. Line (replies.UpsDesc name ups.description)))
 described_fit name [] all = fit_refused refusals.UnknownUps
 described_fit name (x ∷ xs) all =
     elim (cases_Bool (bytes_eq x.name name)) [
@@ -216,7 +216,7 @@ described_fit name (x ∷ xs) all =
       | inr e ↦ rw e (described_fit name xs all.1)
     ]
 
-once_fit : (r : Refusal) (o : Option (List ℕ)) → IsFit (once r o)
+once_fit : (r : Refusal) (o : Option (List ℕ)) → IsFit (check r (is_none o) (Line replies.Accepted))
 once_fit r o = grind (arith, fit_accepted, fit_refused)
 
 module _ (s : Scene) (short : IsShortScene s) where
@@ -235,9 +235,10 @@ module _ (s : Scene) (short : IsShortScene s) where
   list_fit (queries.Rw ups) = fit_device s short ups _ (λ d named table.
       let name = name_within UPS_NAME_MAX ups named in
       let p : Entry → Bool = λ v. v.flags.writable in
+      let row : Entry → Reply = λ v. replies.Rw ups v.name (shown d v) in
       let vs = d.table.variables in
-      fit_list (queries.Rw ups) (map (rw_row ups d) (filter p vs)) 94 578052 (omega (arith, L.length-marks (queries.Rw ups) 36 (omega (arith, length-name UPS_NAME_MAX ups name))))
-      (variables_fit d (rw_row ups d) (filter p vs) (λ v within. L.length-rw ups v.name (shown d v) name (name_within NAME_MAX v.name within.name)) (all_filter IsWithinLimits p vs (all_within d table))
+      fit_list (queries.Rw ups) (map row (filter p vs)) 94 578052 (omega (arith, L.length-marks (queries.Rw ups) 36 (omega (arith, length-name UPS_NAME_MAX ups name))))
+      (variables_fit d row (filter p vs) (λ v within. L.length-rw ups v.name (shown d v) name (name_within NAME_MAX v.name within.name)) (all_filter IsWithinLimits p vs (all_within d table))
       (omega (arith, fewer p vs, table.in_order.variables_within)) (omega (arith, fewer_both (equal (λ (v : Entry). v.name) (codes "ups.status")) p vs, one_status d table)))
       (omega arith))
   list_fit (queries.Cmd ups) = fit_device s short ups _ (λ d named table.
@@ -279,7 +280,7 @@ module _ (s : Scene) (short : IsShortScene s) where
       fit_long (var_row ups d v) (omega (arith, L.length-var ups v.name (shown d v) (name_within UPS_NAME_MAX ups named) (name_within NAME_MAX v.name within.name), length-shown d v within))))
   request_fit k (requests.GetType ups name) readable = fit_device s short ups _ (λ d named table. fit_variable name d _ (λ v there.
       let within = variable_within d.table name v table there in
-      fit_line (type_reply ups v) (L.length-type ups v.name v.flags.writable (kind_of v) (ups_short ups named) (name_within NAME_MAX v.name within.name).1 (λ m is. kind_few v m within.aux is))))
+      fit_line (replies.Type ups v.name v.flags.writable (kind_of v)) (L.length-type ups v.name v.flags.writable (kind_of v) (ups_short ups named) (name_within NAME_MAX v.name within.name).1 (λ m is. kind_few v m within.aux is))))
   request_fit k (requests.GetDesc ups name) readable = fit_device s short ups _ (λ d named table. fit_variable name d _ (λ v there.
       let text = variable_description s.configuration.variable_texts name in
       let few = L.length-variable_text s.configuration.variable_texts name short.configured.variable_texts in

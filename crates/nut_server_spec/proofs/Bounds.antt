@@ -13,10 +13,10 @@ use Rattle.nut_proto.specs.Lines.{line}
 use Rattle.nut_server_spec.specs.Configuration.{Configuration}
 use Rattle.nut_server_spec.specs.Command.{command_of}
 use Rattle.nut_server_spec.specs.Device.{Device, absent, fits, needs_ping}
-use Rattle.nut_server_spec.specs.Effect.{target, request_of}
+use Rattle.nut_server_spec.specs.Effect.{target, request_of, at_target}
 use Rattle.nut_server_spec.specs.Event.{Event, Moment, Bytes, DriverUp, DriverBytes, DriverTook, DriverDown, Step, Clock, Said, Reported, input, driver_input, steps, with_lines, with_reports, brought, Reload}
 use Rattle.nut_server_spec.specs.Answer.{device_at}
-use Rattle.nut_server_spec.specs.Trace.{places, numbering, Entry, configuration, clock, device, connected, logged_out, driver_due, driver_taken, driver_waits, scene, caller, with_request, request_for, ping, trace, answer_to, asks_at}
+use Rattle.nut_server_spec.specs.Trace.{places, numbering, Entry, configuration, clock, device, connected, logged_out, driver_due, driver_taken, driver_waits, scene, caller, with_request, trace, answer_to, asks_at}
 use Rattle.nut_server_spec.specs.Content.{past}
 use Rattle.nut_server_spec.specs.laws.Laws.{BoundsHold}
 use Rattle.nut_server_spec.proofs.Kept.{session_is, supply_is}
@@ -51,12 +51,12 @@ drained-bound is m n due bounded = grind (arith, length-drop)
 needed-fits : (age time : ℕ) (d : Device) → needs_ping age time d ≡ true → fits (ask_line Ping) d ≡ true
 needed-fits age time d holds = grind arith
 
-ping-fits : (age time : ℕ) (d : Device) (line : List ℕ) → ping (needs_ping age time d) ≡ Some line → fits line d ≡ true
+ping-fits : (age time : ℕ) (d : Device) (line : List ℕ) → (if needs_ping age time d then Some (ask_line Ping) else None) ≡ Some line → fits line d ≡ true
 ping-fits age time d line is = grind (arith, cases_Bool, needed-fits)
 
 -- A line's request to a driver is sent only if it fits.
 request-fits : (first : Configuration) (t : List Entry) (u c : ℕ) (text : LineText) (line : List ℕ) (o : Option ℕ) → u < places first t
-    → target (numbering first t) (command_of text) ≡ o → request_for u o (request_of (command_of text) (answer_to first t c text)) ≡ Some line
+    → target (numbering first t) (command_of text) ≡ o → at_target u o (λ none. request_of (command_of text) (answer_to first t c text)) None ≡ Some line
     → fits line (device first t u) ≡ true
 request-fits first t u c text line None less goal is = cc
 request-fits first t u c text line (Some v) less goal is =

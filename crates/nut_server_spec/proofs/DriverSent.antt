@@ -12,11 +12,13 @@ use Rattle.nut_server_spec.specs.Configuration.{Configuration}
 use Rattle.nut_server_spec.specs.Event.{Event, Moment, Bytes, DriverUp, DriverBytes, DriverTook, Step, Said, Reported, driver_input, steps, with_lines, with_reports, brought, Reload}
 use Rattle.nut_server_spec.specs.Trace.{driver_due, driver_taken, driver_sent, driver_waits, with_request, asks_at, trace, numbering}
 use Rattle.nut_server_spec.specs.Content.{Supply, Content, past, content}
-use Rattle.nut_server_spec.specs.Acceptance.{refusal, IsAccepted, Tells, supply_of, drain_refusal, asks_in, asks_of, lost, lost_report}
+use Rattle.nut_server_spec.specs.Acceptance.{refusal, IsAccepted, Tells, supply_of, drain_refusal, asks_of}
 use Rattle.nut_server_spec.specs.Outcome.{after_refusal}
 use Rattle.nut_server_spec.specs.laws.Laws.{driver_received, DriverSentIsReceived, DriverSentAndWaitingIsDue}
 use Rattle.nut_server_spec.proofs.Kept.{supply_is, drivers_covered}
 use Rattle.nut_server_spec.specs.Numbering.{Fate, by_fate, fate_of, is_cleared}
+use Rattle.std.specs.Option.{option_map_or}
+use Rattle.nut_server_spec.specs.machine.MachineOutcome.{lost, lost_report}
 
 -- how many bytes the driver of u takes in an event, and whether the event connects it anew or clears
 -- its UPS
@@ -78,6 +80,10 @@ driver_sent-reload first h u k = sent_fated (fate_of k.upses (numbering first (p
 -- If a driver may take bytes, it is connected.
 pub connected_took : (n : ℕ) (o : Option Supply) → drain_refusal n o ≡ None → (d : Supply) × (o ≡ Some d) × (d.device.connected ≡ true)
 connected_took n o accepted = grind (arith, cases_Bool)
+
+-- the bytes that wait for the driver of a UPS: none if there is no such UPS
+abbrev pub asks_in : Option Supply → List ℕ
+asks_in found = option_map_or (λ d. d.device.waits) found []
 
 -- What the content says waits for a driver is what the history says.
 pub asks_are : (first : Configuration) (h : List Event) (u : ℕ) (d : Supply) → supply_of u (content first h).supplies ≡ Some d → asks_of u (content first h).supplies ≡ driver_waits u (past first h)

@@ -1,7 +1,7 @@
 -- A number that an answer gives is the next one, and its request is to a UPS that exists.
 use Rattle.std.proofs.Common.{arith}
 use Rattle.std.proofs.Common.{◌≡◌, ℕ, ◌+◌, ◌<◌, Bool, true, false, List, length, rules, Option, Some}
-use Rattle.std.specs.Prelude.{if◌then◌else◌}
+use Rattle.std.specs.Prelude.{if◌then◌else◌, is_none}
 use Rattle.nut_proto.specs.declared.refusal.Refusal.{Refusal}
 use Rattle.nut_proto.specs.declared.refusal.Refusal.TheVariants as refusals
 use Rattle.nut_proto.specs.declared.request.ListQuery.{ListQuery}
@@ -13,15 +13,16 @@ use Rattle.nut_state.specs.Table.{variable, has_command}
 use Rattle.nut_server_spec.specs.Configuration.{Ups, may_command}
 use Rattle.nut_server_spec.specs.Command.{Command, Asks}
 use Rattle.nut_server_spec.specs.Device.{trouble}
-use Rattle.nut_server_spec.specs.Answer.{Answer, numbering_in, Silence, Line, Scene, Caller, refused, device_at, ups_number, on_data, may_set, misfit, parameter_misfit, set_answer, command_answer, tracking_answer, accepted, described, once, list_answer, answer}
+use Rattle.nut_server_spec.specs.Answer.{Answer, Silence, Line, Scene, Caller, refused, device_at, ups_number, on_data, may_set, misfit, parameter_misfit, set_answer, command_answer, accepted, list_answer, answer, require, check, with_credentials}
 use Rattle.nut_server_spec.specs.Effect.{number_in, target}
 use Rattle.nut_server_spec.proofs.Requests.{IsNext, require-case, check-case, unless-case, with_credentials-case, with_right-case, handed_on-case}
+use Rattle.nut_server_spec.specs.Numbering.{with_numbers}
 
 -- A number in this answer to the command is the next one, and the command acts on a UPS that exists.
 abbrev pub IsGiven : Scene → Command → Answer → Type 0
 IsGiven s command reply =
     (number : ℕ) → number_in reply ≡ Some number →
-    (number ≡ s.given + 1) × ((u : ℕ) × (target (numbering_in s) command ≡ Some u) × (u < length s.devices))
+    (number ≡ s.given + 1) × ((u : ℕ) × (target (with_numbers s.configuration.upses s.numbers) command ≡ Some u) × (u < length s.devices))
 
 module _ (s : Scene) (command : Command) where
   abbrev P : Answer → Type 0
@@ -30,20 +31,20 @@ module _ (s : Scene) (command : Command) where
   bad : (r : Refusal) → P (refused r)
   bad r number is = cc
 
-  of_described : (name : List ℕ) (ups : Option Ups) → P (described name ups)
+  of_described : (name : List ℕ) (ups : Option Ups) → P (require refusals.UnknownUps ups (λ found. Line (replies.UpsDesc name found.description)))
   of_described name ups number is = grind arith
 
-  of_once : (refusal : Refusal) (o : Option (List ℕ)) → P (once refusal o)
+  of_once : (refusal : Refusal) (o : Option (List ℕ)) → P (check refusal (is_none o) (Line replies.Accepted))
   of_once refusal o number is = grind arith
 
-  of_tracking : (k : Caller) → P (tracking_answer k)
+  of_tracking : (k : Caller) → P (with_credentials k (λ user password. Line replies.Accepted))
   of_tracking k = with_credentials-case P k (λ user password. Line replies.Accepted) bad (λ user password number is. cc)
 
   of_list : (query : ListQuery) → P (list_answer s query)
   of_list queries.Ups = λ number is. cc
   of_list query = search rules
 
-  of_accepted : (number : Option ℕ) (u : ℕ) → IsNext s number → target (numbering_in s) command ≡ Some u → u < length s.devices → P (accepted number)
+  of_accepted : (number : Option ℕ) (u : ℕ) → IsNext s number → target (with_numbers s.configuration.upses s.numbers) command ≡ Some u → u < length s.devices → P (accepted number)
   of_accepted number u next there within n is = grind arith
 
 -- Each UPS that has a name and a number is there.

@@ -14,13 +14,14 @@ use Rattle.nut_server_spec.specs.Effect.{target, number_in, forced_then, request
 use Rattle.nut_server_spec.specs.Tracking.{with_tracked}
 use Rattle.nut_server_spec.specs.Event.{Event, Moment, Took, Close, DriverUp, DriverTook, DriverDown, Said, Reported, input, taken, driver_input}
 use Rattle.nut_server_spec.specs.Answer.{Answer}
-use Rattle.nut_server_spec.specs.Trace.{Entry, configuration, numbers, numbering, clock, opened, open_numbers, address, user, password, login, logged_out, tracking, given, tracked, due, device, connected, forced, driver_due, driver_taken, driver_waits, ups_numbers, scene, with_request, request_for, ping, pinged_then, pinged_at}
+use Rattle.nut_server_spec.specs.Trace.{Entry, configuration, numbers, numbering, clock, opened, open_numbers, address, user, password, login, logged_out, tracking, given, tracked, due, device, connected, forced, driver_due, driver_taken, driver_waits, ups_numbers, scene, with_request, pinged_at}
 use Rattle.nut_server_spec.specs.Content.{Session, Supply, Content, past, content, session, supply}
 use Rattle.nut_server_spec.specs.laws.Laws.{IsBelow, IsRising}
 use Rattle.nut_server_spec.specs.machine.Machine.{advance, update, with_rest, with_sessions, without, answered, acted, act_on, reported_by, ticked, scene_of}
 use Rattle.nut_server_spec.specs.Numbering.{Kept}
 use Rattle.nut_server_spec.proofs.Numbers.{open_numbers_rise}
 use Rattle.nut_server_spec.proofs.Places.{update-below, map-twice, map-same}
+use Rattle.std.specs.Option.{option_map_or}
 
 -- a session, a UPS and a content, from the past, the unfinished lines and the amounts taken
 abbrev pub session_from : Configuration → List Entry → (ℕ → LineText) → (ℕ → ℕ) → ℕ → Session
@@ -158,7 +159,7 @@ supply_said first t command reply goal reports u = record {
   device = record (device first t u) {
     forced = at_target u goal (forced_then command reply) (forced first u t);
     tracked = at_target u goal (with_tracked (number_in reply)) (tracked first u t);
-    waits = if connected u t then drop (driver_taken u t) (with_request (request_for u goal (request_of command reply)) (driver_due u t)) else [];
+    waits = if connected u t then drop (driver_taken u t) (with_request (at_target u goal (λ none. request_of command reply) None) (driver_due u t)) else [];
   };
   rest = if connected u t then reports u else Text [];
 }
@@ -173,7 +174,7 @@ abbrev pub answered_past : Configuration → List Entry → ℕ → LineText →
 answered_past first t c line reply = record {
   step = Said c line;
   answer = reply;
-  asks = λ u. request_for u (target (numbering first t) (command_of line)) (request_of (command_of line) reply);
+  asks = λ u. at_target u (target (numbering first t) (command_of line)) (λ none. request_of (command_of line) reply) None;
   fate = λ u. Kept;
   closes = λ d. false;
 } ∷ t
@@ -205,8 +206,8 @@ pinged_up age time d needed = grind (arith, cases_Bool)
 abbrev supply_ticked : Configuration → List Entry → ℕ → (ℕ → LineText) → ℕ → Bool → Supply
 supply_ticked first t time reports u needed = record {
   device = record (device first t u) {
-    pinged_at = pinged_then (ping needed) time (pinged_at u t);
-    waits = if connected u t then drop (driver_taken u t) (with_request (ping needed) (driver_due u t)) else [];
+    pinged_at = option_map_or (λ line. Some time) (if needed then Some (ask_line Ping) else None) (pinged_at u t);
+    waits = if connected u t then drop (driver_taken u t) (with_request (if needed then Some (ask_line Ping) else None) (driver_due u t)) else [];
   };
   rest = if connected u t then reports u else Text [];
 }

@@ -1,5 +1,5 @@
 -- Lines of a connection that has logged out change nothing.
-use Rattle.std.proofs.Common.{arith}
+use Rattle.std.proofs.Common.{arith, ◌++◌}
 use Rattle.std.proofs.Common.{◌≡◌, ℕ, Bool, true, false, eqb, List, [], ◌∷◌, drop, refl, ◌∙◌, ap, append-nil, Option, None}
 use Rattle.std.specs.Prelude.{if◌then◌else◌}
 use mathlib.Core.Path.{fun_ext}
@@ -10,8 +10,8 @@ use Rattle.nut_server_spec.specs.Command.{Command, command_of}
 use Rattle.nut_server_spec.specs.Device.{Device}
 use Rattle.nut_server_spec.specs.Event.{Event, Bytes, Step, Said, input, taken, steps, with_lines, brought}
 use Rattle.nut_server_spec.specs.Answer.{Answer, Silence, text_of}
-use Rattle.nut_server_spec.specs.Effect.{user_then, password_then, login_then, logged_out_then, tracking_then, number_in, due_then, target, forced_then, request_of, at_target}
-use Rattle.nut_server_spec.specs.Trace.{Entry, address, user, password, login, logged_out, tracking, tracked, due, connected, reports, heard_at, pinged_at, forced, driver_due, driver_taken, with_request, request_for, answer_to, trace, numbering}
+use Rattle.nut_server_spec.specs.Effect.{user_then, password_then, login_then, logged_out_then, tracking_then, number_in, target, forced_then, request_of, at_target}
+use Rattle.nut_server_spec.specs.Trace.{Entry, address, user, password, login, logged_out, tracking, tracked, due, connected, reports, heard_at, pinged_at, forced, driver_due, driver_taken, with_request, answer_to, trace, numbering}
 use Rattle.nut_server_spec.specs.Tracking.{Tracked, with_tracked}
 use Rattle.nut_server_spec.specs.Content.{Session, past}
 use Rattle.nut_server_spec.specs.laws.Laws.{LogoutIsFinal}
@@ -34,7 +34,7 @@ request-silent command = grind arith
 tracking-silent : (command : Command) (before : Bool) → tracking_then command Silence before ≡ before
 tracking-silent command before = grind arith
 
-due-silent : (command : Command) (before : List ℕ) → due_then command Silence before ≡ before
+due-silent : (command : Command) (before : List ℕ) → before ++ text_of Silence ≡ before
 unfolding text_of
 due-silent command before = append-nil before
 
@@ -47,7 +47,7 @@ target-silent u o command before = grind arith
 followed-silent : (u : ℕ) (o : Option ℕ) (before : List Tracked) → at_target u o (with_tracked (number_in Silence)) before ≡ before
 followed-silent u o before = grind arith
 
-none-for : (u : ℕ) (o : Option ℕ) → request_for u o None ≡ None
+none-for : (u : ℕ) (o : Option ℕ) → at_target {A = Option (List ℕ)} u o (λ before. None) None ≡ None
 none-for u o = grind arith
 
 -- ---- what a past says about connections and drivers
@@ -93,7 +93,7 @@ module _ (first : Configuration) (c : ℕ) (line : LineText) (t : List Entry) wh
   said reply = record {
     step = Said c line;
     answer = reply;
-    asks = λ u. request_for u (target (numbering first t) (command_of line)) (request_of (command_of line) reply);
+    asks = λ u. at_target u (target (numbering first t) (command_of line)) (λ none. request_of (command_of line) reply) None;
     fate = λ u. Kept;
     closes = λ d. false;
   }
@@ -115,7 +115,7 @@ module _ (first : Configuration) (c : ℕ) (line : LineText) (t : List Entry) wh
       ∙ ap (λ f. let r : Known = record n { owed = f; forces = k.forces; asked = k.asked; followed = k.followed } in r) (fun_ext (λ d. either (eqb c d) _ _ (due-silent command (due d t))))
       ∙ ap (λ f. let r : Known = record n { forces = f; asked = k.asked; followed = k.followed } in r) (fun_ext (λ u. target-silent u o command (forced first u t)))
       ∙ ap (λ f. let r : Known = record n { asked = f; followed = k.followed } in r)
-      (fun_ext (λ u. ap (λ q. with_request (request_for u o q) (driver_due u t)) (request-silent command) ∙ ap (λ q. with_request q (driver_due u t)) (none-for u o)))
+      (fun_ext (λ u. ap (λ q. with_request (at_target u o (λ none. q) None) (driver_due u t)) (request-silent command) ∙ ap (λ q. with_request q (driver_due u t)) (none-for u o)))
       ∙ ap (λ f. let r : Known = record n { followed = f } in r) (fun_ext (λ u. followed-silent u o (tracked first u t)))
 
   quiet-entry : logged_out c t ≡ true → known first (said (answer_to first t c line) ∷ t) ≡ known first t

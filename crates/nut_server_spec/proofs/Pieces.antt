@@ -1,14 +1,14 @@
 -- The machine keeps the content when a piece of bytes comes.
-use Rattle.std.proofs.Common.{◌≡◌, ℕ, ◌≤◌, true, false, eqb, List, [], ◌∷◌, ◌++◌, map, length, refl, sym, ◌∙◌, ap, arith, inl, inr, length-append, Option, Some}
+use Rattle.std.proofs.Common.{◌≡◌, ℕ, ◌≤◌, true, false, eqb, List, [], ◌∷◌, ◌++◌, map, length, refl, sym, ◌∙◌, ap, arith, inl, inr, length-append, Option, Some, None}
 use Rattle.std.proofs.lemmas.Bool.{cases_Bool, eqb-true, eqb-false, eq-eqb}
 use Rattle.nut_words.specs.Lines.{LineText, joined, rest}
 use Rattle.nut_words.proofs.StreamGrowth.{rest_at_line_feed, rest_within}
 use Rattle.nut_server_spec.specs.Configuration.{Configuration}
 use Rattle.nut_server_spec.specs.Command.{command_of}
-use Rattle.nut_server_spec.specs.Effect.{target, request_of}
+use Rattle.nut_server_spec.specs.Effect.{target, request_of, at_target}
 use Rattle.nut_server_spec.specs.Event.{Event, Bytes, DriverBytes, Step, Said, Reported, input, driver_input, steps, with_lines, with_reports, brought}
 use Rattle.nut_server_spec.specs.Answer.{text_of}
-use Rattle.nut_server_spec.specs.Trace.{numbering, connected, given, given_then, open_numbers, due, driver_due, ups_numbers, with_request, request_for, trace, answer_to, asks_at}
+use Rattle.nut_server_spec.specs.Trace.{numbering, connected, given, given_then, open_numbers, due, driver_due, ups_numbers, with_request, trace, answer_to, asks_at}
 use Rattle.nut_server_spec.specs.Content.{Session, Content, past, content, session}
 use Rattle.nut_server_spec.specs.Acceptance.{session_of}
 use Rattle.nut_server_spec.specs.machine.Machine.{advance, answer_in, line_heard, update_at, with_rest, with_supplies, after_answer, byte_heard, bytes_heard, byte_reported, bytes_reported}
@@ -53,7 +53,7 @@ law-feed first h c covered drivers there =
     let t = answered_past first p c line reply in
     ap (λ ls. content_from first (trace first (with_lines c ls (steps h))) rests' (takes_of h) (reports_of h)) (brought_line_feed (input c h))
     ∙ ap (λ sessions. record s { given = given_then reply (given p); sessions = sessions; supplies = map (supply_from first t (reports_of h)) (ups_numbers first p) })
-    (said_sessions first p c line reply (λ u. request_for u (target (numbering first p) (command_of line)) (request_of (command_of line) reply))
+    (said_sessions first p c line reply (λ u. at_target u (target (numbering first p) (command_of line)) (λ none. request_of (command_of line) reply) None)
     (rests_of h) rests' (takes_of h) covered (rests_other h c (10 ∷ [])) (rests_self h c (10 ∷ []) ∙ rest_at_line_feed (input c h)))
     ∙ ap (λ supplies. record (after_answer c (command_of line) reply s) { supplies = supplies }) (said_supplies first p c line reply (reports_of h) drivers)
     ∙ ap (λ r. after_answer c (command_of line) r s) (answer_is first h c line)

@@ -13,8 +13,9 @@ use Rattle.nut_state.specs.Table.{variable, has_command}
 use Rattle.nut_server_spec.specs.Configuration.{User, user_named, may_command}
 use Rattle.nut_server_spec.specs.Command.{Command, Asks}
 use Rattle.nut_server_spec.specs.Device.{Device, trouble, fits}
-use Rattle.nut_server_spec.specs.Answer.{Answer, Silence, Scene, Caller, refused, require, check, unless, with_credentials, with_right, on_data, device_at, has_right, may_set, misfit, parameter_misfit, numbered, accepted, handed_on, set_answer, command_answer, answer, ups_number, numbering_in}
+use Rattle.nut_server_spec.specs.Answer.{Answer, Silence, Scene, Caller, refused, require, check, unless, with_credentials, with_right, on_data, device_at, has_right, may_set, misfit, parameter_misfit, numbered, accepted, handed_on, set_answer, command_answer, answer, ups_number}
 use Rattle.nut_server_spec.specs.Effect.{target, request_of}
+use Rattle.nut_server_spec.specs.Numbering.{with_numbers}
 
 -- ---- what holds of every refusal, and of the next step of a test, holds of the answer
 
@@ -95,7 +96,7 @@ command-fits s k ups name parameter v place line =
 
 -- A line's request to a driver fits behind what waits for it. The line of a client that has logged out makes no
 -- request.
-pub asked-fits : (s : Scene) (k : Caller) (command : Command) (v : ℕ) (out : Bool) → target (numbering_in s) command ≡ Some v → (line : List ℕ)
+pub asked-fits : (s : Scene) (k : Caller) (command : Command) (v : ℕ) (out : Bool) → target (with_numbers s.configuration.upses s.numbers) command ≡ Some v → (line : List ℕ)
     → request_of command (if out then Silence else answer s k command) ≡ Some line → fits line (device_at s v) ≡ true
 asked-fits s k command v out goal line is = grind (arith, set-fits, command-fits)
 

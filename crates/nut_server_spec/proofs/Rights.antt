@@ -14,7 +14,7 @@ use Rattle.nut_server_spec.specs.Configuration.{User, Configuration, user_named,
 use Rattle.nut_server_spec.specs.Effect.{at_target, forced_then, login_then, password_then, request_of, user_then}
 use Rattle.nut_server_spec.specs.Numbering.{Numbering}
 use Rattle.nut_server_spec.specs.Event.{Step, Said}
-use Rattle.nut_server_spec.specs.Trace.{Entry, asks_at, closes_at, fate_at, request_for, after_line, answer_at, answer_to, caller, configuration, logged_out, password, scene, trace, user}
+use Rattle.nut_server_spec.specs.Trace.{Entry, asks_at, closes_at, fate_at, after_line, answer_at, answer_to, caller, configuration, logged_out, password, scene, trace, user}
 use Rattle.nut_server_spec.specs.laws.Rights.{AtEach, HasRight, HasSaid, ActsRightly, GrantsRightly, IsIdle, NothingWithoutTheRight, grants, right_for}
 
 some-same : {A : Type 0} {x y : A} → Some x ≡ Some y → x ≡ y
@@ -160,7 +160,7 @@ idle-or-granted (Asks (requests.Fsd ups)) (Line replies.FsdSet) = inr (requests.
 idle-or-granted command (Line replies.Goodbye) = inl (record { request = refl; forces = λ before. refl; logs_in = λ now before. inr refl })
 idle-or-granted command reply = inl (record { request = refl; forces = λ before. refl; logs_in = λ now before. inl refl })
 
-no-request : (u : ℕ) (o : Option ℕ) → request_for u o None ≡ None
+no-request : (u : ℕ) (o : Option ℕ) → at_target {A = Option (List ℕ)} u o (λ before. None) None ≡ None
 no-request u o = grind (arith, cases_Bool)
 
 at_target-same : (u : ℕ) (o : Option ℕ) (change : Bool → Bool) (before : Bool) → change before ≡ before → at_target u o change before ≡ before

@@ -13,11 +13,12 @@ use Rattle.nut_server_spec.specs.Event.{Event, Bytes, Took, DriverBytes, Step, S
 use Rattle.nut_server_spec.specs.Answer.{text_of}
 use Rattle.nut_server_spec.specs.Trace.{due, trace, answer_to}
 use Rattle.nut_server_spec.specs.Content.{Session, Content, past, content, sent, waits}
-use Rattle.nut_server_spec.specs.Acceptance.{refusal, IsAccepted, Tells, session_of, took_refusal, waiting_in, waiting_of, lost, lost_report}
+use Rattle.nut_server_spec.specs.Acceptance.{refusal, IsAccepted, Tells, session_of, took_refusal, waiting_in, waiting_of}
 use Rattle.nut_server_spec.specs.Outcome.{after_refusal}
 use Rattle.nut_server_spec.specs.laws.Laws.{received, SentIsReceived, SentAndWaitingIsDue, SentIsFrontOfDue}
 use Rattle.nut_server_spec.proofs.Pieces.{IsCovered}
 use Rattle.nut_server_spec.proofs.Kept.{session_is, all_covered, due_reports}
+use Rattle.nut_server_spec.specs.machine.MachineOutcome.{lost, lost_report}
 
 -- how many bytes c takes in an event
 abbrev pub taken_by : ℕ → Event → ℕ

@@ -1,8 +1,8 @@
 -- What a server holds after an event and its answer is the content of the history after it.
-use Rattle.std.proofs.Common.{◌≡◌, ℕ, zero, suc, ◌≤◌, false, eqb, ltb, List, [], ◌∷◌, length, refl, sym, ◌∙◌, ap, arith, inl, inr, Option, Some, None, subst}
+use Rattle.std.proofs.Common.{◌≡◌, ℕ, zero, suc, ◌≤◌, false, eqb, ltb, List, [], ◌∷◌, length, refl, sym, ◌∙◌, ap, arith, inl, inr, Option, Some, None, subst, Bool}
 use Rattle.std.specs.Prelude.{Result, Ok, Err, IsTrue, option_map, slice_get}
 use Rattle.std.specs.Option.{option_map_or}
-use Rattle.nut_words.specs.Lines.{LineText, lines_after}
+use Rattle.nut_words.specs.Lines.{LineText, lines_after, Text}
 use Rattle.std.proofs.lemmas.Bool.{cases_Bool, ltb-false, le-ltb}
 use Rattle.nut_words.specs.declared.limits.TheConstants.{PIECE_MAX}
 use Rattle.nut_server_spec.specs.declared.Place.{Place}
@@ -12,10 +12,10 @@ use Rattle.nut_server_spec.specs.declared.Refused.TheVariants.{Memory}
 use Rattle.nut_server_spec.specs.Configuration.{Configuration}
 use Rattle.nut_server_spec.specs.Event.{Event, Bytes, Close, DriverBytes, DriverDown}
 use Rattle.nut_server_spec.specs.Content.{Session, Supply, Content, content, supply, past}
-use Rattle.nut_server_spec.specs.Acceptance.{refusal, IsAccepted, Tells, front, lost, lost_report, session_of, supply_of, bytes_refusal, close_refusal, report_refusal, down_refusal}
+use Rattle.nut_server_spec.specs.Acceptance.{refusal, IsAccepted, Tells, front, session_of, supply_of, bytes_refusal, close_refusal, report_refusal, down_refusal}
 use Rattle.nut_server_spec.specs.machine.Machine.{advance, bytes_reported, with_supplies}
-use Rattle.nut_server_spec.specs.Outcome.{IsAnswer, IsRefusal, MayLack, MayRunOut, MayRunOutOf, after, after_refusal, after_lack, line_takes, report_takes, unfinished_of, unfinished_report}
-use Rattle.nut_server_spec.specs.machine.MachineOutcome.{Answers, Refuses, Lacks, RunsOut, RunsOutOf, supply_after, content_after, content_after_refusal, content_after_lack, content_lost, content_lost_report}
+use Rattle.nut_server_spec.specs.Outcome.{IsAnswer, IsRefusal, MayLack, MayRunOut, MayRunOutOf, after, after_refusal, after_lack, line_takes, text_takes}
+use Rattle.nut_server_spec.specs.machine.MachineOutcome.{Answers, Refuses, Lacks, RunsOut, RunsOutOf, supply_after, content_after, content_after_refusal, content_after_lack, content_lost, content_lost_report, unfinished_of, lost, lost_report}
 use Rattle.nut_server_spec.proofs.Kept.{keeps-content}
 use Rattle.nut_server_spec.proofs.Places.{update_at-none, below-length}
 use Rattle.nut_server_spec.proofs.Sessions.{bytes_heard-open, IsOpen}
@@ -135,8 +135,9 @@ runs_out first h s c piece (suc k) told accepted may =
 -- the same of a driver's line, and of its UPS before and behind the lines before it
 abbrev ReportTakes : List ℕ → ℕ → Option Supply → Option Supply → Type 0
 ReportTakes piece k before behind =
-    let lines : List LineText = lines_after (unfinished_report before) piece in
-    IsTrue (option_map_or (λ line. report_takes line behind) (slice_get lines k) false)
+    let lines : List LineText = lines_after (option_map_or (λ d. d.rest) before (Text [])) piece in
+    let takes : LineText → Bool = λ line. option_map_or (λ d. text_takes line d.device.table) behind false in
+    IsTrue (option_map_or takes (slice_get lines k) false)
 
 -- no line changes nothing
 supply_first : (time : ℕ) (piece : List ℕ) (o : Option Supply) → supply_after time piece zero o ≡ o

@@ -1,6 +1,7 @@
 -- Which events a server refuses, in the order of its tests, and the histories without a refused event.
 use Rattle.std.specs.Prelude.{ℕ, zero, suc, ◌≡◌, ◌==◌, nat_lt, nat_le, Bool, true, false, not, ◌&&◌, if◌then◌else◌, List, [], ◌∷◌, length, find, slice_get, Option, Some, None, is_some}
 use Rattle.std.specs.List.{list_all}
+use Rattle.std.specs.Option.{option_map_or}
 use Rattle.nut_words.specs.Bytes.{line_feed}
 use Rattle.nut_words.specs.Spelling.{is_bare}
 use Rattle.nut_words.specs.Cutter.{kept_of}
@@ -50,11 +51,6 @@ abbrev pub close_refusal : Option Session → Option Refused
 close_refusal None = Some NoSuchConnection
 close_refusal (Some k) = None
 
--- Why a driver can't be connected: no UPS has this number.
-abbrev pub up_refusal : Bool → Option Refused
-up_refusal true = None
-up_refusal false = Some NotConnected
-
 -- Why a piece of a driver is refused: there is no such UPS, its driver isn't connected, or the piece has more than
 -- PIECE_MAX bytes.
 abbrev pub report_refusal : List ℕ → Option Supply → Option Refused
@@ -84,7 +80,7 @@ refusal s (Bytes c piece) = bytes_refusal piece (session_of c s.sessions)
 refusal s (Took c n) = took_refusal n (session_of c s.sessions)
 refusal s (Close c) = close_refusal (session_of c s.sessions)
 refusal s (WriteFailed c) = close_refusal (session_of c s.sessions)
-refusal s (DriverUp u) = up_refusal (is_taken u s.numbers)
+refusal s (DriverUp u) = if is_taken u s.numbers then None else Some NotConnected
 refusal s (DriverBytes u piece) = report_refusal piece (supply_of u s.supplies)
 refusal s (DriverTook u n) = drain_refusal n (supply_of u s.supplies)
 refusal s (DriverDown u) = down_refusal (supply_of u s.supplies)
@@ -114,14 +110,6 @@ abbrev pub behind_report : ℕ → List ℕ → ℕ → List Event → List Even
 behind_report u piece zero h = h
 behind_report u piece (suc k) h = DriverBytes u (front (suc k) piece) ∷ h
 
--- The history after memory ran out behind k lines of a piece: of c, which is then closed; or of the driver of u, which is
--- then disconnected.
-abbrev pub lost : ℕ → List ℕ → ℕ → List Event → List Event
-lost c piece k h = Close c ∷ behind c piece k h
-
-abbrev pub lost_report : ℕ → List ℕ → ℕ → List Event → List Event
-lost_report u piece k h = DriverDown u ∷ behind_report u piece k h
-
 -- how many lines a piece completes: the number of its line feeds
 abbrev pub line_feeds : List ℕ → ℕ
 line_feeds [] = 0
@@ -148,22 +136,15 @@ leaves (Some k) = (length k.waits == 0) && k.logged_out
 
 -- whether a connection is open and its client is logged in to a UPS
 abbrev pub has_login : Option Session → Bool
-has_login None = false
-has_login (Some k) = is_some k.login
+has_login found = option_map_or (λ k. is_some k.login) found false
 
 -- how many bytes of an unfinished line are kept: none if the connection isn't open
 abbrev pub kept : Option Session → ℕ
-kept None = 0
-kept (Some k) = kept_of k.rest
-
--- the bytes that wait for the driver of a UPS: none if there is no such UPS
-abbrev pub asks_in : Option Supply → List ℕ
-asks_in None = []
-asks_in (Some d) = d.device.waits
+kept found = option_map_or (λ k. kept_of k.rest) found 0
 
 -- the bytes that wait for the driver of the UPS u: none if there is no such UPS
 abbrev pub asks_of : ℕ → List Supply → List ℕ
-asks_of u supplies = asks_in (supply_of u supplies)
+asks_of u supplies = option_map_or (λ d. d.device.waits) (supply_of u supplies) []
 
 -- whether the driver of a UPS is connected: false if there is no such UPS
 abbrev pub is_connected : Option Supply → Bool

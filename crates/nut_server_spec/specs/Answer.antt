@@ -75,13 +75,9 @@ pub record Caller : Type 0 where
 abbrev pub refused : Refusal → Answer
 refused refusal = Line (replies.Refused refusal)
 
--- the UPSes and their numbers
-abbrev pub numbering_in : Scene → Numbering
-numbering_in s = with_numbers s.configuration.upses s.numbers
-
 -- the number of the UPS with this name, if there is one
 abbrev pub ups_number : Scene → List ℕ → Option ℕ
-ups_number s name = number_of name (numbering_in s)
+ups_number s name = number_of name (with_numbers s.configuration.upses s.numbers)
 
 -- the UPS with this number, or one without a driver if there is none
 abbrev pub device_at : Scene → ℕ → Device
@@ -160,7 +156,6 @@ abbrev pub with_right : Scene → Caller → (User → Bool) → List ℕ → (�
 with_right s k right name next = with_credentials k (λ user password.
     on_ups s name (λ u. check refusals.AccessDenied (has_right right password (user_named user s.configuration.users)) (next u)))
 
--- whether this is the role `primary`
 abbrev pub is_primary : Option Role → Bool
 is_primary (Some roles.Primary) = true
 is_primary role = false
@@ -187,17 +182,12 @@ may_set user = may_act actions.Set user
 abbrev pub shown : Device → Entry → List ℕ
 shown d v = if d.forced && bytes_eq v.name (codes "ups.status") then codes "FSD " ++ v.value else v.value
 
--- Whether a list is empty.
-abbrev pub is_empty : {A : Type 0} → List A → Bool
-is_empty [] = true
-is_empty (x ∷ xs) = false
-
 -- The kind of a variable. If it has enum values it is an enum, else if it has ranges it is a range, else if it has the
 -- flag STRING it is a text of at most `aux` bytes, else it is a number.
 abbrev pub kind_of : Entry → VariableKind
 kind_of v =
-    if not (is_empty v.enums) then kinds.Enum else
-    if not (is_empty v.ranges) then kinds.Range else
+    if not (length v.enums == 0) then kinds.Enum else
+    if not (length v.ranges == 0) then kinds.Range else
     if v.flags.string then kinds.String v.aux else kinds.Number
 
 -- whether a login is one to the UPS u
@@ -215,25 +205,12 @@ guests_of u guests = filter (λ g. is_logged_in u g.login) guests
 abbrev pub var_row : List ℕ → Device → Entry → Reply
 var_row ups d v = replies.Var ups v.name (shown d v)
 
--- a row of LIST RW
-abbrev pub rw_row : List ℕ → Device → Entry → Reply
-rw_row ups d v = replies.Rw ups v.name (shown d v)
-
--- the answer to GET TYPE
-abbrev pub type_reply : List ℕ → Entry → Reply
-type_reply ups v = replies.Type ups v.name v.flags.writable (kind_of v)
-
--- the answer to GET UPSDESC: `UNKNOWN-UPS` if there is no UPS of this name
-abbrev pub described : List ℕ → Option Ups → Answer
-described name None = refused refusals.UnknownUps
-described name (Some ups) = Line (replies.UpsDesc name ups.description)
-
--- the answer to LIST
 abbrev pub list_answer : Scene → ListQuery → Answer
 list_answer s queries.Ups = Listing queries.Ups (map (λ ups. replies.Ups ups.name ups.description) s.configuration.upses)
 list_answer s (queries.Var ups) = on_device s ups (λ d. Listing (queries.Var ups) (map (var_row ups d) d.table.variables))
 list_answer s (queries.Rw ups) =
-    on_device s ups (λ d. Listing (queries.Rw ups) (map (rw_row ups d) (filter (λ v. v.flags.writable) d.table.variables)))
+    on_device s ups (λ d. Listing (queries.Rw ups)
+    (map (λ v. replies.Rw ups v.name (shown d v)) (filter (λ v. v.flags.writable) d.table.variables)))
 list_answer s (queries.Cmd ups) = on_device s ups (λ d. Listing (queries.Cmd ups) (map (λ k. replies.Cmd ups k) d.table.commands))
 list_answer s (queries.Enum ups name) =
     on_device s ups (λ d. on_variable name d (λ v. Listing (queries.Enum ups name) (map (λ x. replies.Enum ups name x) v.enums)))
@@ -248,15 +225,11 @@ list_answer s (queries.Client ups) =
 abbrev pub is_in_range : ℤ → Range → Bool
 is_in_range n range = int_le range.minimum n && int_le n range.maximum
 
--- whether there is a number and it is in one of the ranges
-abbrev pub is_in_ranges : Option ℤ → List Range → Bool
-is_in_ranges None ranges = false
-is_in_ranges (Some n) ranges = list_any (is_in_range n) ranges
-
 -- why a variable doesn't allow a value that isn't too long, by the kind of the variable
 abbrev pub misfit_by : VariableKind → Entry → List ℕ → Option Refusal
 misfit_by kinds.Enum v value = if lists_enum value v.enums then None else Some refusals.InvalidValue
-misfit_by kinds.Range v value = if is_in_ranges (whole_number value) v.ranges then None else Some refusals.InvalidValue
+misfit_by kinds.Range v value =
+    if option_map_or (λ n. list_any (is_in_range n) v.ranges) (whole_number value) false then None else Some refusals.InvalidValue
 misfit_by (kinds.String most) v value = if nat_lt most (length value) then Some refusals.TooLong else None
 misfit_by kinds.Number v value = None
 
@@ -286,33 +259,26 @@ abbrev pub command_answer : Scene → Caller → Device → List ℕ → Option 
 command_answer s k d name parameter =
     on_command name d (unless (parameter_misfit parameter) (handed_on refusals.InstCmdFailed s k (λ number. asks.InstCmd name parameter number) d))
 
--- the answer to SET TRACKING: any client may switch it that gave a user name and a password
-abbrev pub tracking_answer : Caller → Answer
-tracking_answer k = with_credentials k (λ user password. Line replies.Accepted)
-
 -- ---- all requests
-
--- `OK` the first time a user name, or a password, is given; after that the refusal
-abbrev pub once : Refusal → Option (List ℕ) → Answer
-once refusal None = Line replies.Accepted
-once refusal (Some given) = refused refusal
 
 -- The answer to a request: the refusal of the first test that fails, or what was asked for.
 abbrev pub answer_request : Scene → Caller → Request → Answer
 answer_request s k (requests.GetNumLogins ups) = on_ups s ups (λ u. on_data s u (λ d. Line (replies.NumLogins ups (length (guests_of u s.guests)))))
-answer_request s k (requests.GetUpsDesc ups) = described ups (ups_named ups s.configuration.upses)
+answer_request s k (requests.GetUpsDesc name) =
+    require refusals.UnknownUps (ups_named name s.configuration.upses) (λ ups. Line (replies.UpsDesc name ups.description))
 answer_request s k (requests.GetVar ups name) = on_device s ups (λ d. on_variable name d (λ v. Line (var_row ups d v)))
-answer_request s k (requests.GetType ups name) = on_device s ups (λ d. on_variable name d (λ v. Line (type_reply ups v)))
+answer_request s k (requests.GetType ups name) =
+    on_device s ups (λ d. on_variable name d (λ v. Line (replies.Type ups v.name v.flags.writable (kind_of v))))
 answer_request s k (requests.GetDesc ups name) = on_device s ups (λ d. on_variable name d (λ v. Line (replies.Desc ups name (variable_description s.configuration.variable_texts name))))
 answer_request s k (requests.GetCmdDesc ups name) = on_device s ups (λ d. on_command name d (Line (replies.CmdDesc ups name (command_description s.configuration.command_texts name))))
 answer_request s k requests.GetTracking = Line (replies.TrackingIs k.tracking)
 answer_request s k (requests.GetTrackingOf number) = Line (replies.Tracking number (status_of number s.devices))
 answer_request s k (requests.List query) = list_answer s query
 answer_request s k (requests.SetVar ups name value) = with_right s k may_set ups (λ u. on_data s u (λ d. set_answer s k d name value))
-answer_request s k (requests.SetTracking on) = tracking_answer k
+answer_request s k (requests.SetTracking on) = with_credentials k (λ user password. Line replies.Accepted)
 answer_request s k (requests.InstCmd ups name parameter) = with_right s k (may_command name) ups (λ u. on_data s u (λ d. command_answer s k d name parameter))
-answer_request s k (requests.Username name) = once refusals.AlreadySetUsername k.user
-answer_request s k (requests.Password password) = once refusals.AlreadySetPassword k.password
+answer_request s k (requests.Username name) = check refusals.AlreadySetUsername (is_none k.user) (Line replies.Accepted)
+answer_request s k (requests.Password password) = check refusals.AlreadySetPassword (is_none k.password) (Line replies.Accepted)
 answer_request s k (requests.Login ups) = with_right s k may_log_in ups (λ u. check refusals.AlreadyLoggedIn (is_none k.login) (Line replies.Accepted))
 answer_request s k (requests.Primary ups) = with_right s k may_be_primary ups (λ u. Line replies.Accepted)
 answer_request s k (requests.Fsd ups) = with_right s k may_force ups (λ u. Line replies.FsdSet)

@@ -52,11 +52,6 @@ has_password password u = option_map_or (λ own. bytes_eq password own) u.passwo
 abbrev pub may_act : Action → User → Bool
 may_act action u = list_any (λ a. bytes_eq (action_word action) (action_word a)) u.actions
 
--- whether the command is allowed: by `None`, which allows all, or by its name
-abbrev pub covers : List ℕ → Option (List ℕ) → Bool
-covers name None = true
-covers name (Some command) = bytes_eq name command
-
--- whether the user may give the command
+-- whether the user may give the command: one of those allowed is `None`, which allows all, or this command
 abbrev pub may_command : List ℕ → User → Bool
-may_command name u = list_any (covers name) u.commands
+may_command name u = list_any (λ allowed. option_map_or (bytes_eq name) allowed true) u.commands

@@ -7,7 +7,7 @@ use Rattle.nut_proto.specs.declared.driver_ask.DriverAsk.TheVariants as asks
 use Rattle.nut_proto.specs.DriverAsks.{ask_line}
 use Rattle.nut_server_spec.specs.Numbering.{Numbering, number_of}
 use Rattle.nut_server_spec.specs.Command.{Command, Asks}
-use Rattle.nut_server_spec.specs.Answer.{Answer, Line, text_of}
+use Rattle.nut_server_spec.specs.Answer.{Answer, Line}
 
 -- Each function whose name ends in `then` gives a value after a line, from the line's command, its answer and the value
 -- before.
@@ -42,10 +42,6 @@ tracking_then command reply before = before
 abbrev pub number_in : Answer → Option ℕ
 number_in (Line (replies.AcceptedAs number)) = Some number
 number_in reply = None
-
--- all bytes due to a connection: the answers to its lines, joined
-abbrev pub due_then : Command → Answer → List ℕ → List ℕ
-due_then command reply before = before ++ text_of reply
 
 -- the name of the UPS on which a command acts, if it acts on one
 abbrev pub target_name : Command → Option (List ℕ)

@@ -28,10 +28,6 @@ abbrev pub below : ℕ → List ℕ
 below zero = []
 below (suc n) = below n ++ n ∷ []
 
--- the numbers of these UPSes before any reload
-abbrev pub first_numbers : List Ups → List ℕ
-first_numbers upses = below (length upses)
-
 -- ---- a new configuration
 
 -- whether a number is among those that are in use
@@ -93,7 +89,6 @@ by_fate Kept start left before = before
 by_fate Disconnected start left before = left before
 by_fate Cleared start left before = start
 
--- whether a UPS was cleared
 abbrev pub is_cleared : Fate → Bool
 is_cleared Cleared = true
 is_cleared fate = false

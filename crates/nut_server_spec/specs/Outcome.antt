@@ -10,15 +10,14 @@ use Rattle.nut_server_spec.specs.declared.Place.TheVariants.{Line, Report, NewUp
 use Rattle.nut_server_spec.specs.declared.Refused.{Refused}
 use Rattle.nut_server_spec.specs.declared.Refused.TheVariants.{Memory}
 use Rattle.nut_server_spec.specs.Command.{Command, Blank, command_of}
-use Rattle.nut_server_spec.specs.Event.{Event, Bytes, DriverBytes, Reload}
+use Rattle.nut_server_spec.specs.Event.{Event, Bytes, DriverBytes, Reload, Close, DriverDown}
 use Rattle.nut_server_spec.specs.Configuration.{Configuration}
 use Rattle.nut_server_spec.specs.Content.{Session, Supply, content, past}
 use Rattle.nut_server_spec.specs.Trace.{places}
-use Rattle.nut_server_spec.specs.Acceptance.{refusal, behind, behind_report, lost, lost_report, session_of, supply_of}
+use Rattle.nut_server_spec.specs.Acceptance.{refusal, behind, behind_report, session_of, supply_of}
 
 -- ---- where memory may run out
 
--- whether a line says nothing
 abbrev pub is_blank : Command → Bool
 is_blank Blank = true
 is_blank command = false
@@ -35,39 +34,19 @@ abbrev pub text_takes : LineText → Table → Bool
 text_takes (Text line) table = has_backslash line || line_adds table line
 text_takes TooLong table = false
 
--- whether a driver's line may allocate memory, given the UPS
-abbrev pub report_takes : LineText → Option Supply → Bool
-report_takes line None = false
-report_takes line (Some d) = text_takes line d.device.table
-
--- the unfinished line of a connection: empty if it isn't open
-abbrev pub unfinished_of : Option Session → LineText
-unfinished_of None = Text []
-unfinished_of (Some k) = k.rest
-
--- the unfinished line of a driver: empty if there is no such UPS
-abbrev pub unfinished_report : Option Supply → LineText
-unfinished_report None = Text []
-unfinished_report (Some d) = d.rest
-
--- the session of c, and the UPS u, as the history h says them
-abbrev pub session_in : Configuration → List Event → ℕ → Option Session
-session_in first h c = session_of c (content first h).sessions
-
-abbrev pub supply_in : Configuration → List Event → ℕ → Option Supply
-supply_in first h u = supply_of u (content first h).supplies
-
 -- The line with the number k, counted from 0, of those that a piece completes may take memory, after the k lines before
 -- it were done. `MayRunOut` is for a piece of c, `MayRunOutOf` for one of the driver of u.
 abbrev pub MayRunOut : Configuration → List Event → ℕ → List ℕ → ℕ → Type 0
 MayRunOut first h c piece k =
-    let lines : List LineText = lines_after (unfinished_of (session_in first h c)) piece in
-    IsTrue (option_map_or (λ line. line_takes line (session_in first (behind c piece k h) c)) (slice_get lines k) false)
+    let lines : List LineText = lines_after (option_map_or (λ k. k.rest) (session_of c (content first h).sessions) (Text [])) piece in
+    IsTrue (option_map_or (λ line. line_takes line (session_of c (content first (behind c piece k h)).sessions)) (slice_get lines k) false)
 
 abbrev pub MayRunOutOf : Configuration → List Event → ℕ → List ℕ → ℕ → Type 0
 MayRunOutOf first h u piece k =
-    let lines : List LineText = lines_after (unfinished_report (supply_in first h u)) piece in
-    IsTrue (option_map_or (λ line. report_takes line (supply_in first (behind_report u piece k h) u)) (slice_get lines k) false)
+    let lines : List LineText = lines_after (option_map_or (λ d. d.rest) (supply_of u (content first h).supplies) (Text [])) piece in
+    let found : Option Supply = supply_of u (content first (behind_report u piece k h)).supplies in
+    let takes : LineText → Bool = λ line. option_map_or (λ d. text_takes line d.device.table) found false in
+    IsTrue (option_map_or takes (slice_get lines k) false)
 
 -- Memory can run out in a piece, at a line that it completes and that may allocate memory. The k lines before it were
 -- done. It can run out at a reload whose UPSes are more than there are numbers. No other event allocates memory.
@@ -93,8 +72,8 @@ IsAnswer first h e (Err r) = IsRefusal first h e r
 -- The history after memory ran out in a piece: its lines that were done, and then the connection is closed or the
 -- driver disconnected.
 abbrev pub after_lack : Place → Event → List Event → List Event
-after_lack (Line c k) (Bytes d piece) h = lost d piece k h
-after_lack (Report u k) (DriverBytes v piece) h = lost_report v piece k h
+after_lack (Line c k) (Bytes d piece) h = Close d ∷ behind d piece k h
+after_lack (Report u k) (DriverBytes v piece) h = DriverDown v ∷ behind_report v piece k h
 after_lack place e h = h
 
 -- the history after a refusal: only a lack of memory in a piece changes it

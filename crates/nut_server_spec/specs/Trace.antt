@@ -9,12 +9,12 @@ use Rattle.nut_proto.specs.DriverAsks.{ask_line}
 use Rattle.nut_server_spec.specs.Configuration.{Configuration}
 use Rattle.nut_server_spec.specs.Command.{Command, command_of}
 use Rattle.nut_server_spec.specs.Event.{Step, Clock, Opened, Said, Gone, Up, Reported, Drained, Down, Reloaded}
-use Rattle.nut_server_spec.specs.Numbering.{Numbering, with_numbers, Fate, Kept, below, first_numbers, renumbered, fate_of, by_fate, is_to_cleared}
+use Rattle.nut_server_spec.specs.Numbering.{Numbering, with_numbers, Fate, Kept, below, renumbered, fate_of, by_fate, is_to_cleared}
 use Rattle.std.specs.Option.{option_map_or}
 use Rattle.nut_server_spec.specs.Tracking.{Tracked, told_in, with_tracked, all_ended_by, all_abandoned}
 use Rattle.nut_server_spec.specs.Device.{Device, needs_ping}
-use Rattle.nut_server_spec.specs.Answer.{Answer, Silence, Scene, Caller, Guest, answer}
-use Rattle.nut_server_spec.specs.Effect.{user_then, password_then, login_then, logged_out_then, tracking_then, number_in, due_then, target, forced_then, request_of, at_target}
+use Rattle.nut_server_spec.specs.Answer.{Answer, Silence, Scene, Caller, Guest, answer, text_of}
+use Rattle.nut_server_spec.specs.Effect.{user_then, password_then, login_then, logged_out_then, tracking_then, number_in, target, forced_then, request_of, at_target}
 
 -- A step; the answer to it, which is silence if the step is no line of a client; its request to the driver of each UPS, and
 -- what it makes of each UPS, by the number of the UPS; and whether it closes a connection besides the one that it
@@ -45,7 +45,7 @@ renumbered_by step before = before.numbers
 
 -- the numbers of the UPSes after this past, in the order of the configuration
 abbrev pub numbers : Configuration → List Entry → List ℕ
-numbers first [] = first_numbers first.upses
+numbers first [] = below (length first.upses)
 numbers first (e ∷ past) =
     renumbered_by e.step (with_numbers (configuration first past).upses (numbers first past))
 
@@ -122,27 +122,22 @@ abbrev pub after_line : {A : Type 0} → (Command → Answer → A → A) → �
 after_line change c (Said d line) reply before = if d == c then change (command_of line) reply before else before
 after_line change c step reply before = before
 
--- the user name that c gave
 abbrev pub user : ℕ → List Entry → Option (List ℕ)
 user c [] = None
 user c (e ∷ past) = after_line user_then c e.step e.answer (user c past)
 
--- the password that c gave
 abbrev pub password : ℕ → List Entry → Option (List ℕ)
 password c [] = None
 password c (e ∷ past) = after_line password_then c e.step e.answer (password c past)
 
--- the UPS that c is logged in to
 abbrev pub login : Configuration → ℕ → List Entry → Option ℕ
 login first c [] = None
 login first c (e ∷ past) = after_line (login_then (numbering first past)) c e.step e.answer (login first c past)
 
--- whether c has logged out
 abbrev pub logged_out : ℕ → List Entry → Bool
 logged_out c [] = false
 logged_out c (e ∷ past) = after_line logged_out_then c e.step e.answer (logged_out c past)
 
--- whether the requests of c are tracked
 abbrev pub tracking : ℕ → List Entry → Bool
 tracking c [] = false
 tracking c (e ∷ past) = after_line tracking_then c e.step e.answer (tracking c past)
@@ -150,7 +145,7 @@ tracking c (e ∷ past) = after_line tracking_then c e.step e.answer (tracking c
 -- the answers to the lines of c, joined: all bytes due to it
 abbrev pub due : ℕ → List Entry → List ℕ
 due c [] = []
-due c (e ∷ past) = after_line due_then c e.step e.answer (due c past)
+due c (e ∷ past) = after_line (λ command reply before. before ++ text_of reply) c e.step e.answer (due c past)
 
 -- ---- a UPS and its driver
 
@@ -198,15 +193,10 @@ abbrev pub heard_at : ℕ → List Entry → ℕ
 heard_at u [] = 0
 heard_at u (e ∷ past) = by_fate (e.fate u) 0 (λ before. before) (heard_after u e.step (clock past) (heard_at u past))
 
--- the moment of the last PING: `time` if a PING is sent at it, else the moment before
-abbrev pub pinged_then : Option (List ℕ) → ℕ → Option ℕ → Option ℕ
-pinged_then None time before = before
-pinged_then (Some line) time before = Some time
-
 -- the moment of the last PING to the driver of u since it was connected, after a step
 abbrev pub pinged_after : ℕ → Step → Option (List ℕ) → ℕ → Option ℕ → Option ℕ
 pinged_after u (Up v) asked time before = if v == u then None else before
-pinged_after u (Clock t) asked time before = pinged_then asked (max time t) before
+pinged_after u (Clock t) asked time before = option_map_or (λ line. Some (max time t)) asked before
 pinged_after u step asked time before = before
 
 -- the moment of the last PING to the driver of u since it was connected, if there was one
@@ -297,10 +287,6 @@ device first past u = record {
 abbrev pub ups_numbers : Configuration → List Entry → List ℕ
 ups_numbers first past = below (places first past)
 
--- what the server knows of the connection c when a line is answered
-abbrev pub guest : Configuration → List Entry → ℕ → Guest
-guest first past c = record { address = address c past; login = login first c past }
-
 -- what the server knows when it answers a line after this past
 abbrev pub scene : Configuration → List Entry → Scene
 scene first past = record {
@@ -309,7 +295,7 @@ scene first past = record {
   clock = clock past;
   given = given past;
   devices = map (device first past) (ups_numbers first past);
-  guests = map (guest first past) (open_numbers past);
+  guests = map (λ c. record { address = address c past; login = login first c past }) (open_numbers past);
 }
 
 -- what the server knows of the connection c when it answers a line of c
@@ -326,23 +312,14 @@ abbrev pub answer_at : Configuration → List Entry → Step → Answer
 answer_at first past (Said c line) = answer_to first past c line
 answer_at first past step = Silence
 
--- PING, if it is needed
-abbrev pub ping : Bool → Option (List ℕ)
-ping needed = if needed then Some (ask_line Ping) else None
-
--- a request, if it is for the driver of u
-abbrev pub request_for : ℕ → Option ℕ → Option (List ℕ) → Option (List ℕ)
-request_for u None request = None
-request_for u (Some v) request = if v == u then request else None
-
 -- The request of a step to the driver of u: PING at a moment if it is needed, DUMPALL when the driver is connected, and
 -- the SET or INSTCMD of a client's line.
 abbrev pub asks_at : Configuration → List Entry → Step → ℕ → Option (List ℕ)
 asks_at first past (Clock t) u =
-    ping (needs_ping (configuration first past).max_age (max (clock past) t) (device first past u))
+    if needs_ping (configuration first past).max_age (max (clock past) t) (device first past u) then Some (ask_line Ping) else None
 asks_at first past (Up v) u = if v == u then Some (ask_line DumpAll) else None
 asks_at first past (Said c line) u =
-    request_for u (target (numbering first past) (command_of line)) (request_of (command_of line) (answer_to first past c line))
+    at_target u (target (numbering first past) (command_of line)) (λ none. request_of (command_of line) (answer_to first past c line)) None
 asks_at first past step u = None
 
 -- what a step makes of the UPS u after this past

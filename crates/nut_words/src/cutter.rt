@@ -20,7 +20,7 @@ pub enum Line<'a> {
 
 /// What the kept bytes are.
 #[derive(Clone, Copy)]
-enum Stage {
+enum LineStage {
     /// The unfinished line.
     Growing,
     /// The first bytes of an unfinished line that is too long.
@@ -36,7 +36,7 @@ enum Stage {
 #[derive(Drop)]
 pub struct LineCutter {
     kept: ArrayVec<u8, LINE_MAX>,
-    stage: Stage,
+    stage: LineStage,
 }
 
 impl Model for LineCutter {
@@ -56,7 +56,7 @@ impl LineCutter {
     {
         LineCutter {
             kept: ArrayVec::new(),
-            stage: Stage::Growing,
+            stage: LineStage::Growing,
         }
     }
 
@@ -66,8 +66,8 @@ impl LineCutter {
         ensures most { result ≤ LINE_MAX }
     {
         match self.stage {
-            Stage::Growing => self.kept.len(),
-            Stage::Overlong | Stage::HandedOut => 0,
+            LineStage::Growing => self.kept.len(),
+            LineStage::Overlong | LineStage::HandedOut => 0,
         }
     }
 
@@ -76,9 +76,9 @@ impl LineCutter {
         ensures { IsTrue result ↔ (self.now ≡ Text []) }
     {
         match self.stage {
-            Stage::Growing => self.kept.is_empty(),
-            Stage::Overlong => false,
-            Stage::HandedOut => true,
+            LineStage::Growing => self.kept.is_empty(),
+            LineStage::Overlong => false,
+            LineStage::HandedOut => true,
         }
     }
 
@@ -87,18 +87,18 @@ impl LineCutter {
         ensures { self.new ≡ joined self.old text.now }
     {
         match self.stage {
-            Stage::Growing => {
+            LineStage::Growing => {
                 if self.kept.try_extend_from_slice(text).is_err() {
-                    self.stage = Stage::Overlong;
+                    self.stage = LineStage::Overlong;
                 }
             }
-            Stage::Overlong => {}
-            Stage::HandedOut => {
+            LineStage::Overlong => {}
+            LineStage::HandedOut => {
                 self.kept.clear();
                 self.stage = if self.kept.try_extend_from_slice(text).is_ok() {
-                    Stage::Growing
+                    LineStage::Growing
                 } else {
-                    Stage::Overlong
+                    LineStage::Overlong
                 };
             }
         }
@@ -127,12 +127,12 @@ impl LineCutter {
         }
         self.keep(front);
         let stage = self.stage;
-        self.stage = Stage::HandedOut;
+        self.stage = LineStage::HandedOut;
         let kept = &self.kept;
         let line = match stage {
-            Stage::Growing => Line::Text(kept.as_slice()),
-            Stage::Overlong => Line::TooLong,
-            Stage::HandedOut => Line::Text(&[]),
+            LineStage::Growing => Line::Text(kept.as_slice()),
+            LineStage::Overlong => Line::TooLong,
+            LineStage::HandedOut => Line::Text(&[]),
         };
         (Some(line), at + 1)
     }

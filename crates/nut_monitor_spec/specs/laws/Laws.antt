@@ -21,24 +21,12 @@ use Rattle.nut_monitor_spec.specs.declared.limits.TheConstants.{NOTICES_MAX}
 abbrev pub IsInTurn : List Asked → List Asked → Type 0
 IsInTurn queries answered = (queries ≡ answered) ⊎ ((newest : Asked) × (queries ≡ newest ∷ answered))
 
--- A link of a MONITOR line is up in the content exactly if it was made and not lost since.
-abbrev pub LinkedIsMade : Type 0
-LinkedIsMade =
-    (configuration : Configuration) (events : List Event) (i : ℕ) → i < length configuration.lines →
-    is_linked (watch_at i (content configuration events).watches) ≡ linked i (trace configuration events)
-
--- What waits on a link of a MONITOR line is what the server hasn't taken of the queries put on it since it was made,
--- joined; nothing if the link isn't up.
-abbrev pub WaitingIsLeft : Type 0
-WaitingIsLeft =
-    (configuration : Configuration) (events : List Event) (i : ℕ) → IsAccepted configuration events → i < length configuration.lines →
-    waiting_on (watch_at i (content configuration events).watches) ≡ waits configuration i (trace configuration events)
-
--- `LinkedIsMade` and `WaitingIsLeft` for every number, also for one that no MONITOR line has, after every history of
--- accepted events.
+-- A link is up in the content exactly if it was made and not lost since: that of a MONITOR line after every history, and
+-- that of any number after every history of accepted events. What waits on it is what the server hasn't taken of the
+-- queries put on it since it was made, joined; nothing if the link isn't up.
 pub record LinksAreTold : Type 0 where
   pub there :
-      (configuration : Configuration) (events : List Event) (i : ℕ) → IsAccepted configuration events →
+      (configuration : Configuration) (events : List Event) (i : ℕ) → (i < length configuration.lines) ⊎ IsAccepted configuration events →
       is_linked (watch_at i (content configuration events).watches) ≡ linked i (trace configuration events)
   pub left :
       (configuration : Configuration) (events : List Event) (i : ℕ) → IsAccepted configuration events →

@@ -3,7 +3,7 @@ use Rattle.std.specs.Prelude.{ℕ, ◌≤◌, ◌<◌, ◌≡◌, true, List, �
 use Rattle.nut_words.specs.declared.limits.TheConstants.{CREDENTIAL_MAX}
 use Rattle.nut_proto.specs.declared.request.Request.TheVariants as requests
 use Rattle.nut_server_spec.specs.Command.{Command, Asks}
-use Rattle.nut_server_spec.specs.Answer.{Answer, Scene, numbering_in}
+use Rattle.nut_server_spec.specs.Answer.{Answer, Scene}
 use Rattle.nut_server_spec.specs.Content.{Session, Supply, Content, numbering_of}
 use Rattle.nut_server_spec.specs.Device.{Device, absent, fits}
 use Rattle.nut_server_spec.specs.Effect.{target}
@@ -12,6 +12,7 @@ use Rattle.nut_server_spec.specs.Tracking.{with_tracked}
 use Rattle.nut_server_spec.specs.machine.Machine.{acted, act_on, answered, requested, update, update_at}
 use Rattle.nut_server.specs.declared.effect.Effect.{Effect}
 use Rattle.nut_server.specs.declared.effect.Effect.TheVariants as effects
+use Rattle.nut_server_spec.specs.Numbering.{with_numbers}
 
 -- ---- what an effect does
 
@@ -61,8 +62,10 @@ IsPossible devices effect line = Unit {0}
 -- the UPSes, and how many numbers are given.
 abbrev pub Does : Scene → Command → Answer → Effect → List ℕ → Type 0
 Does s command reply effect line =
-    ((k : Session) → affected effect k ≡ record (answered (numbering_in s) command reply k) { waits = k.waits })
-    × ((supplies : List Supply) → acting effect line supplies ≡ act_on (target (numbering_in s) command) (acted command reply) supplies)
+    ((k : Session) →
+    affected effect k ≡ record (answered (with_numbers s.configuration.upses s.numbers) command reply k) { waits = k.waits })
+    × ((supplies : List Supply) →
+    acting effect line supplies ≡ act_on (target (with_numbers s.configuration.upses s.numbers) command) (acted command reply) supplies)
     × (given_with (number_of effect) s.given ≡ given_then reply s.given)
 
 -- ---- what a line and its answer change

@@ -7,7 +7,7 @@ use Rattle.nut_state.specs.Table.{Entry}
 use Rattle.nut_proto.specs.declared.reply.Reply.{Reply}
 use Rattle.nut_proto.specs.declared.reply.Reply.TheVariants as replies
 use Rattle.nut_proto.specs.Replies.{reply_line}
-use Rattle.nut_server_spec.specs.Answer.{is_logged_in, rw_row, shown}
+use Rattle.nut_server_spec.specs.Answer.{is_logged_in, shown}
 use Rattle.nut_server_spec.specs.Content.{Session}
 use Rattle.nut_server_spec.specs.Device.{Device}
 
@@ -27,7 +27,7 @@ variable_row is_rw ups d v = value_row is_rw ups v.name (shown d v)
 
 -- the row of a variable in LIST RW, or nothing if clients may not set it
 abbrev pub writable_text : List ℕ → Device → Entry → List ℕ
-writable_text ups d v = if v.flags.writable then reply_line (rw_row ups d v) else []
+writable_text ups d v = if v.flags.writable then reply_line (replies.Rw ups v.name (shown d v)) else []
 
 -- the row of a connection in LIST CLIENT, or nothing if it isn't logged in to the UPS u
 abbrev pub client_text : List ℕ → ℕ → Session → List ℕ

@@ -13,8 +13,8 @@ use Rattle.nut_server_spec.specs.Command.{Command, command_of}
 use Rattle.nut_server_spec.specs.Event.{Event, Moment, Open, Bytes, Took, Close, WriteFailed, DriverUp, DriverBytes, DriverTook, DriverDown, Reload}
 use Rattle.nut_server_spec.specs.Tracking.{told_in, with_tracked, all_ended_by, all_abandoned}
 use Rattle.nut_server_spec.specs.Device.{Device, needs_ping}
-use Rattle.nut_server_spec.specs.Answer.{Answer, Silence, Guest, Scene, Caller, answer}
-use Rattle.nut_server_spec.specs.Effect.{user_then, password_then, login_then, logged_out_then, tracking_then, number_in, due_then, target, forced_then, request_of}
+use Rattle.nut_server_spec.specs.Answer.{Answer, Silence, Guest, Scene, Caller, answer, text_of}
+use Rattle.nut_server_spec.specs.Effect.{user_then, password_then, login_then, logged_out_then, tracking_then, number_in, target, forced_then, request_of}
 use Rattle.nut_server_spec.specs.Trace.{given_then, is_heard, with_request}
 use Rattle.nut_server_spec.specs.Content.{Session, Supply, Content, content, down, fresh, numbering_of, unheard}
 use Rattle.nut_server_spec.specs.Acceptance.{IsAccepted, session_of}
@@ -75,7 +75,7 @@ answered now command reply k = record {
   logged_out = logged_out_then command reply k.logged_out;
   tracking = tracking_then command reply k.tracking;
   rest = k.rest;
-  waits = due_then command reply k.waits;
+  waits = k.waits ++ text_of reply;
 }
 
 -- the requests that wait for a driver, with one more at their end if there is one and the driver is connected

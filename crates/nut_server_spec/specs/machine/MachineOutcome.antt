@@ -1,8 +1,8 @@
 -- How the machine answers an event, and the content after it: the twin of `Outcome`, whose histories it doesn't know. Who
 -- believes `Outcome` needn't believe this file.
-use Rattle.std.specs.Prelude.{◌≡◌, ℕ, ◌<◌, length, false, IsTrue, List, slice_get, Option, Some, None, Result, Ok, Err}
+use Rattle.std.specs.Prelude.{◌≡◌, ℕ, ◌<◌, length, Bool, false, IsTrue, List, [], slice_get, Option, Some, None, Result, Ok, Err, ◌∷◌}
 use Rattle.std.specs.Option.{option_map_or}
-use Rattle.nut_words.specs.Lines.{LineText, lines_after}
+use Rattle.nut_words.specs.Lines.{LineText, Text, lines_after}
 use Rattle.nut_server_spec.specs.declared.Place.{Place}
 use Rattle.nut_server_spec.specs.declared.Place.TheVariants.{Line, Report, NewUpses}
 use Rattle.nut_server_spec.specs.declared.Refused.{Refused}
@@ -10,8 +10,8 @@ use Rattle.nut_server_spec.specs.declared.Refused.TheVariants.{Memory}
 use Rattle.nut_server_spec.specs.Configuration.{Configuration}
 use Rattle.nut_server_spec.specs.Event.{Event, Bytes, Close, DriverBytes, DriverDown, Reload}
 use Rattle.nut_server_spec.specs.Content.{Session, Supply, Content}
-use Rattle.nut_server_spec.specs.Acceptance.{Tells, refusal, front, session_of, supply_of}
-use Rattle.nut_server_spec.specs.Outcome.{IsAnswer, after, line_takes, report_takes, unfinished_of, unfinished_report}
+use Rattle.nut_server_spec.specs.Acceptance.{Tells, refusal, front, session_of, supply_of, behind, behind_report}
+use Rattle.nut_server_spec.specs.Outcome.{IsAnswer, after, line_takes, text_takes}
 use Rattle.nut_server_spec.specs.machine.Machine.{advance, bytes_heard, bytes_reported}
 
 -- the session of c, and a UPS, after the first k lines that a piece completes
@@ -22,6 +22,10 @@ abbrev pub supply_after : ℕ → List ℕ → ℕ → Option Supply → Option 
 supply_after time piece k None = None
 supply_after time piece k (Some d) = Some (bytes_reported time (front k piece) d)
 
+-- the unfinished line of a connection: empty if it isn't open
+abbrev pub unfinished_of : Option Session → LineText
+unfinished_of o = option_map_or (λ k. k.rest) o (Text [])
+
 -- The line with the number k, counted from 0, of those that a piece completes may take memory.
 abbrev pub RunsOut : ℕ → List ℕ → ℕ → Content → Type 0
 RunsOut c piece k s =
@@ -30,8 +34,9 @@ RunsOut c piece k s =
 
 abbrev pub RunsOutOf : ℕ → List ℕ → ℕ → Option Supply → Type 0
 RunsOutOf time piece k o =
-    let lines : List LineText = lines_after (unfinished_report o) piece in
-    IsTrue (option_map_or (λ line. report_takes line (supply_after time piece k o)) (slice_get lines k) false)
+    let lines : List LineText = lines_after (option_map_or (λ d. d.rest) o (Text [])) piece in
+    let takes : LineText → Bool = λ line. option_map_or (λ d. text_takes line d.device.table) (supply_after time piece k o) false in
+    IsTrue (option_map_or takes (slice_get lines k) false)
 
 -- Memory may run out in a piece, behind k lines of it that were done, at one that it completes and that may take memory,
 -- and at a reload whose UPSes are more than there are numbers. All other events take none.
@@ -53,6 +58,14 @@ Answers s e (Ok u) = refusal s e ≡ None
 Answers s e (Err r) = Refuses s e r
 
 -- ---- the content after an answer
+
+-- the history after k lines of a piece of c were done and it was closed, or after k lines of a piece of the driver of u were
+-- done and it went
+abbrev pub lost : ℕ → List ℕ → ℕ → List Event → List Event
+lost c piece k h = Close c ∷ behind c piece k h
+
+abbrev pub lost_report : ℕ → List ℕ → ℕ → List Event → List Event
+lost_report u piece k h = DriverDown u ∷ behind_report u piece k h
 
 -- the content after k lines of a piece of c were done and it was closed, or after k lines of a piece of the driver of u
 -- were done and it went

@@ -3,11 +3,11 @@
 use Rattle.std.specs.Prelude.{ℕ, List, []}
 use Rattle.nut_words.specs.Lines.{LineText, Text, TooLong}
 use Rattle.nut_words.specs.declared.cutter.LineCutter.TheInside.{Inside}
-use Rattle.nut_words.specs.declared.cutter.Stage.{Stage}
-use Rattle.nut_words.specs.declared.cutter.Stage.TheVariants as stages
+use Rattle.nut_words.specs.declared.cutter.LineStage.{LineStage}
+use Rattle.nut_words.specs.declared.cutter.LineStage.TheVariants as stages
 
 -- the unfinished line, from the stage and the kept bytes
-abbrev pub rest_at : Stage → List ℕ → LineText
+abbrev pub rest_at : LineStage → List ℕ → LineText
 rest_at stages.Growing kept = Text kept
 rest_at stages.Overlong kept = TooLong
 rest_at stages.HandedOut kept = Text []

@@ -6,7 +6,7 @@ use Rattle.nut_server_spec.specs.machine.Machine.{caller_of}
 use Rattle.nut_server.specs.inside.Answers.{outcome}
 use Rattle.nut_server.specs.inside.Decisions.{Grants}
 use Rattle.nut_server.specs.inside.Tasks.{task_request}
-use Rattle.nut_server.specs.declared.changes.Task.TheVariants as tasks
+use Rattle.nut_server.specs.declared.changes.DriverTask.TheVariants as tasks
 use Rattle.nut_server.proofs.Deciding.{only_asks, question, grants, hands_on, refusable_task, refusable_fsd}
 use Rattle.nut_server.proofs.decision.decide_request.Goals as goal
 

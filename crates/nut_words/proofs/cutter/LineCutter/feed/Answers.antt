@@ -1,8 +1,8 @@
 use Rattle.std.proofs.Common.{◌≡◌, List, ℕ, [], take, refl, sym, ap, ◌∙◌, arith}
 use Rattle.nut_words.specs.Lines.{Text, joined}
 use Rattle.nut_words.specs.inside.Inside.{rest_at}
-use Rattle.nut_words.specs.declared.cutter.Stage.{Stage}
-use Rattle.nut_words.specs.declared.cutter.Stage.TheVariants.{Growing, Overlong, HandedOut}
+use Rattle.nut_words.specs.declared.cutter.LineStage.{LineStage}
+use Rattle.nut_words.specs.declared.cutter.LineStage.TheVariants.{Growing, Overlong, HandedOut}
 use Rattle.nut_words.specs.Cutter.{line_of}
 use Rattle.nut_words.proofs.LineLemmas.{FeedAt, FeedAt-found, parts_of_all, rest_kept, lines_kept, rest_ended, lines_ended, joined_nothing}
 use Rattle.nut_words.proofs.cutter.LineCutter.feed.Goals as goal
@@ -28,7 +28,7 @@ returns-then-is_at_start c =
       record { after_borrow = tt; line = λ b e. lines_ended _ _ p k at line b e; used = omega (arith, at.within); all = tt; some = omega arith },
     )
 
-held : (stage other : Stage) (kept : List ℕ) → stage ≡ other → rest_at other kept ≡ rest_at stage kept
+held : (stage other : LineStage) (kept : List ℕ) → stage ≡ other → rest_at other kept ≡ rest_at stage kept
 held stage other kept is = ap (λ s. rest_at s kept) (sym is)
 
 -- The line lies in the kept part.
