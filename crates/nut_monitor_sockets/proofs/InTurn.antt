@@ -1,5 +1,5 @@
 -- Looks at links in turn, one after the other.
-use Rattle.std.proofs.Common.{◌≡◌, ℕ, List, [], ◌∷◌, ◌++◌, ap, sym, subst, ◌∙◌, append_assoc}
+use Rattle.std.proofs.Common.{◌≡◌, ℕ, List, [], ◌∷◌, ◌++◌, ap, sym, ◌∙◌, append_assoc}
 use Rattle.std.proofs.lemmas.List.{append-nil}
 use Rattle.nut_poll.specs.Queue.{Queue, Looks, begun}
 use Rattle.nut_poll.proofs.TurnLemmas.{looks_go_on}
@@ -36,10 +36,11 @@ none_looked a b came = ([], came, tt)
 pub waited : (n : Next) (a b c d : Queue) → ComesInTurn Again a b → Looks [] b c → ComesInTurn n c d → ComesInTurn n a d
 waited n a b c d first came then = in_turn n a c d (in_turn Again a b c first (none_looked b c came)) then
 
--- a round began after those that were reported came to wait
-pub began : (a b c d e f : Queue) → Looks [] a b → c ≡ b → Looks [] c d → Looks [] d e → f ≡ begun e → Looks [] a f
-began a b c d e f first same then more is =
-    comes_on a b f first (comes_on b c f (stays b c same) (comes_on c d f then (comes_on d e f more ([], ap (λ q. q.waiting) is ∙ sym (append-nil e.waiting)))))
+-- a round began after those that the clock asked for, before and after a wait, and those that were reported came to wait
+pub began : (a b c d e f h : Queue) → Looks [] a b → c ≡ b → Looks [] c d → Looks [] d e → Looks [] e f → h ≡ begun f → Looks [] a h
+began a b c d e f h first same again then more is =
+    comes_on a b h first (comes_on b c h (stays b c same) (comes_on c d h again (comes_on d e h then
+    (comes_on e f h more ([], ap (λ q. q.waiting) is ∙ sym (append-nil f.waiting))))))
 
 -- the link that was looked at last gave this
 of_last : (n : Next) (others : List ℕ) (i : ℕ) → IsGivenBy i n → IsOfLast n (others ++ i ∷ [])

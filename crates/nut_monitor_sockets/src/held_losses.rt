@@ -74,7 +74,13 @@ impl HeldLosses {
         };
         match notice.kind {
             Kind::Commbad => self.hold(line, has_status),
-            Kind::Commok => self.drop_loss(line),
+            Kind::Commok => match self.lines.iter().position(|it| *it == line) {
+                Some(place) => {
+                    self.lines.remove(place);
+                    true
+                }
+                None => false,
+            },
             Kind::Online
             | Kind::Onbatt
             | Kind::Lowbatt
@@ -95,17 +101,6 @@ impl HeldLosses {
             return false;
         }
         self.lines.try_push(line).is_ok()
-    }
-
-    /// Drops the loss of a line that is held. Returns whether there is one.
-    fn drop_loss(&mut self, line: usize) -> bool {
-        match self.lines.iter().position(|it| *it == line) {
-            Some(place) => {
-                self.lines.remove(place);
-                true
-            }
-            None => false,
-        }
     }
 
     /// Reports the losses that are held.

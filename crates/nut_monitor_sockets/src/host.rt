@@ -15,7 +15,7 @@ const LONGEST_PAUSE: u8 = 60;
 /// A host, a port, and the known addresses of the host. The addresses are dialled in rounds: each of them once, one
 /// after the other, until the host serves at one.
 #[derive(Drop)]
-pub struct Host {
+pub struct DialledHost {
     name: String,
     port: u16,
     /// Whether the host is a name whose addresses have to be looked up.
@@ -29,18 +29,24 @@ pub struct Host {
     pause: Pause,
 }
 
-impl Host {
-    /// Returns the host and the port of a target. An address and `localhost` need no look-up.
+impl DialledHost {
+    /// Returns the host and the port of a target. An address and `localhost`, whose addresses are those of this machine, need no
+    /// look-up.
     ///
     /// # Errors
     ///
     /// [`AllocError`] if memory cannot be allocated.
-    pub fn new(alloc: Global, target: &Target) -> Result<Host, AllocError> {
+    pub fn new(alloc: Global, target: &Target) -> Result<DialledHost, AllocError> {
         let name = text_of(target.host.as_bytes());
         let mut addresses = Vec::with_capacity(alloc, ADDRESSES_MAX)?;
-        put_addresses(name, &mut addresses)?;
+        if let Ok(address) = name.parse::<IpAddr>() {
+            addresses.push(address)?;
+        } else if name.eq_ignore_ascii_case("localhost") {
+            addresses.push(IpAddr::V4(Ipv4Addr::LOCALHOST))?;
+            addresses.push(IpAddr::V6(Ipv6Addr::LOCALHOST))?;
+        }
         let is_named = addresses.is_empty();
-        Ok(Host {
+        Ok(DialledHost {
             name: String::from_str(alloc, name)?,
             port: target.port.number,
             is_named,
@@ -150,16 +156,4 @@ impl Host {
         self.is_wanted = self.is_named;
         Err(error)
     }
-}
-
-/// Appends the addresses that need no look-up: an address is one itself, and `localhost` has those of this machine.
-/// Other names have none.
-fn put_addresses(name: &str, addresses: &mut Vec<IpAddr>) -> Result<(), AllocError> {
-    if let Ok(address) = name.parse::<IpAddr>() {
-        addresses.push(address)?;
-    } else if name.eq_ignore_ascii_case("localhost") {
-        addresses.push(IpAddr::V4(Ipv4Addr::LOCALHOST))?;
-        addresses.push(IpAddr::V6(Ipv6Addr::LOCALHOST))?;
-    }
-    Ok(())
 }

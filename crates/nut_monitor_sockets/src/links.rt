@@ -9,11 +9,11 @@ ghost use Rattle.nut_poll.specs.Queue.{Looks};
 use crate::dialler::Dialler;
 use crate::inquiry::outstanding;
 use crate::limits::{CALM, Limits};
-use crate::refusals::{ErrorName, is_left_out_when_quiet, title};
-use crate::report::Report;
+use crate::refusals::{is_left_out_when_quiet, title};
+use crate::report::ServerReport;
 use crate::upstream::Upstream;
 use mio::{Events, Token};
-use nut_conf::{MONITORS_MAX, MonConfig};
+use nut_conf::MonConfig;
 use nut_io::{Piece, Written};
 use nut_monitor::{LastAnswer, Monitor, Phase, Query};
 use nut_monitor_loop::Next;
@@ -55,15 +55,17 @@ impl Drop for NewLinks {
 }
 
 impl NewLinks {
-    /// Returns the links of a monitor with this configuration.
+    /// Returns the links of a monitor with this configuration. Their servers are about to be called.
     ///
     /// # Errors
     ///
     /// [`AllocError`] if memory cannot be allocated.
     pub fn of(alloc: Global, config: &MonConfig) -> Result<NewLinks, AllocError> {
-        Ok(NewLinks {
-            upstreams: upstreams_of(alloc, config)?,
-        })
+        let mut upstreams = Vec::new(alloc);
+        for line in config.monitors.lines.iter() {
+            upstreams.push(Upstream::new(alloc, line)?)?;
+        }
+        Ok(NewLinks { upstreams })
     }
 
     /// Returns the links, by the numbers of their MONITOR lines.
@@ -75,7 +77,7 @@ impl NewLinks {
 
 /// What the links are watched with, which the program gives.
 #[derive(Drop)]
-pub struct Services<'r, 'e, R: Processes> {
+pub struct LinkServices<'r, 'e, R: Processes> {
     /// The system.
     pub rt: &'r R,
     /// The look-ups of hosts.
@@ -106,7 +108,7 @@ impl Links {
     /// The error of the poll or of the clock, or a lack of memory.
     pub fn none(rt: &(impl Net + Clock), alloc: Global) -> io::Result<Links> {
         Ok(Links {
-            rounds: Rounds::new(rt, alloc, MONITORS_MAX)?,
+            rounds: Rounds::new(rt, alloc, 0)?,
             upstreams: Vec::new(alloc),
             has_moved_on: false,
             limits: CALM,
@@ -123,7 +125,7 @@ impl Links {
     /// The error of the clock. Nothing has changed then.
     pub fn begin<R: Clock + Processes>(
         &mut self,
-        services: &mut Services<'_, '_, R>,
+        services: &mut LinkServices<'_, '_, R>,
         links: NewLinks,
     ) -> io::Result<()> {
         match Seconds::start(services.rt) {
@@ -146,9 +148,9 @@ impl Links {
         for upstream in upstreams.iter_mut() {
             upstream.take_over_addresses(&self.upstreams);
         }
-        self.upstreams = upstreams;
         self.rounds.seconds = seconds;
-        self.rounds.ready.insert_first(MONITORS_MAX);
+        self.rounds.ready.insert_first(upstreams.len());
+        self.upstreams = upstreams;
         self.rounds.begin();
         self.has_moved_on = false;
         self.limits = CALM;
@@ -174,7 +176,7 @@ impl Links {
     #[tactic(auto, using(crate::proofs::InTurn::in_turn, crate::proofs::InTurn::waited))]
     pub fn next<R: Net + Clock + Processes>(
         &mut self,
-        services: &mut Services<'_, '_, R>,
+        services: &mut LinkServices<'_, '_, R>,
         monitor: &Monitor,
         piece: &mut Piece,
     ) -> io::Result<Next>
@@ -182,16 +184,30 @@ impl Links {
         ensures turns { IfOk result (λ n. ComesInTurn n self.old.rounds.ready self.new.rounds.ready) }
     {
         self.follow(monitor, &mut services.look_ups);
-        if let Some(next) = self.look(monitor, piece, services.rt, &mut services.reports) {
+        if let Some(next) = self.come(monitor, piece, services) {
             return Ok(next);
         }
-        let all = self.may_catch_up(monitor);
-        if let Some(moment) = self.rounds.seconds.next(all) {
-            return Ok(Next::Moment(moment));
-        }
         self.wait(monitor, services)?;
-        let next = self.look(monitor, piece, services.rt, &mut services.reports);
+        let next = self.come(monitor, piece, services);
         Ok(next.unwrap_or(Next::Again))
+    }
+
+    /// Returns what has come: from a link of this round, or else a second that is over.
+    fn come<R: Net + Clock + Processes>(
+        &mut self,
+        monitor: &Monitor,
+        piece: &mut Piece,
+        services: &mut LinkServices<'_, '_, R>,
+    ) -> Option<Next>
+        ensures goes_on { IfSome result (λ n. n ≢ next.End) }
+        ensures turns { ComesInTurn (unwrap_or result next.Again) self.old.rounds.ready self.new.rounds.ready }
+    {
+        if let Some(next) = self.look(monitor, piece, services.rt, &mut services.reports) {
+            return Some(next);
+        }
+        let all = self.may_catch_up(monitor);
+        let moment = self.rounds.seconds.next(all)?;
+        Some(Next::Moment(moment))
     }
 
     /// Whether the clock was found to have moved on since this was last asked. Of several seconds that come at once,
@@ -401,8 +417,11 @@ impl Links {
             Ok(false) => None,
             Ok(true) => {
                 self.rounds.ready.insert(token);
-                if upstream.returns() && waits_for_others(monitor, i) {
-                    reports.warn(Report::Returned(upstream.name()));
+                // The monitor waits for other machines of a UPS: its FSD was accepted there, and it counts who is logged in.
+                let waits = monitor.phase() == Phase::Forcing
+                    && monitor.known(i).is_some_and(|known| known.forced);
+                if upstream.returns() && waits {
+                    reports.warn(ServerReport::Returned(upstream.name()));
                 }
                 Some(Next::Linked(i))
             }
@@ -417,15 +436,19 @@ impl Links {
     fn wait<R: Clock + Processes>(
         &mut self,
         monitor: &Monitor,
-        services: &mut Services<'_, '_, R>,
+        services: &mut LinkServices<'_, '_, R>,
     ) -> io::Result<()>
         ensures { IfOk result (λ _. Looks [] self.old.rounds.ready self.new.rounds.ready) }
     {
-        if self.rounds.look_at_clock(services.rt)? {
-            self.second(monitor, &mut services.look_ups, &mut services.reports);
-        }
-        let patience = self.patience(monitor, &services.look_ups);
+        let patience = if self.look_at_clock(monitor, services)? {
+            Duration::ZERO
+        } else {
+            self.patience(&services.look_ups)
+        };
         self.rounds.wait_for(patience)?;
+        if self.rounds.events.is_empty() {
+            self.look_at_clock(monitor, services)?;
+        }
         note(
             &self.rounds.events,
             &mut self.rounds.ready,
@@ -437,16 +460,31 @@ impl Links {
     }
 
     /// Returns how long there is nothing to do except wait for events.
-    fn patience(&self, monitor: &Monitor, look_ups: &LookUps<'_, impl Processes>) -> Duration {
-        if self.rounds.seconds.has_next(self.may_catch_up(monitor)) {
-            return Duration::ZERO;
-        }
+    fn patience(&self, look_ups: &LookUps<'_, impl Processes>) -> Duration {
         let ahead = self.rounds.seconds.ahead();
         if look_ups.is_idle() {
             ahead
         } else {
             ahead.min(Duration::from_millis(LOOK_UP_WAIT))
         }
+    }
+
+    /// Looks at the clock, and returns whether one more second is over. It is counted then, and each link is looked at in the
+    /// next round, whether or not an event came.
+    fn look_at_clock<R: Clock + Processes>(
+        &mut self,
+        monitor: &Monitor,
+        services: &mut LinkServices<'_, '_, R>,
+    ) -> io::Result<bool>
+        ensures { IfOk result (λ _. Looks [] self.old.rounds.ready self.new.rounds.ready) }
+    {
+        let passed = self.rounds.seconds.elapsed(services.rt)?;
+        let is_full = self.rounds.seconds.look_at(passed);
+        if is_full {
+            self.rounds.ready.insert_first(self.upstreams.len());
+            self.second(monitor, &mut services.look_ups, &mut services.reports);
+        }
+        Ok(is_full)
     }
 
     /// Counts a second that has passed, or several in which this process was stopped.
@@ -519,15 +557,6 @@ impl Links {
     }
 }
 
-/// Returns a link for each MONITOR line. Their servers are about to be called.
-fn upstreams_of(alloc: Global, config: &MonConfig) -> Result<Vec<Upstream>, AllocError> {
-    let mut upstreams = Vec::new(alloc);
-    for line in config.monitors.lines.iter() {
-        upstreams.push(Upstream::new(alloc, line)?)?;
-    }
-    Ok(upstreams)
-}
-
 /// Returns the link whose host is to be looked up next, if any is due: the one whose last pause between look-ups is the
 /// shortest.
 fn next_look_up<R: Processes>(upstreams: &[Upstream], look_ups: &LookUps<'_, R>) -> Option<usize> {
@@ -550,21 +579,9 @@ fn next_look_up<R: Processes>(upstreams: &[Upstream], look_ups: &LookUps<'_, R>)
     }
 }
 
-/// Whether the monitor waits for other machines of a UPS: its FSD was accepted there, and it counts who is logged in.
-fn waits_for_others(monitor: &Monitor, i: usize) -> bool {
-    monitor.phase() == Phase::Forcing && monitor.known(i).is_some_and(|known| known.forced)
-}
-
-/// Whether a query comes after those that open a link.
-fn is_after_opening(query: Query) -> bool {
-    match query {
-        Query::Status | Query::Fsd | Query::NumLogins => true,
-        Query::Username | Query::Password | Query::Login | Query::Primary => false,
-    }
-}
-
 /// Reports what an answer shows, if it has to be reported: that the server begins to serve or to wait for its driver, if
-/// the monitor kept the link at the answer, that the answer was late, and what was refused.
+/// the monitor kept the link at the answer, that the answer was late, and what was refused. A refusal of another query than
+/// for the status is told even if reports aren't wanted: this UPS isn't watched as upsmon.conf says.
 fn tell_answer(
     upstream: &mut Upstream,
     answer: &LastAnswer,
@@ -572,36 +589,38 @@ fn tell_answer(
     reports: &mut Reports<'_>,
 ) {
     let query = answer.asked.query;
+    let is_after_opening = match query {
+        Query::Status | Query::Fsd | Query::NumLogins => true,
+        Query::Username | Query::Password | Query::Login | Query::Primary => false,
+    };
     let refused = upstream.begins_to_refuse(answer);
-    if is_kept && is_after_opening(query) && upstream.begins_to_serve() {
-        reports.tell(Report::Reached(upstream.name()));
+    if is_kept && is_after_opening && upstream.begins_to_serve() {
+        reports.tell(ServerReport::Reached(upstream.name()));
     }
     if upstream.begins_to_be_late() {
-        reports.warn(Report::Late(upstream.name()));
+        reports.warn(ServerReport::Late(upstream.name()));
     }
     if is_kept && upstream.begins_to_wait(answer) {
-        reports.warn(Report::Waits(upstream.name()));
+        reports.warn(ServerReport::Waits(upstream.name()));
     }
     if let Some(error) = refused {
-        tell_refusal(upstream.name(), query, &error, reports);
-    }
-}
-
-/// Reports that a server refused a query. A refusal of another query than for the status is told even if reports aren't
-/// wanted: this UPS isn't watched as upsmon.conf says.
-fn tell_refusal(name: &str, query: Query, error: &ErrorName, reports: &mut Reports<'_>) {
-    let refused = Report::Refused(name, title(query), text_of(error.as_slice()));
-    if is_left_out_when_quiet(query) {
-        reports.tell(refused);
-    } else {
-        reports.warn(refused);
+        let refusal = ServerReport::Refused(
+            upstream.name(),
+            title(query),
+            text_of(error.as_slice()),
+        );
+        if is_left_out_when_quiet(query) {
+            reports.tell(refusal);
+        } else {
+            reports.warn(refusal);
+        }
     }
 }
 
 /// Reports that a server can't be reached, unless that was reported since it last served.
 fn tell_unreachable(upstream: &mut Upstream, error: io::Error, reports: &mut Reports<'_>) {
     if upstream.misses() {
-        reports.tell(Report::Unreachable(upstream.name(), error));
+        reports.tell(ServerReport::Unreachable(upstream.name(), error));
     }
 }
 
@@ -611,25 +630,25 @@ fn tell_unfound(upstream: &mut Upstream, reason: &'static str, reports: &mut Rep
     if reason != HOST_UNKNOWN {
         tell_unreachable(upstream, io::Error::other(reason), reports);
     } else if upstream.misses() {
-        reports.tell(Report::Unresolved(upstream.name()));
+        reports.tell(ServerReport::Unresolved(upstream.name()));
     }
 }
 
 /// Returns the report that a server that served is lost.
-fn lost(name: &str, loss: Loss) -> Report<'_> {
+fn lost(name: &str, loss: Loss) -> ServerReport<'_> {
     match loss {
-        Loss::Closed => Report::Gone(name),
-        Loss::Silent(seconds) => Report::GivenUp(name, seconds),
-        Loss::Unread => Report::Unread(name),
+        Loss::Closed => ServerReport::Gone(name),
+        Loss::Silent(seconds) => ServerReport::GivenUp(name, seconds),
+        Loss::Unread => ServerReport::Unread(name),
     }
 }
 
 /// Returns the report that there is no server yet, after a link ended on which none served.
-fn unserved(name: &str, loss: Loss) -> Report<'_> {
+fn unserved(name: &str, loss: Loss) -> ServerReport<'_> {
     match loss {
-        Loss::Closed => Report::Closed(name),
-        Loss::Silent(_) => Report::Mute(name),
-        Loss::Unread => Report::Odd(name),
+        Loss::Closed => ServerReport::Closed(name),
+        Loss::Silent(_) => ServerReport::Mute(name),
+        Loss::Unread => ServerReport::Odd(name),
     }
 }
 

@@ -10,7 +10,7 @@ ghost use Rattle.nut_monitor_sockets.specs.inside.HandingLaws.{hands_on_twice};
 
 use crate::held_losses::HeldLosses;
 use crate::herald::Herald;
-use crate::links::{Links, NewLinks, Services};
+use crate::links::{LinkServices, Links, NewLinks};
 use arrayvec::ArrayVec;
 use nut_conf::MONITORS_MAX;
 use nut_io::{Fault, Piece, Written};
@@ -46,7 +46,7 @@ use std::time::Clock;
 /// world keeps no record.
 pub struct MioMonWorld<'r, 'e, R: Processes, H> {
     links: Links,
-    services: Services<'r, 'e, R>,
+    services: LinkServices<'r, 'e, R>,
     /// Where its notices go.
     pub herald: H,
     held_losses: HeldLosses,
@@ -88,7 +88,7 @@ impl<'r, 'e, R: Net + Clock + Processes, H: Herald> MioMonWorld<'r, 'e, R, H> {
         let links = Links::none(rt, alloc)?;
         Ok(MioMonWorld {
             links,
-            services: Services {
+            services: LinkServices {
                 rt,
                 look_ups: LookUps::none(rt, alloc),
                 reports,

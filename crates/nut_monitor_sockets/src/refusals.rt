@@ -37,9 +37,19 @@ impl Refusals {
     /// Notes an answer, and returns the name of its error if it is a refusal that is to be reported. The first refusal of
     /// each query is, except of NUMLOGINS; of the status, each refusal that differs from the answer before.
     pub fn note(&mut self, answer: &LastAnswer) -> Option<ErrorName> {
-        let error = error_of(&answer.outcome);
+        let error = match &answer.outcome {
+            Outcome::Refused(name) => Some(first_bytes(name.as_bytes())),
+            Outcome::Done | Outcome::Said(_) | Outcome::List(_) => None,
+        };
         match answer.asked.query {
-            Query::Status => self.note_status(error),
+            Query::Status => {
+                if self.status == error {
+                    return None;
+                }
+                self.status = error;
+                let status = self.status.as_ref()?;
+                Some(first_bytes(status.as_slice()))
+            }
             Query::Username => note_once(&mut self.told[0], error),
             Query::Password => note_once(&mut self.told[1], error),
             Query::Login => note_once(&mut self.told[2], error),
@@ -47,15 +57,6 @@ impl Refusals {
             Query::Fsd => note_once(&mut self.told[4], error),
             Query::NumLogins => None,
         }
-    }
-
-    /// Notes the error with which a query for the status was refused, or that it wasn't.
-    fn note_status(&mut self, error: Option<ErrorName>) -> Option<ErrorName> {
-        if self.status == error {
-            return None;
-        }
-        self.status = error;
-        self.status.as_ref().map(copy_of)
     }
 }
 
@@ -69,24 +70,12 @@ fn note_once(told: &mut bool, error: Option<ErrorName>) -> Option<ErrorName> {
     }
 }
 
-/// Returns the name of the error if a query was refused.
-fn error_of(outcome: &Outcome) -> Option<ErrorName> {
-    match outcome {
-        Outcome::Refused(name) => Some(first_bytes(name.as_bytes())),
-        Outcome::Done | Outcome::Said(_) | Outcome::List(_) => None,
-    }
-}
-
 /// Returns the name of an error, or its first bytes.
 fn first_bytes(name: &[u8]) -> ErrorName {
     let mut front = ErrorName::new();
     let length = name.len().min(front.capacity());
     let _ = front.try_extend_from_slice(&name[..length]);
     front
-}
-
-fn copy_of(error: &ErrorName) -> ErrorName {
-    first_bytes(error.as_slice())
 }
 
 /// Whether reports of a refusal of this query are left out with `-q`. Those of the status are: if it stays refused, a

@@ -6,7 +6,7 @@ use std::{fmt, io};
 
 /// An event at the link to a server, with the target of its MONITOR line as upsmon.conf writes it.
 #[derive(Drop)]
-pub enum Report<'a> {
+pub enum ServerReport<'a> {
     /// The server is connected.
     Reached(&'a str),
     /// The host's name can't be resolved: the resolver has no address for it.
@@ -35,62 +35,66 @@ pub enum Report<'a> {
     Refused(&'a str, &'a str, &'a str),
 }
 
-impl<'a> fmt::Display for Report<'a> {
+impl<'a> fmt::Display for ServerReport<'a> {
     fn fmt<W: fmt::Write>(&self, f: &mut fmt::Formatter<W>) -> fmt::Result {
         match self {
-            Report::Reached(target) => write!(f, "UPS {target}: server connected"),
-            Report::Unresolved(target) => {
+            ServerReport::Reached(target) => write!(f, "UPS {target}: server connected"),
+            ServerReport::Unresolved(target) => {
                 write!(f, "UPS {target}: cannot resolve the server's name")
             }
-            Report::Unreachable(target, error) => {
+            ServerReport::Unreachable(target, error) => {
                 write!(f, "UPS {target}: cannot connect to the server: {error}")
             }
-            Report::Closed(target) => write!(
+            ServerReport::Closed(target) => write!(
                 f,
                 "UPS {target}: server closed the connection before answering"
             ),
-            Report::Mute(target) => write!(f, "UPS {target}: server does not answer"),
-            Report::Odd(target) => { write!(f, "UPS {target}: server gave an unexpected answer") }
-            Report::Gone(target) => write!(f, "UPS {target}: server lost"),
-            Report::GivenUp(target, seconds) => {
+            ServerReport::Mute(target) => write!(f, "UPS {target}: server does not answer"),
+            ServerReport::Odd(target) => {
+                write!(f, "UPS {target}: server gave an unexpected answer")
+            }
+            ServerReport::Gone(target) => write!(f, "UPS {target}: server lost"),
+            ServerReport::GivenUp(target, seconds) => {
                 write!(f, "UPS {target}: server lost: no answer for {seconds} s")
             }
-            Report::Unread(target) => { write!(f, "UPS {target}: server lost: unexpected answer") }
-            Report::Late(target) => write!(
+            ServerReport::Unread(target) => {
+                write!(f, "UPS {target}: server lost: unexpected answer")
+            }
+            ServerReport::Late(target) => write!(
                 f,
                 "UPS {target}: an answer took more than {ANSWER_ON_BATTERY} s: {LATE_ANSWERS}"
             ),
-            Report::Waits(target) => write!(
+            ServerReport::Waits(target) => write!(
                 f,
                 "UPS {target}: server reports WAIT: DEADTIME can't start a shutdown until it hears its driver"
             ),
-            Report::Returned(target) => write!(
+            ServerReport::Returned(target) => write!(
                 f,
                 "UPS {target}: reconnected to the server that accepted FSD; if it restarted, FSD is lost and absent machines aren't waited for"
             ),
-            Report::Refused(target, what, error) => {
+            ServerReport::Refused(target, what, error) => {
                 write!(f, "UPS {target}: {what} refused: {error}")
             }
         }
     }
 }
 
-impl<'a> Leveled for Report<'a> {
+impl<'a> Leveled for ServerReport<'a> {
     fn level(&self) -> Level {
         match self {
-            Report::Reached(_) => Level::Info,
-            Report::Unresolved(_)
-            | Report::Unreachable(..)
-            | Report::Closed(_)
-            | Report::Mute(_)
-            | Report::Odd(_)
-            | Report::Gone(_)
-            | Report::GivenUp(..)
-            | Report::Unread(_)
-            | Report::Late(_)
-            | Report::Waits(_)
-            | Report::Returned(_)
-            | Report::Refused(..) => Level::Warning,
+            ServerReport::Reached(_) => Level::Info,
+            ServerReport::Unresolved(_)
+            | ServerReport::Unreachable(..)
+            | ServerReport::Closed(_)
+            | ServerReport::Mute(_)
+            | ServerReport::Odd(_)
+            | ServerReport::Gone(_)
+            | ServerReport::GivenUp(..)
+            | ServerReport::Unread(_)
+            | ServerReport::Late(_)
+            | ServerReport::Waits(_)
+            | ServerReport::Returned(_)
+            | ServerReport::Refused(..) => Level::Warning,
         }
     }
 }

@@ -4,7 +4,7 @@ ghost use Rattle.std.specs.Prelude.{length};
 ghost use Rattle.nut_io.specs.Writes.{IsWithin};
 
 use crate::dialler::Dialler;
-use crate::host::Host;
+use crate::host::DialledHost;
 use crate::inquiry::Inquiry;
 use crate::limits::{ANSWER_ON_BATTERY, Limits};
 use crate::pause::Pause;
@@ -28,7 +28,7 @@ const PATIENCE: u8 = 5;
 
 /// The stage of a link.
 #[derive(Drop)]
-enum Stage {
+enum LinkStage {
     /// There is no link.
     Down,
     /// An address is being dialled, and hasn't answered for this many seconds.
@@ -42,8 +42,8 @@ enum Stage {
 pub struct Upstream {
     /// The target as the MONITOR line writes it.
     name: String,
-    host: Host,
-    stage: Stage,
+    host: DialledHost,
+    stage: LinkStage,
     /// The pause before the host is called again.
     pause: Pause,
     /// Whether the server has answered a query after those that open a link, since this link was made.
@@ -74,8 +74,8 @@ impl Upstream {
     pub fn new(alloc: Global, line: &Monitored) -> Result<Upstream, AllocError> {
         Ok(Upstream {
             name: String::from_str(alloc, text_of(line.written.as_slice()))?,
-            host: Host::new(alloc, &line.target)?,
-            stage: Stage::Down,
+            host: DialledHost::new(alloc, &line.target)?,
+            stage: LinkStage::Down,
             pause: Pause::none(),
             serves: false,
             unended: 0,
@@ -101,7 +101,7 @@ impl Upstream {
 
     /// Whether the link is made.
     pub fn is_up(&self) -> bool {
-        matches!(self.stage, Stage::Up(_, _))
+        matches!(self.stage, LinkStage::Up(_, _))
     }
 
     /// Whether the server has answered all that it was asked, and didn't refuse the last query for the status. `asked` is
@@ -127,9 +127,9 @@ impl Upstream {
         self.host.second();
         self.pause.second(limits.pause);
         match &mut self.stage {
-            Stage::Down => {}
-            Stage::Calling(_, waited) => *waited = waited.saturating_add(1),
-            Stage::Up(_, inquiry) => inquiry.second(asked),
+            LinkStage::Down => {}
+            LinkStage::Calling(_, waited) => *waited = waited.saturating_add(1),
+            LinkStage::Up(_, inquiry) => inquiry.second(asked),
         }
     }
 
@@ -162,8 +162,8 @@ impl Upstream {
     ///
     /// The error of the last address: the call has failed.
     pub fn reach(&mut self, dialler: &Dialler<'_, impl Net>) -> io::Result<bool> {
-        match mem::replace(&mut self.stage, Stage::Down) {
-            Stage::Down => {
+        match mem::replace(&mut self.stage, LinkStage::Down) {
+            LinkStage::Down => {
                 if self.pause.is_over() && self.host.has_addresses() {
                     self.pause.wait();
                     self.host.begin();
@@ -171,9 +171,9 @@ impl Upstream {
                 }
                 Ok(false)
             }
-            Stage::Calling(link, waited) => self.go_on(dialler, link, waited),
-            Stage::Up(link, inquiry) => {
-                self.stage = Stage::Up(link, inquiry);
+            LinkStage::Calling(link, waited) => self.go_on(dialler, link, waited),
+            LinkStage::Up(link, inquiry) => {
+                self.stage = LinkStage::Up(link, inquiry);
                 Ok(false)
             }
         }
@@ -182,7 +182,7 @@ impl Upstream {
     /// Dials the next address. Returns `error` if none is left.
     fn call(&mut self, dialler: &Dialler<'_, impl Net>, error: io::Error) -> io::Result<()> {
         let stream = self.host.dial(dialler, error)?;
-        self.stage = Stage::Calling(Link::new(stream), 0);
+        self.stage = LinkStage::Calling(Link::new(stream), 0);
         Ok(())
     }
 
@@ -196,11 +196,11 @@ impl Upstream {
         match is_answered(link.stream(), waited) {
             Ok(true) => {
                 self.unended = 0;
-                self.stage = Stage::Up(link, Inquiry::new());
+                self.stage = LinkStage::Up(link, Inquiry::new());
                 Ok(true)
             }
             Ok(false) => {
-                self.stage = Stage::Calling(link, waited);
+                self.stage = LinkStage::Calling(link, waited);
                 Ok(false)
             }
             Err(error) => {
@@ -218,11 +218,15 @@ impl Upstream {
     /// Reads from the server.
     pub fn hear(&mut self, piece: &mut Piece) -> Heard {
         let heard = match &mut self.stage {
-            Stage::Up(link, _) => link.hear(piece),
-            Stage::Down | Stage::Calling(_, _) => Heard::Nothing,
+            LinkStage::Up(link, _) => link.hear(piece),
+            LinkStage::Down | LinkStage::Calling(_, _) => Heard::Nothing,
         };
         if matches!(heard, Heard::All | Heard::Part) {
-            self.unended = unended_after(self.unended, piece.as_slice());
+            let piece = piece.as_slice();
+            self.unended = match piece.iter().rposition(|byte| *byte == b'\n') {
+                Some(at) => piece.len().saturating_sub(at).saturating_sub(1),
+                None => self.unended.saturating_add(piece.len()),
+            };
         }
         heard
     }
@@ -236,11 +240,11 @@ impl Upstream {
     /// Notes the last answer on the link. Returns whether it wasn't noted before.
     pub fn note_answer(&mut self, answer: &LastAnswer) -> bool {
         match &mut self.stage {
-            Stage::Up(_, inquiry) => {
+            LinkStage::Up(_, inquiry) => {
                 self.was_late = inquiry.is_overdue(answer.asked, ANSWER_ON_BATTERY);
                 inquiry.note(answer.asked)
             }
-            Stage::Down | Stage::Calling(_, _) => false,
+            LinkStage::Down | LinkStage::Calling(_, _) => false,
         }
     }
 
@@ -286,8 +290,8 @@ impl Upstream {
     /// Whether this query has been outstanding for too long.
     pub fn is_overdue(&self, query: LastQuery, limits: Limits) -> bool {
         match &self.stage {
-            Stage::Up(_, inquiry) => inquiry.is_overdue(query, limits.answer),
-            Stage::Down | Stage::Calling(_, _) => false,
+            LinkStage::Up(_, inquiry) => inquiry.is_overdue(query, limits.answer),
+            LinkStage::Down | LinkStage::Calling(_, _) => false,
         }
     }
 
@@ -296,20 +300,20 @@ impl Upstream {
         ensures { IsWithin result (length bytes.now) }
     {
         match &mut self.stage {
-            Stage::Up(link, _) => link.offer(bytes),
-            Stage::Down | Stage::Calling(_, _) => Written::Failed,
+            LinkStage::Up(link, _) => link.offer(bytes),
+            LinkStage::Down | LinkStage::Calling(_, _) => Written::Failed,
         }
     }
 
     /// Notes an event of the socket, and returns whether the link is to be looked at.
     pub fn note(&mut self, event: &Event) -> bool {
         match &mut self.stage {
-            Stage::Down => false,
-            Stage::Calling(link, _) => {
+            LinkStage::Down => false,
+            LinkStage::Calling(link, _) => {
                 link.note(event);
                 true
             }
-            Stage::Up(link, _) => {
+            LinkStage::Up(link, _) => {
                 link.note(event);
                 may_be_read(event)
             }
@@ -319,7 +323,7 @@ impl Upstream {
     /// Closes the link, and returns whether its server has served on it. If it has, the server is called again in the
     /// next second. Otherwise it is called after a pause, which grows from one loss to the next, at its next address.
     pub fn close(&mut self, limits: Limits) -> bool {
-        self.stage = Stage::Down;
+        self.stage = LinkStage::Down;
         let served = mem::replace(&mut self.serves, false);
         if served {
             self.is_gone = true;
@@ -331,14 +335,6 @@ impl Upstream {
             self.host.lose();
         }
         served
-    }
-}
-
-/// Returns how many bytes of an unfinished line have come after a piece, of which so many had come before it.
-fn unended_after(unended: usize, piece: &[u8]) -> usize {
-    match piece.iter().rposition(|byte| *byte == b'\n') {
-        Some(at) => piece.len().saturating_sub(at).saturating_sub(1),
-        None => unended.saturating_add(piece.len()),
     }
 }
 

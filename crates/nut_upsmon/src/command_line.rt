@@ -15,7 +15,7 @@ const USAGE: &str =
 
 /// What upsmon is to do.
 #[derive(Clone, Copy)]
-pub enum Task {
+pub enum UpsmonTask {
     /// Say whether POWERDOWNFLAG is set.
     LookForFlag,
     /// Check upsmon.conf.
@@ -34,7 +34,7 @@ pub enum Task {
 /// What the words of a command line ask for.
 #[derive(Drop)]
 pub struct CommandLine<'a> {
-    pub task: Task,
+    pub task: UpsmonTask,
     /// The folder of upsmon.conf.
     pub folder: String,
     /// The folders of a room's machines.
@@ -53,24 +53,19 @@ pub fn read_words<'a, R: Env + Alloc, S: AsStr>(
     alloc: Global,
     words: &'a [S],
 ) -> Result<CommandLine<'a>, Failure<UpsmonFault>> {
-    let matches = upsmon_command(alloc)?.try_get_matches_from(words)?;
-    match asked_by(rt, alloc, &matches) {
-        Ok(asked) => Ok(asked),
-        Err(AllocError) => Err(Failure::Memory),
-    }
-}
-
-/// Returns what a command line asks for that clap has accepted.
-fn asked_by<'a, R: Env + Alloc>(
-    rt: &R,
-    alloc: Global,
-    matches: &ArgMatches<'a>,
-) -> Result<CommandLine<'a>, AllocError> {
+    let mut args = Vec::new(alloc);
+    add_args(alloc, &mut args)?;
+    let matches = Command::new(alloc, "upsmon")
+        .version(VERSION)
+        .about("A monitor of UPSes that halts its machine when too few of them are left")
+        .override_usage(USAGE)
+        .args(args)?
+        .try_get_matches_from(words)?;
     Ok(CommandLine {
-        task: task_of(matches),
-        folder: conf_folder(rt, alloc, matches)?,
-        machines: values_of(alloc, matches, "machines")?,
-        delays: values_of(alloc, matches, "delay")?,
+        task: task_of(&matches),
+        folder: conf_folder(rt, alloc, &matches)?,
+        machines: values_of(alloc, &matches, "machines")?,
+        delays: values_of(alloc, &matches, "delay")?,
     })
 }
 
@@ -88,34 +83,23 @@ fn values_of<'a>(
 }
 
 /// Returns what upsmon is to do by a command line that clap has accepted.
-fn task_of(matches: &ArgMatches<'_>) -> Task {
+fn task_of(matches: &ArgMatches<'_>) -> UpsmonTask {
     if matches.get_flag("killpower") {
-        Task::LookForFlag
+        UpsmonTask::LookForFlag
     } else if matches.contains_id("machines") {
-        Task::CheckRoom
+        UpsmonTask::CheckRoom
     } else if matches.get_flag("check") {
-        Task::Check
+        UpsmonTask::Check
     } else if matches.get_flag("fsd") {
-        Task::Force
+        UpsmonTask::Force
     } else if matches.get_flag("obey") {
-        Task::Obey
+        UpsmonTask::Obey
     } else {
-        Task::Watch {
+        UpsmonTask::Watch {
             is_quiet: matches.get_flag("quiet"),
             halter: matches.get_one("halter"),
         }
     }
-}
-
-/// Returns the command line of upsmon: to watch, to check its file, to force a shutdown, and to look for POWERDOWNFLAG.
-fn upsmon_command<'a>(alloc: Global) -> Result<Command<'a>, AllocError> {
-    let mut args = Vec::new(alloc);
-    add_args(alloc, &mut args)?;
-    Command::new(alloc, "upsmon")
-        .version(VERSION)
-        .about("A monitor of UPSes that halts its machine when too few of them are left")
-        .override_usage(USAGE)
-        .args(args)
 }
 
 /// Adds the arguments, in the order in which the help names them.

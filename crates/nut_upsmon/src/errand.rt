@@ -91,7 +91,16 @@ impl Errand {
             Ok(()) if self == Errand::Force => look_at_status(clock, alloc, ups, stream),
             Ok(()) => Ok(()),
             Err(_) if stream.is_lost() => Err(Shortfall::Failed("", ToolFailure::Memory)),
-            Err(failure) => Err(Shortfall::Failed(self.last_query(stream.asked()), failure)),
+            Err(failure) => {
+                let queries = stream.asked().iter().filter(|byte| **byte == b'\n').count();
+                let last = match (queries, self) {
+                    (1, _) => "USERNAME",
+                    (2, _) => "PASSWORD",
+                    (_, Errand::Force) => "FSD",
+                    (_, Errand::LogIn) => "LOGIN",
+                };
+                Err(Shortfall::Failed(last, failure))
+            }
         }
     }
 
@@ -124,18 +133,6 @@ impl Errand {
             }
         };
     }
-
-    /// Returns the name of the last of these queries of it.
-    fn last_query(self, asked: &[u8]) -> &'static str {
-        match asked.iter().filter(|byte| **byte == b'\n').count() {
-            1 => "USERNAME",
-            2 => "PASSWORD",
-            _ => match self {
-                Errand::Force => "FSD",
-                Errand::LogIn => "LOGIN",
-            },
-        }
-    }
 }
 
 /// Asks whether the status of a UPS shows its forced shutdown.
@@ -147,17 +144,17 @@ fn look_at_status(
 ) -> Result<(), Shortfall> {
     let status = Wanted::Value(Word::new(b"ups.status"));
     match ask_server(clock, alloc, ups, status, stream) {
-        Ok(status) if shows_forced(status.as_bytes()) => Ok(()),
-        Ok(status) => Err(Shortfall::Unshown(status)),
+        Ok(status) => {
+            let mut flags = status.as_bytes().split(|byte| byte.is_ascii_whitespace());
+            if flags.any(|flag| flag == FORCED) {
+                Ok(())
+            } else {
+                Err(Shortfall::Unshown(status))
+            }
+        }
         Err(_) if stream.is_lost() => Err(Shortfall::Failed("", ToolFailure::Memory)),
         Err(failure) => Err(Shortfall::Untold(failure)),
     }
-}
-
-/// Whether a status shows a forced shutdown.
-fn shows_forced(status: &[u8]) -> bool {
-    let mut flags = status.split(|byte| byte.is_ascii_whitespace());
-    flags.any(|flag| flag == FORCED)
 }
 
 /// What was said to a server and by it.

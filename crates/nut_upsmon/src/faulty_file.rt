@@ -29,11 +29,6 @@ pub fn last_flag_in(
 ) -> io::Result<Option<PowerDownFlag>> {
     let path = Path::new(folder).join(alloc, MonConfig::FILE_NAME)?;
     let bytes = read_file(files, alloc, path, FILE_MAX as u64)?;
-    last_flag(alloc, bytes.as_slice())
-}
-
-/// Returns the flag that a file names last, in a line that has no fault.
-fn last_flag(alloc: Global, bytes: &[u8]) -> io::Result<Option<PowerDownFlag>> {
     for line in bytes.rsplit(|byte| *byte == b'\n') {
         let flag = flag_of_line(alloc, line)?;
         if flag.is_some() {

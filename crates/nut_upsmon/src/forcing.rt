@@ -2,7 +2,7 @@
 
 use crate::errand::{Errand, Talk, run_errand};
 use crate::upsmon_fault::UpsmonFault;
-use nut_conf::{MonConfig, Monitored, Role};
+use nut_conf::{MonConfig, Role};
 use nut_log::{Level, Lines};
 use nut_monitor::has_primary;
 use nut_poll::{ErrorLines, LossyLines, text_of};
@@ -43,13 +43,8 @@ where
     let mut out = LossyLines::new(streams.out);
     let talks = run_errand(Errand::Force, rt, alloc, lines, &mut out, told)?;
     tell_supplies(config, &talks, told);
-    Ok(is_all_forced(lines, &talks))
-}
-
-/// Whether FSD is set and shown by the talks about all primary lines.
-fn is_all_forced(lines: &[Monitored], talks: &[Talk]) -> bool {
-    let mut each = lines.iter().zip(talks);
-    each.all(|(line, talk)| talk.is_done || line.role == Role::Secondary)
+    let mut each = lines.iter().zip(&talks);
+    Ok(each.all(|(line, talk)| talk.is_done || line.role == Role::Secondary))
 }
 
 /// Reports which lines still supply this machine, if they supply enough for it.

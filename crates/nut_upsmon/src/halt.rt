@@ -93,14 +93,14 @@ pub fn halt_heap(alloc: Global) -> Option<LocalHeap> {
 /// The steps that halt the machine, prepared before they are needed: carrying them out allocates nothing. If
 /// SHUTDOWNCMD's shell has been ended meanwhile, starting another one takes the heap's memory, and some small blocks
 /// that the C library needs to start a process.
-pub struct PreparedHalt<'r, 'h, R: Processes> {
+pub struct PreparedHalt<'r, 'h, R: Files + Processes> {
     rt: &'r R,
     flag: Option<PowerDownFlag>,
     command: Option<ShutdownCommand<'r, 'h, R>>,
 }
 
 // A derived drop would be followed with those of its parts wherever a halt may be dropped.
-impl<'r, 'h, R: Processes> Drop for PreparedHalt<'r, 'h, R> {
+impl<'r, 'h, R: Files + Processes> Drop for PreparedHalt<'r, 'h, R> {
     fn drop(self) {
         let PreparedHalt {
             rt: _,

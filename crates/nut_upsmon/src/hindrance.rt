@@ -59,7 +59,9 @@ fn can_run(files: &impl Files, directive: &str, command: &[u8], err: &mut ErrorL
     let Some(word) = command.split(u8::is_ascii_whitespace).next() else {
         return true;
     };
-    if !word.starts_with(b"/") || !word.iter().all(is_plain) {
+    let mut bytes = word.iter();
+    let is_plain = bytes.all(|byte| byte.is_ascii_alphanumeric() || b"/._-+".contains(byte));
+    if !word.starts_with(b"/") || !is_plain {
         return true;
     }
     let path = text_of(word);
@@ -74,9 +76,4 @@ fn can_run(files: &impl Files, directive: &str, command: &[u8], err: &mut ErrorL
         );
     }
     is_program
-}
-
-/// Whether the shell takes a byte of a path as it is.
-fn is_plain(byte: &u8) -> bool {
-    byte.is_ascii_alphanumeric() || matches!(*byte, b'/' | b'.' | b'_' | b'-' | b'+')
 }

@@ -197,16 +197,12 @@ impl<'r, R: Processes> LowRuntimes<'r, R> {
         }
         self.pause = self.patience.steps_in(self.patience.pause);
         let ups = self.left.remove(0);
-        if let Err(ups) = self.ask(ups) {
-            self.ask_again(ups, err);
-        }
-    }
-
-    /// Begins to ask for a UPS, or gives it back.
-    fn ask(&mut self, ups: AskedUps) -> Result<(), AskedUps> {
-        match Program::new(self.alloc, "upsc", &[ups.name.as_str(), LOW_RUNTIME]) {
+        let asked = match Program::new(self.alloc, "upsc", &[ups.name.as_str(), LOW_RUNTIME]) {
             Ok(upsc) => self.questions.start(upsc, ups),
             Err(AllocError) => Err(ups),
+        };
+        if let Err(ups) = asked {
+            self.ask_again(ups, err);
         }
     }
 }

@@ -28,7 +28,7 @@ use std::time::Clock;
 /// What the next watch begins with is made even before that: once the change is reported, no lack of memory can end
 /// upsmon.
 #[derive(Drop)]
-pub struct Machine<'r, R: Processes> {
+pub struct Machine<'r, R: Files + Processes> {
     rt: &'r R,
     alloc: Global,
     /// Where its halts take their memory from, unless none is available for that.

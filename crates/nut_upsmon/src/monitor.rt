@@ -1,7 +1,6 @@
 //! upsmon: a monitor that decides when to halt its machine.
 
-use crate::beginning::Beginning;
-use crate::command_line::{Task, read_words};
+use crate::command_line::{UpsmonTask, read_words};
 use crate::faulty_file::last_flag_in;
 use crate::forcing::force_shutdowns;
 use crate::halt::halt_heap;
@@ -17,7 +16,6 @@ use crate::stopping::Stopping;
 use crate::upsmon_fault::UpsmonFault;
 use crate::warning::read_and_warn;
 use crate::watching::watch_over_sockets;
-use linked_list_allocator::LocalHeap;
 use nut_conf::MonConfig;
 use nut_log::LogStream;
 use nut_poll::{ErrorLines, LossyLines};
@@ -109,9 +107,9 @@ where
     let task = asked.task;
     let folder = asked.folder.as_str();
     match task {
-        Task::LookForFlag => look_for_flag(rt, alloc, folder, streams.out, err),
-        Task::Check => check_file(rt, alloc, folder, streams.out, err),
-        Task::CheckRoom => {
+        UpsmonTask::LookForFlag => look_for_flag(rt, alloc, folder, streams.out, err),
+        UpsmonTask::Check => check_file(rt, alloc, folder, streams.out, err),
+        UpsmonTask::CheckRoom => {
             check_room(
                 rt,
                 alloc,
@@ -121,9 +119,9 @@ where
                 err,
             )
         }
-        Task::Force => force(rt, alloc, folder, streams, err),
-        Task::Obey => obey_input(rt, alloc, folder, input, streams, err),
-        Task::Watch { is_quiet, halter } => guard(
+        UpsmonTask::Force => force(rt, alloc, folder, streams, err),
+        UpsmonTask::Obey => obey_input(rt, alloc, folder, input, streams, err),
+        UpsmonTask::Watch { is_quiet, halter } => guard(
             rt, alloc, folder, is_quiet, halter, streams, err,
         ),
     }
@@ -140,15 +138,17 @@ fn look_for_flag<R: Files>(
 ) -> Result<u8, Failure<UpsmonFault>> {
     let flag = match read_config(files, alloc, folder) {
         Ok(config) => PowerDownFlag::of(alloc, &config)?,
-        Err(failure) => {
-            if !is_of_lines(&failure) {
-                return Err(failure);
-            }
+        Err(failure @ Failure::Own(UpsmonFault::File(FileFault::Conf(..)))) => {
             failure.tell(&mut out, err);
             last_flag_in(files, alloc, folder)?
         }
+        Err(failure) => return Err(failure),
     };
-    Ok(u8::from(!is_set(files, &flag)))
+    let is_set = match &flag {
+        Some(flag) => matches!(flag.state(files), Ok(FlagState::Set)),
+        None => false,
+    };
+    Ok(u8::from(!is_set))
 }
 
 /// Reads upsmon.conf in this folder.
@@ -158,22 +158,6 @@ fn read_config(
     folder: &str,
 ) -> Result<MonConfig, Failure<UpsmonFault>> {
     Ok(read_conf(files, alloc, folder)?)
-}
-
-/// Whether this is a fault of the lines of a file that was read.
-fn is_of_lines(failure: &Failure<UpsmonFault>) -> bool {
-    matches!(
-        failure,
-        Failure::Own(UpsmonFault::File(FileFault::Conf(..)))
-    )
-}
-
-/// Whether there is a flag and it is set.
-fn is_set(files: &impl Files, flag: &Option<PowerDownFlag>) -> bool {
-    match flag {
-        Some(flag) => matches!(flag.state(files), Ok(FlagState::Set)),
-        None => false,
-    }
 }
 
 /// Reads upsmon.conf in this folder, writes what it should set otherwise and how soon its machine stops, reports what is
@@ -231,25 +215,7 @@ where
     let mut reloader = UpsmonReloader::new(rt, alloc, folder, is_quiet)?;
     let first = reloader.read_first(rt, err)?;
     let heap = halt_heap(alloc);
-    watch_and_halt(rt, alloc, &heap, &mut reloader, first, halter, streams, err)
-}
-
-/// Watches from this beginning on, and halts the machine with the memory of this heap.
-fn watch_and_halt<'r, R>(
-    rt: &'r R,
-    alloc: Global,
-    heap: &'r Option<LocalHeap>,
-    reloader: &'r mut UpsmonReloader,
-    first: Beginning,
-    halter: Option<u32>,
-    streams: Streams,
-    err: &mut ErrorLines,
-) -> Result<u8, Failure<UpsmonFault>>
-where
-    R: Wait + Files + Net + Clock + Processes,
-{
-    let is_quiet = reloader.is_quiet();
-    let machine = Machine::new(rt, alloc, heap, reloader, streams, halter);
+    let machine = Machine::new(rt, alloc, &heap, &mut reloader, streams, halter);
     watch_over_sockets(rt, alloc, machine, first, is_quiet, err)??;
     Ok(0)
 }

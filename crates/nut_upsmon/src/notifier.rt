@@ -34,12 +34,13 @@ pub struct Notifier<'a, R: Processes> {
     alloc: Global,
     out: OutputLines,
     text: Vec<u8>,
-    /// The script that runs NOTIFYCMD, if that is set.
+    /// The script that runs NOTIFYCMD, if that is set: the command with the text of a notice as its last argument. The shell
+    /// inserts the text itself, so that no byte of it is read as a command.
     script: Option<String>,
     /// The processes that may not have ended: runs of the command, and others that are waited for with them.
     running: Vec<Child<R::Started>>,
     runtimes: LowRuntimes<'a, R>,
-    /// Whether notices go to standard error, since standard output is for orders.
+    /// Whether notices go to standard error, as does what NOTIFYCMD writes, since standard output is for orders.
     is_aside: bool,
 }
 
@@ -73,7 +74,18 @@ impl<'a, R: Processes> Notifier<'a, R> {
         self.text.clear();
         self.text.reserve(TEXT_MAX)?;
         self.running.reserve(RUNNING_MAX)?;
-        let script = script_in(self.alloc, config, self.is_aside)?;
+        let script = match &config.notify_cmd {
+            Some(command) => {
+                let command = text_of(command.as_bytes());
+                let beginning = if self.is_aside {
+                    BEGINNING_ASIDE
+                } else {
+                    BEGINNING
+                };
+                Some(format!(in self.alloc; "{beginning}{command} \"$1\"")?)
+            }
+            None => None,
+        };
         self.runtimes.restart(config)?;
         self.script = script;
         Ok(())
@@ -161,34 +173,7 @@ fn print_on<L: Lines>(lines: &mut L, text: &[u8]) {
     let _ = lines.write_all(b"\n");
 }
 
-/// Returns the UPS of a notice as MONITOR has it; empty for SHUTDOWN.
-fn ups_of(config: &MonConfig, notice: Notice) -> &[u8] {
-    let Some(line) = notice.line else {
-        return b"";
-    };
-    match config.monitors.lines.get(line) {
-        Some(monitored) => monitored.written.as_slice(),
-        None => b"",
-    }
-}
-
-/// Returns the script of the command that upsmon.conf sets, if it sets one: the command with the text of a notice as its last
-/// argument. The shell inserts the text itself, so that no byte of it is read as a command. If it `is_aside`, it writes to
-/// standard error alone.
-fn script_in(
-    alloc: Global,
-    config: &MonConfig,
-    is_aside: bool,
-) -> Result<Option<String>, AllocError> {
-    let Some(command) = &config.notify_cmd else {
-        return Ok(None);
-    };
-    let command = text_of(command.as_bytes());
-    let beginning = if is_aside { BEGINNING_ASIDE } else { BEGINNING };
-    Ok(Some(format!(in alloc; "{beginning}{command} \"$1\"")?))
-}
-
-/// Starts a shell that runs a script of [`script_in`] with a notice of this monitor, and its text.
+/// Starts a shell that runs this script with a notice of this monitor, and its text.
 ///
 /// # Errors
 ///
@@ -202,7 +187,12 @@ fn start<R: Processes>(
     notice: Notice,
 ) -> io::Result<Child<R::Started>> {
     let mut shell = shell_command(alloc, script, text_of(text))?;
-    let ups = ups_of(monitor.config(), notice);
+    let mut ups = &[][..];
+    if let Some(line) = notice.line
+        && let Some(monitored) = monitor.config().monitors.lines.get(line)
+    {
+        ups = monitored.written.as_slice();
+    }
     spawn(processes, &mut shell, notice.kind.word(), ups)
 }
 

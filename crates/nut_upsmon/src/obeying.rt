@@ -83,7 +83,7 @@ impl<'i, I: Read> Orders for Input<'i, I> {
 
 /// The machine that is halted by orders.
 #[derive(Drop)]
-struct HaltedMachine<'r, R: Processes> {
+struct HaltedMachine<'r, R: Files + Processes> {
     rt: &'r R,
     alloc: Global,
     folder: &'r str,

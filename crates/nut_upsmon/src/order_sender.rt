@@ -46,7 +46,7 @@ impl OrderSender {
     /// Gives the orders of a second, unless the other process is stopped by a signal or the pipe is full. That is written to
     /// `err`, once for as long as it lasts. So a process that is stopped for long doesn't fill the pipe.
     pub fn second(&mut self, files: &impl Files, out: &mut OutputLines, err: &mut ErrorLines) {
-        if is_stopped(files, self.halter) || !self.gives_change(out) {
+        if is_stopped(files, self.halter, &mut None) || !self.gives_change(out) {
             self.warn_unheard(err);
             return;
         }

@@ -3,8 +3,7 @@
 use arrayvec::ArrayString;
 use std::fmt::Write;
 use std::fs::File;
-use std::io;
-use std::io::Read;
+use std::io::{Read, Seek};
 use std::process::{Child, OpenProcess};
 use std::rt::Files;
 
@@ -30,25 +29,28 @@ pub fn process_number(process: u32) -> ArrayString<DIGITS> {
 }
 
 /// Whether a signal, for example SIGSTOP, has stopped the process with this number. If the system doesn't tell, for example
-/// since /proc isn't mounted, the answer is no. Nothing is allocated.
-pub fn is_stopped(files: &impl Files, process: u32) -> bool {
-    let mut bytes = [0; READ_MAX];
-    match read_state(files, process, &mut bytes) {
-        Ok(length) => is_stopped_in(bytes.get(..length).unwrap_or(&[])),
-        Err(_) => false,
+/// since /proc isn't mounted or the process is gone, the answer is no. Nothing is allocated.
+///
+/// `state` is the file in which the system tells that. It is opened if it isn't open. One that is open never tells of another
+/// process that has got the number since.
+pub fn is_stopped<R: Files>(files: &R, process: u32, state: &mut Option<R::File>) -> bool {
+    if state.is_none() {
+        let mut path: ArrayString<PATH_MAX> = ArrayString::new();
+        let _ = write!(&mut path, "/proc/{process}/stat");
+        *state = File::open(files, path.as_str()).ok();
     }
-}
-
-/// Reads the beginning of what the system tells of a process. Returns its length.
-fn read_state(files: &impl Files, process: u32, bytes: &mut [u8]) -> io::Result<usize> {
-    let mut path: ArrayString<PATH_MAX> = ArrayString::new();
-    let _ = write!(&mut path, "/proc/{process}/stat");
-    File::open(files, path.as_str())?.read(bytes)
-}
-
-/// Whether the state is `T`, stopped by a signal: the letter behind the name, which is in parentheses and may hold any
-/// (proc(5)).
-fn is_stopped_in(told: &[u8]) -> bool {
+    let Some(file) = state else {
+        return false;
+    };
+    let mut bytes = [0; READ_MAX];
+    if file.rewind().is_err() {
+        return false;
+    }
+    let Ok(length) = file.read(&mut bytes) else {
+        return false;
+    };
+    let told = bytes.get(..length).unwrap_or(&[]);
+    // The state is the letter behind the name, which is in parentheses and may hold any (proc(5)).
     let Some(end) = told.iter().rposition(|byte| *byte == b')') else {
         return false;
     };

@@ -157,28 +157,22 @@ impl UpsmonReloader {
         }
     }
 
-    /// Reads upsmon.conf. If it can't be read, or nothing in it has changed, that is reported: the links stay.
+    /// Reads upsmon.conf, compares it, and makes what its watch begins with. If it can't be read, or nothing in it has changed,
+    /// that is reported: the links stay.
     fn read(&mut self, files: &impl Files, former: &MonConfig, err: &mut ErrorLines) {
         self.is_wait_told = false;
         self.waiting = None;
-        match self.read_reload(files, former, err) {
+        let read = match read_and_warn(files, self.alloc, self.folder.as_str(), err) {
+            Ok(config) => Reload::of(self.alloc, former, config).map_err(|_| FileFault::Memory),
+            Err(fault) => Err(fault),
+        };
+        match read {
             Ok(reload) if reload.changes.are_none() => {
                 self.reports(err).tell(ReloadReport::Reloaded(""));
             }
             Ok(reload) => self.waiting = Some(reload),
             Err(fault) => tell_not_reloaded(&fault, fault.remark(), err),
         }
-    }
-
-    /// Reads upsmon.conf, compares it, and makes what its watch begins with.
-    fn read_reload(
-        &self,
-        files: &impl Files,
-        former: &MonConfig,
-        err: &mut ErrorLines,
-    ) -> Result<Reload, FileFault<'static>> {
-        let config = read_and_warn(files, self.alloc, self.folder.as_str(), err)?;
-        Reload::of(self.alloc, former, config).map_err(|_| FileFault::Memory)
     }
 
     /// Returns the configuration that waits, unless it has to continue waiting, which is reported once.

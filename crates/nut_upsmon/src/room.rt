@@ -14,7 +14,7 @@ use nut_log::{Level, Lines, LogStream};
 use nut_monitor::has_primary;
 use nut_monitor_sockets::ANSWER_ON_BATTERY;
 use nut_poll::ErrorLines;
-use nut_program::{Failure, FileFault, read_conf};
+use nut_program::{Failure, read_conf};
 use std::alloc::Global;
 use std::io;
 use std::io::{Stdout, Write};
@@ -52,10 +52,13 @@ pub fn check_room(
 ) -> Result<u8, Failure<UpsmonFault>> {
     let mut machines = Vec::new(alloc);
     for folder in folders {
-        let config = read_machine(files, alloc, folder, err)?;
+        let read = read_conf(files, alloc, folder);
+        if read.is_err() {
+            let _ = writeln!(err.begin(Level::Error), "in {folder}:");
+        }
         machines.push(RoomMachine {
             folder,
-            config,
+            config: read?,
             delay: DELAY,
         })?;
     }
@@ -66,20 +69,6 @@ pub fn check_room(
     Ok(0)
 }
 
-/// Reads the upsmon.conf of a machine. A line that names its folder comes before the fault of the file.
-fn read_machine(
-    files: &impl Files,
-    alloc: Global,
-    folder: &str,
-    err: &mut ErrorLines,
-) -> Result<MonConfig, FileFault<'static>> {
-    let read = read_conf(files, alloc, folder);
-    if read.is_err() {
-        let _ = writeln!(err.begin(Level::Error), "in {folder}:");
-    }
-    read
-}
-
 /// Sets the longest time for an answer on the machines that a word names as `FOLDER=SECONDS`.
 fn set_delay(
     alloc: Global,
@@ -87,7 +76,9 @@ fn set_delay(
     word: &str,
 ) -> Result<(), Failure<UpsmonFault>> {
     let mut is_named = false;
-    if let Some((folder, seconds)) = delay_in(word) {
+    if let Some((folder, seconds)) = word.rsplit_once('=')
+        && let Ok(seconds) = seconds.parse::<u32>()
+    {
         for machine in machines.iter_mut() {
             if machine.folder == folder {
                 machine.delay = seconds;
@@ -99,12 +90,6 @@ fn set_delay(
         return Ok(());
     }
     Err(Failure::Own(UpsmonFault::BadDelay(String::from_str(alloc, word)?)))
-}
-
-/// Returns the folder and the seconds that a word has as `FOLDER=SECONDS`.
-fn delay_in(word: &str) -> Option<(&str, u32)> {
-    let (folder, seconds) = word.rsplit_once('=')?;
-    Some((folder, seconds.parse().ok()?))
 }
 
 /// The HOSTSYNC that a machine needs.

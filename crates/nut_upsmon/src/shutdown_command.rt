@@ -57,25 +57,28 @@ enum ShellState {
 
 /// SHUTDOWNCMD, run by a shell that was started before. So the machine can be halted even if no process can be started
 /// any more, for example for lack of memory.
-pub struct ShutdownCommand<'r, 'h, R: Processes> {
+pub struct ShutdownCommand<'r, 'h, R: Files + Processes> {
     rt: &'r R,
     heap: &'h LocalHeap,
     command: Command<&'h LocalHeap>,
     /// The shell that waits or runs the command, if one was started.
     shell: Option<Child<R::Started>>,
+    /// The file in which the system tells whether that shell is stopped, if it is open.
+    state: Option<R::File>,
     /// The shell that was last started to continue that one. It ends by itself.
     waker: Option<Child<R::Started>>,
     told: ShellState,
 }
 
 // A derived drop would be followed with those of its parts wherever a command may be dropped.
-impl<'r, 'h, R: Processes> Drop for ShutdownCommand<'r, 'h, R> {
+impl<'r, 'h, R: Files + Processes> Drop for ShutdownCommand<'r, 'h, R> {
     fn drop(self) {
         let ShutdownCommand {
             rt: _,
             heap: _,
             command: _command,
             shell: _shell,
+            state: _state,
             waker: _waker,
             told: _,
         } = self;
@@ -100,6 +103,7 @@ impl<'r, 'h, R: Files + Processes + Clock> ShutdownCommand<'r, 'h, R> {
             heap,
             command,
             shell: None,
+            state: None,
             waker: None,
             told: ShellState::Waits,
         })
@@ -112,6 +116,7 @@ impl<'r, 'h, R: Files + Processes + Clock> ShutdownCommand<'r, 'h, R> {
     /// That of the system if it cannot be started.
     pub fn start_shell(&mut self) -> io::Result<()> {
         self.shell = Some(self.command.spawn(self.rt)?);
+        self.state = None;
         Ok(())
     }
 
@@ -245,9 +250,9 @@ impl<'r, 'h, R: Files + Processes + Clock> ShutdownCommand<'r, 'h, R> {
     }
 
     /// Whether a signal has stopped the shell that waits or runs the command.
-    fn is_stopped(&self) -> bool {
+    fn is_stopped(&mut self) -> bool {
         match &self.shell {
-            Some(shell) => is_stopped(self.rt, shell.id()),
+            Some(shell) => is_stopped(self.rt, shell.id(), &mut self.state),
             None => false,
         }
     }
@@ -258,8 +263,13 @@ impl<'r, 'h, R: Files + Processes + Clock> ShutdownCommand<'r, 'h, R> {
         forget_ended(&mut self.waker);
         if self.waker.is_none()
             && let Some(shell) = &self.shell
+            && let Ok(mut waker) = shell_command(
+                self.heap,
+                CONTINUE,
+                process_number(shell.id()).as_str(),
+            )
         {
-            self.waker = start_waker(self.rt, self.heap, shell.id()).ok();
+            self.waker = waker.spawn(self.rt).ok();
         }
     }
 
@@ -277,16 +287,6 @@ fn forget_ended<P: OpenProcess + Drop>(process: &mut Option<Child<P>>) {
     if !process.as_mut().is_some_and(is_running) {
         *process = None;
     }
-}
-
-/// Starts a shell that continues the process with this number.
-fn start_waker<R: Processes>(
-    processes: &R,
-    heap: &LocalHeap,
-    process: u32,
-) -> io::Result<Child<R::Started>> {
-    let number = process_number(process);
-    shell_command(heap, CONTINUE, number.as_str())?.spawn(processes)
 }
 
 /// Returns the line that the shell waits for: it names the standard streams that take nothing at the halt, since nobody

@@ -112,23 +112,12 @@ pub fn read_and_warn(
     err: &mut ErrorLines,
 ) -> Result<MonConfig, FileFault<'static>> {
     let config = read_conf(files, alloc, folder)?;
-    match tell_warnings(files, alloc, folder, &config, err) {
-        Ok(()) => Ok(config),
-        Err(AllocError) => Err(FileFault::Memory),
+    match readable_file::<MonConfig>(files, alloc, folder) {
+        Ok(readable) => warn(readable, err),
+        Err(AllocError) => return Err(FileFault::Memory),
     }
-}
-
-/// Writes what upsmon.conf in this folder should set otherwise, and whether everybody can read it.
-fn tell_warnings(
-    files: &impl Files,
-    alloc: Global,
-    folder: &str,
-    config: &MonConfig,
-    err: &mut ErrorLines,
-) -> Result<(), AllocError> {
-    warn(readable_file::<MonConfig>(files, alloc, folder)?, err);
-    for warning in Warning::all_of(config) {
+    for warning in Warning::all_of(&config) {
         warn(warning, err);
     }
-    Ok(())
+    Ok(config)
 }

@@ -7,9 +7,9 @@ use Rattle.nut_monitor_sockets.proofs.links.Links.next.Goals as goal
 pub returns-clause-turns : goal.returns-clause-turns
 returns-clause-turns g c =
     let start = c.args.self.now.rounds.ready in
-    let looked = c.look.new.self.rounds.ready in
+    let looked = c.come.new.self.rounds.ready in
     let came = c.wait.new.self.rounds.ready in
-    let end = c.look-next.new.self.rounds.ready in
+    let end = c.come-next.new.self.rounds.ready in
     let first : ComesInTurn Again start looked = subst (λ q. ComesInTurn Again q looked) c.follow.ensures c.in_default.ensures.turns in
-    let then : ComesInTurn c.unwrap_or.result came end = subst (λ n. ComesInTurn n came end) (sym c.unwrap_or.ensures) c.look-next.ensures.turns in
+    let then : ComesInTurn c.unwrap_or.result came end = subst (λ n. ComesInTurn n came end) (sym c.unwrap_or.ensures) c.come-next.ensures.turns in
     waited c.unwrap_or.result start looked came end first c.in_ok-wait.ensures then
