@@ -3,3 +3,4 @@ pub mod Late
 pub mod Moments
 pub mod Queue
 pub mod Turns
+pub mod inside

@@ -50,3 +50,7 @@ IsTaken (Some token) old new = (old.waiting ≡ token.0 ∷ new.waiting) × (old
 -- These were looked at, in this order: the first of those that waited, and then of those that came.
 abbrev pub Looks : List ℕ → Queue → Queue → Type 0
 Looks looked old new = (came : List ℕ) × (looked ++ new.waiting ≡ old.waiting ++ came)
+
+-- Sources were looked at in turn, however many, and others came to wait behind all.
+abbrev pub TakesTurns : Queue → Queue → Type 0
+TakesTurns old new = (looked : List ℕ) × Looks looked old new

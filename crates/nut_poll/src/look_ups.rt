@@ -93,22 +93,19 @@ impl<'r, R: Processes> LookUps<'r, R> {
     /// Takes the result of a look-up that has ended, if one has.
     pub fn take(&mut self) -> Option<Found> {
         let mut look_up = self.questions.take()?;
+        let addresses = addresses_of(self.alloc, &mut look_up);
+        let reason = if look_up.is_late {
+            "its name is not looked up in time"
+        } else if look_up.is_unasked() {
+            NOT_STARTED
+        } else {
+            HOST_UNKNOWN
+        };
         Some(Found {
-            addresses: addresses_of(self.alloc, &mut look_up),
-            reason: reason_of(&mut look_up),
             name: look_up.about,
+            addresses,
+            reason,
         })
-    }
-}
-
-/// Returns why addresses are missing after a look-up, if they are.
-fn reason_of<P: OpenProcess>(look_up: &mut Question<P, String>) -> &'static str {
-    if look_up.is_late {
-        "its name is not looked up in time"
-    } else if look_up.is_unasked() {
-        NOT_STARTED
-    } else {
-        HOST_UNKNOWN
     }
 }
 

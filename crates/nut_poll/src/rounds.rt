@@ -104,7 +104,7 @@ impl Rounds {
     pub fn turn(&mut self, clock: &impl Clock) -> io::Result<Option<u64>>
         ensures begins { IfOk result (λ moment. (passed : Duration)
             × Begins passed self.old.seconds.full self.old.fixed moment self.old.ready self.new.ready) }
-        ensures comes { IfOk result (λ _. Looks [] self.old.ready self.new.ready) }
+        ensures comes { Looks [] self.old.ready self.new.ready }
         ensures second { IfOk result (λ moment. IsTold moment self.old.seconds.full self.new.seconds.full) }
         ensures events { self.new.events ≡ self.old.events }
     {

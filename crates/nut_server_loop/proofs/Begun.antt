@@ -7,7 +7,8 @@ use Rattle.nut_server_spec.specs.Configuration.{Configuration}
 use Rattle.nut_server_spec.specs.Event.{Event, Moment, Bytes, Took, DriverBytes, DriverTook, DriverUp, Reload}
 use Rattle.nut_server_spec.specs.Trace.{driver_sent, driver_waits}
 use Rattle.nut_server_spec.specs.Content.{past}
-use Rattle.nut_server_spec.specs.Acceptance.{IsAccepted, lost, lost_report}
+use Rattle.nut_server_spec.specs.Acceptance.{IsAccepted}
+use Rattle.nut_server_spec.specs.machine.MachineOutcome.{lost, lost_report}
 use Rattle.nut_server_spec.specs.Outcome.{after_refusal}
 use Rattle.nut_server_spec.proofs.Sent.{taken_by, sent-other, sent-refused}
 use Rattle.nut_server_spec.proofs.DriverSent.{drained_by, driver_sent-step, driver_sent-refused}

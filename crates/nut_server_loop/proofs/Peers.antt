@@ -8,11 +8,11 @@ use Rattle.nut_server_spec.specs.Event.{Event}
 use Rattle.nut_server_spec.specs.Event as event
 use Rattle.nut_server_spec.specs.Trace.{connected, driver_due, driver_taken}
 use Rattle.nut_server_spec.specs.Content.{Session, Supply, Content, content, past, down}
-use Rattle.nut_server_spec.specs.Acceptance.{refusal, took_refusal, close_refusal, drain_refusal, down_refusal, Tells, session_of, waiting_in, supply_of, asks_in, leaves}
+use Rattle.nut_server_spec.specs.Acceptance.{refusal, took_refusal, close_refusal, drain_refusal, down_refusal, Tells, session_of, waiting_in, supply_of, leaves}
 use Rattle.nut_server_spec.specs.machine.Machine.{advance}
 use Rattle.nut_server_spec.proofs.Kept.{supply_is}
 use Rattle.nut_server_spec.proofs.Sent.{sent-took_told}
-use Rattle.nut_server_spec.proofs.DriverSent.{driver_sent-took_told}
+use Rattle.nut_server_spec.proofs.DriverSent.{driver_sent-took_told, asks_in}
 use Rattle.nut_server_spec.proofs.Sessions.{session_of-update_other, session_of-without, session_of-without_other, waiting_of-took}
 use Rattle.nut_server_spec.proofs.Others.{advance-other_driver, advance-driver_took, advance-driver_down}
 use Rattle.nut_io.specs.declared.types.Written.{Written}

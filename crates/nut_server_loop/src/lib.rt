@@ -14,6 +14,6 @@ mod world;
 pub use memory::MemoryWorld;
 pub use replay::serve_memory;
 pub use serving::serve;
-pub use streams::{Stream, StreamWorld};
+pub use streams::{StreamWorld, WorldStream};
 pub use types::{Given, Next, Note, Peer};
 pub use world::World;

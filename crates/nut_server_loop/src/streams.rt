@@ -8,7 +8,7 @@ ghost use Rattle.nut_server_loop.specs.Record.{Steps, tells_next, tells_write, a
 ghost use Rattle.nut_server_loop.specs.declared.types.Peer.{Peer};
 ghost use Rattle.nut_server_loop.specs.declared.types.Peer.TheVariants.{Connection};
 ghost use Rattle.nut_server_loop.specs.Streams.{IsRead, no_record};
-ghost use Rattle.nut_server_loop.specs.declared.streams.Stage.TheVariants.{Ended};
+ghost use Rattle.nut_server_loop.specs.declared.streams.ClientStage.TheVariants.{Ended};
 
 use crate::{Next, World};
 use nut_io::{Fault, Piece, Written, read_piece, write_some};
@@ -23,7 +23,7 @@ const ADDRESS: &[u8] = b"stdio";
 
 /// The stage of the one client: about to connect, connected, or gone.
 #[derive(Clone, Copy, PartialEq, Eq)]
-enum Stage {
+enum ClientStage {
     Arriving,
     Present,
     Ended,
@@ -31,7 +31,7 @@ enum Stage {
 
 /// One of the two streams of the world.
 #[derive(Clone, Copy, Debug, PartialEq, Eq)]
-pub enum Stream {
+pub enum WorldStream {
     /// The reader that the client's bytes come from.
     Input,
     /// The writer that replies go to.
@@ -46,9 +46,9 @@ pub enum Stream {
 pub struct StreamWorld<'a, R, T> {
     input: &'a mut R,
     output: &'a mut T,
-    stage: Stage,
+    stage: ClientStage,
     faults: u64,
-    failed: Option<Stream>,
+    failed: Option<WorldStream>,
 }
 
 impl<'a, R: Read, T: Write> StreamWorld<'a, R, T> {
@@ -60,14 +60,14 @@ impl<'a, R: Read, T: Write> StreamWorld<'a, R, T> {
         StreamWorld {
             input,
             output,
-            stage: Stage::Arriving,
+            stage: ClientStage::Arriving,
             faults: 0,
             failed: None,
         }
     }
 
     /// Returns the stream that failed last, if one did.
-    pub fn failed(&self) -> Option<Stream>
+    pub fn failed(&self) -> Option<WorldStream>
         ensures { result ≡ self.now.failed }
     {
         self.failed
@@ -78,7 +78,7 @@ impl<'a, R: Read, T: Write> StreamWorld<'a, R, T> {
         ensures over { result ≡ true → (self.now.stage ≡ Ended) ⊎ (may_read (session_of 1 server.now.sessions) ≡ false) }
         ensures on { result ≡ false → may_read (session_of 1 server.now.sessions) ≡ true }
     {
-        self.stage == Stage::Ended || !server.may_read(CLIENT)
+        self.stage == ClientStage::Ended || !server.may_read(CLIENT)
     }
 }
 
@@ -120,23 +120,24 @@ impl<'a, R: Read, T: Write> World for StreamWorld<'a, R, T> {
         ensures at_end { result ≡ Ok Next.End → (self.old.stage ≡ Ended) ⊎ (may_read (session_of 1 server.now.sessions) ≡ false)
             ⊎ IsAtEnd (R.remaining self.new.input.now) }
     {
-        if self.stage == Stage::Arriving {
-            self.stage = Stage::Present;
-            show_address(piece);
+        if self.stage == ClientStage::Arriving {
+            self.stage = ClientStage::Present;
+            piece.clear();
+            let _ = piece.try_extend_from_slice(ADDRESS);
             return Ok(Next::Open);
         }
         if self.is_over(server) {
-            self.stage = Stage::Ended;
+            self.stage = ClientStage::Ended;
             return Ok(Next::End);
         }
         match hear(self.input, piece) {
             Ok(true) => Ok(Next::Bytes(CLIENT)),
             Ok(false) => {
-                self.stage = Stage::Ended;
+                self.stage = ClientStage::Ended;
                 Ok(Next::End)
             }
             Err(_) => {
-                self.failed = Some(Stream::Input);
+                self.failed = Some(WorldStream::Input);
                 self.faults += 1;
                 Err(Fault)
             }
@@ -158,7 +159,7 @@ impl<'a, R: Read, T: Write> World for StreamWorld<'a, R, T> {
         match offer(self.output, bytes) {
             Ok(n) => Ok(Written::Took(n)),
             Err(_) => {
-                self.failed = Some(Stream::Output);
+                self.failed = Some(WorldStream::Output);
                 self.faults += 1;
                 Err(Fault)
             }
@@ -171,7 +172,7 @@ impl<'a, R: Read, T: Write> World for StreamWorld<'a, R, T> {
     }
 
     fn close(&mut self, _c: u64) -> Result<(), Fault> {
-        self.stage = Stage::Ended;
+        self.stage = ClientStage::Ended;
         Ok(())
     }
 
@@ -204,10 +205,4 @@ fn offer<T: Write>(output: &mut T, bytes: &[u8]) -> Result<usize, Fault>
         Ok(n) if n > 0 => Ok(n),
         _ => Err(Fault),
     }
-}
-
-/// Puts the address of the one client into the piece.
-fn show_address(piece: &mut Piece) {
-    piece.clear();
-    let _ = piece.try_extend_from_slice(ADDRESS);
 }

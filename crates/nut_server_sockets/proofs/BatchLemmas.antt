@@ -7,10 +7,10 @@ use Rattle.std.proofs.Math.Seq.{take-append_seam, take-append-add}
 use Rattle.std.proofs.lemmas.Bool.{eqb-true}
 use Rattle.memchr.specs.Find.{IsFirstByte, is_byte}
 use Rattle.nut_server_sockets.specs.Batches.{is_feed, is_plain, line_at, behind, place_after, is_last, ends_last}
-use Rattle.nut_server_sockets.specs.declared.batches.Place.{Place}
-use Rattle.nut_server_sockets.specs.declared.batches.Place.TheVariants.{Start, Plain, Last}
+use Rattle.nut_server_sockets.specs.declared.batches.InLine.{InLine}
+use Rattle.nut_server_sockets.specs.declared.batches.InLine.TheVariants.{Start, Plain, Last}
 
-pub place_after-append : (p : Place) (s t : List ℕ) → place_after p (s ++ t) ≡ place_after (place_after p s) t
+pub place_after-append : (p : InLine) (s t : List ℕ) → place_after p (s ++ t) ≡ place_after (place_after p s) t
 place_after-append p [] t = refl
 place_after-append p (c ∷ cs) t = place_after-append (behind p c) cs t
 
@@ -18,7 +18,7 @@ or_assoc : (a b c : Bool) → (a || (b || c)) ≡ ((a || b) || c)
 or_assoc true b c = refl
 or_assoc false b c = refl
 
-pub ends_last-append : (p : Place) (s t : List ℕ) → ends_last p (s ++ t) ≡ (ends_last p s || ends_last (place_after p s) t)
+pub ends_last-append : (p : InLine) (s t : List ℕ) → ends_last p (s ++ t) ≡ (ends_last p s || ends_last (place_after p s) t)
 ends_last-append p [] t = refl
 ends_last-append p (c ∷ cs) t =
     ap (λ b. (is_feed c && is_last p) || b) (ends_last-append (behind p c) cs t)
@@ -33,12 +33,12 @@ then_false true b h = absurd (cc)
 then_false false b h = h
 
 -- No line ends in a text without a line feed.
-none_ends : (p : Place) (t : List ℕ) → list_any is_feed t ≡ false → ends_last p t ≡ false
+none_ends : (p : InLine) (t : List ℕ) → list_any is_feed t ≡ false → ends_last p t ≡ false
 none_ends p [] h = refl
 none_ends p (c ∷ cs) h = rw (first_false (is_feed c) (list_any is_feed cs) h) (none_ends (line_at p c) cs (then_false (is_feed c) (list_any is_feed cs) h))
 
 -- Nor does a line that isn't plain end in the front of a text in which none ends.
-front_ends : (p : Place) (t : List ℕ) (n : ℕ) → ends_last p t ≡ false → ends_last p (take n t) ≡ false
+front_ends : (p : InLine) (t : List ℕ) (n : ℕ) → ends_last p t ≡ false → ends_last p (take n t) ≡ false
 front_ends p t zero h = refl
 front_ends p [] (suc n) h = refl
 front_ends p (c ∷ cs) (suc n) h =
@@ -54,7 +54,7 @@ last_stays : (t : List ℕ) → list_any is_feed t ≡ false → place_after Las
 last_stays [] h = refl
 last_stays (c ∷ cs) h = rw (first_false (is_feed c) (list_any is_feed cs) h) (last_stays cs (then_false (is_feed c) (list_any is_feed cs) h))
 
-line_stays : (p : Place) (c : ℕ) (t : List ℕ) → list_any is_feed t ≡ false → place_after (line_at p c) t ≡ line_at p c
+line_stays : (p : InLine) (c : ℕ) (t : List ℕ) → list_any is_feed t ≡ false → place_after (line_at p c) t ≡ line_at p c
 line_stays Start c t h = by (is_plain c) where
   by : (b : Bool) → place_after (cond b Plain Last) t ≡ cond b Plain Last
   by true = plain_stays t h
@@ -63,26 +63,26 @@ line_stays Plain c t h = plain_stays t h
 line_stays Last c t h = last_stays t h
 
 -- A text without a line feed is in one line.
-pub in_line : (p : Place) (c : ℕ) (t : List ℕ) → list_any is_feed (c ∷ t) ≡ false → place_after p (c ∷ t) ≡ line_at p c
+pub in_line : (p : InLine) (c : ℕ) (t : List ℕ) → list_any is_feed (c ∷ t) ≡ false → place_after p (c ∷ t) ≡ line_at p c
 in_line p c t h = rw (first_false (is_feed c) (list_any is_feed t) h) (line_stays p c t (then_false (is_feed c) (list_any is_feed t) h))
 
-in_line_of : (p : Place) (x : List ℕ) → 0 < length x → list_any is_feed x ≡ false → place_after p x ≡ line_at p (get_or x 0 0)
+in_line_of : (p : InLine) (x : List ℕ) → 0 < length x → list_any is_feed x ≡ false → place_after p x ≡ line_at p (get_or x 0 0)
 in_line_of p [] some h = absurd (omega arith)
 in_line_of p (c ∷ t) some h = in_line p c t h
 
-feed_after : (p : Place) → place_after p (10 ∷ []) ≡ Start
+feed_after : (p : InLine) → place_after p (10 ∷ []) ≡ Start
 feed_after p = refl
 
-feed_ends : (p : Place) → ends_last p (10 ∷ []) ≡ is_last p
+feed_ends : (p : InLine) → ends_last p (10 ∷ []) ≡ is_last p
 feed_ends Start = refl
 feed_ends Plain = refl
 feed_ends Last = refl
 
 -- A line with its line feed ends where the next begins.
-pub line_after : (p : Place) (t : List ℕ) → place_after p (t ++ 10 ∷ []) ≡ Start
+pub line_after : (p : InLine) (t : List ℕ) → place_after p (t ++ 10 ∷ []) ≡ Start
 line_after p t = place_after-append p t (10 ∷ []) ∙ feed_after (place_after p t)
 
-line_ends : (p : Place) (t : List ℕ) → list_any is_feed t ≡ false → ends_last p (t ++ 10 ∷ []) ≡ is_last (line_at p (get_or (t ++ 10 ∷ []) 0 0))
+line_ends : (p : InLine) (t : List ℕ) → list_any is_feed t ≡ false → ends_last p (t ++ 10 ∷ []) ≡ is_last (line_at p (get_or (t ++ 10 ∷ []) 0 0))
 line_ends Start [] h = refl
 line_ends Plain [] h = refl
 line_ends Last [] h = refl
@@ -118,12 +118,12 @@ take_on n m xs fits =
     ∙ (ap (λ k. take (k + m) (take n xs ++ drop n xs)) (sym (length-take-le n xs fits)) ∙ take-append-add (take n xs) (drop n xs) m)
 
 -- The bytes up to `start` have been looked at: the byte there stands at `place`.
-pub record Reached (old : Place) (piece : List ℕ) (start : ℕ) (place : Place) : Type 0 where
+pub record Reached (old : InLine) (piece : List ℕ) (start : ℕ) (place : InLine) : Type 0 where
   pub within : start ≤ length piece
   pub stands : place ≡ place_after old (take start piece)
   pub none : ends_last old (take start piece) ≡ false
 
-module _ (old : Place) (piece : List ℕ) (start : ℕ) (place : Place) (r : Reached old piece start place) where
+module _ (old : InLine) (piece : List ℕ) (start : ℕ) (place : InLine) (r : Reached old piece start place) where
   -- Nothing more is there.
   pub at_end : length piece ≤ start → place ≡ place_after old (take (length piece) piece)
   at_end end = r.stands ∙ ap (λ n. place_after old (take n piece)) (omega (arith, r.within, end))
@@ -150,7 +150,7 @@ module _ (old : Place) (piece : List ℕ) (start : ℕ) (place : Place) (r : Rea
     rest_unbroken : list_any is_feed (drop start piece) ≡ false
     rest_unbroken = unbroken (drop start piece) (λ k l. no_feed k (omega arith) l)
 
-    pub goes_on : (line : Place) → line ≡ line_at place (get_or piece start 0) → line ≡ place_after old (take (length piece) piece)
+    pub goes_on : (line : InLine) → line ≡ line_at place (get_or piece start 0) → line ≡ place_after old (take (length piece) piece)
     goes_on line is =
         is ∙ (ap (line_at place) (sym first_is)
         ∙ (sym (in_line_of place (drop start piece) (omega (arith, more, length-drop start piece)) rest_unbroken)
@@ -177,7 +177,7 @@ module _ (old : Place) (piece : List ℕ) (start : ℕ) (place : Place) (r : Rea
         ap (λ n. ends_last old (take n piece)) shorter
         ∙ (ap (ends_last old) (take_on start at piece r.within) ∙ none_behind (take at (drop start piece)) at_feed.none)
 
-    pub ends_at_feed : (line : Place) → line ≡ line_at place (get_or piece start 0) → ends_last old (take (start + (at + 1)) piece) ≡ is_last line
+    pub ends_at_feed : (line : InLine) → line ≡ line_at place (get_or piece start 0) → ends_last old (take (start + (at + 1)) piece) ≡ is_last line
     ends_at_feed line is =
         let t = take at (drop start piece) in
         let first : get_or (t ++ 10 ∷ []) 0 0 ≡ get_or piece start 0 =
@@ -185,7 +185,7 @@ module _ (old : Place) (piece : List ℕ) (start : ℕ) (place : Place) (r : Rea
         ap (ends_last old) up_to ∙ (ends_last-append old (take start piece) (t ++ 10 ∷ [])
         ∙ (rw (r.none, ← r.stands) (line_ends place t at_feed.none ∙ ap (λ c. is_last (line_at place c)) first ∙ ap is_last (sym is))))
 
-    pub reached : (line : Place) → line ≡ line_at place (get_or piece start 0) → is_last line ≡ false → Reached old piece (start + (at + 1)) Start
+    pub reached : (line : InLine) → line ≡ line_at place (get_or piece start 0) → is_last line ≡ false → Reached old piece (start + (at + 1)) Start
     reached line is plain = record {
       within = omega (arith, at_feed.within, length-drop start piece);
       stands = sym after_feed;
@@ -193,7 +193,7 @@ module _ (old : Place) (piece : List ℕ) (start : ℕ) (place : Place) (r : Rea
     }
 
 -- A piece that is one line.
-module _ (p : Place) (piece line : List ℕ) (is : piece ≡ line ++ 10 ∷ []) (none : list_any is_feed line ≡ false) where
+module _ (p : InLine) (piece line : List ℕ) (is : piece ≡ line ++ 10 ∷ []) (none : list_any is_feed line ≡ false) where
   pub after_line : place_after p (take (length piece) piece) ≡ Start
   after_line = ap (place_after p) (take_all (length piece) piece (omega arith) ∙ is) ∙ line_after p line
 

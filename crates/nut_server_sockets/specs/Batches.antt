@@ -1,8 +1,8 @@
 -- Which of a client's lines may be answered by a list, or be reported.
 use Rattle.std.specs.Prelude.{ℕ, ◌==◌, Bool, true, false, ◌&&◌, ◌||◌, List, [], ◌∷◌, codes, if◌then◌else◌}
 use Rattle.std.specs.List.{list_any}
-use Rattle.nut_server_sockets.specs.declared.batches.Place.{Place}
-use Rattle.nut_server_sockets.specs.declared.batches.Place.TheVariants.{Start, Plain, Last}
+use Rattle.nut_server_sockets.specs.declared.batches.InLine.{InLine}
+use Rattle.nut_server_sockets.specs.declared.batches.InLine.TheVariants.{Start, Plain, Last}
 
 -- whether the byte ends a line
 abbrev pub is_feed : ℕ → Bool
@@ -14,26 +14,26 @@ abbrev pub is_plain : ℕ → Bool
 is_plain first = is_feed first || list_any (λ c. first == c) (codes "GgHhNnUuVv")
 
 -- in what line the byte `c` is, which stands at this place
-abbrev pub line_at : Place → ℕ → Place
+abbrev pub line_at : InLine → ℕ → InLine
 line_at Start c = if is_plain c then Plain else Last
 line_at Plain c = Plain
 line_at Last c = Last
 
 -- where the byte after `c` stands
-abbrev pub behind : Place → ℕ → Place
+abbrev pub behind : InLine → ℕ → InLine
 behind place c = if is_feed c then Start else line_at place c
 
 -- where the byte after this text stands
-abbrev pub place_after : Place → List ℕ → Place
+abbrev pub place_after : InLine → List ℕ → InLine
 place_after place [] = place
 place_after place (c ∷ cs) = place_after (behind place c) cs
 
-abbrev pub is_last : Place → Bool
+abbrev pub is_last : InLine → Bool
 is_last Start = false
 is_last Plain = false
 is_last Last = true
 
 -- whether a line ends in this text that isn't plain
-abbrev pub ends_last : Place → List ℕ → Bool
+abbrev pub ends_last : InLine → List ℕ → Bool
 ends_last place [] = false
 ends_last place (c ∷ cs) = (is_feed c && is_last place) || ends_last (behind place c) cs

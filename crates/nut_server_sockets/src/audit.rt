@@ -19,7 +19,10 @@ pub fn tell_deed(
     denials: &mut Denials,
     reports: &mut Reports<'_>,
 ) {
-    let who = who_did(deed);
+    let who = Who {
+        user: text_of(deed.user.as_slice()),
+        address: text_of(deed.address.as_slice()),
+    };
     match &deed.act {
         Act::Set(u, name) => {
             let name = text_of(name.as_slice());
@@ -30,12 +33,24 @@ pub fn tell_deed(
             reports.warn(DeedReport::Command(ups_named(server, *u), who, name));
         }
         Act::Force(u) => {
-            if is_first(drivers, *u) {
+            // another FSD changes nothing
+            let is_new = drivers
+                .get_mut(*u)
+                .is_none_or(|driver| driver.note_forced());
+            if is_new {
                 reports.warn(forced(server, *u, who));
             }
         }
-        Act::LogIn(u) => log_in(deed, ups_named(server, *u), clients, reports),
-        Act::LogOut => log_out(deed, clients, reports),
+        Act::LogIn(u) => {
+            let login = Login::new(deed, ups_named(server, *u).as_bytes());
+            reports.tell(DeedReport::LoggedIn(login.ups(), login.who()));
+            clients.note_login(deed.connection, login);
+        }
+        Act::LogOut => {
+            if let Some(login) = clients.end_login(deed.connection) {
+                reports.tell(DeedReport::LoggedOut(login.ups(), login.who()));
+            }
+        }
         Act::Refused => denials.note(deed, known_user(server, deed), reports),
     }
 }
@@ -45,28 +60,6 @@ pub fn left(login: &Login) -> DeedReport<'_> {
     DeedReport::Left(login.ups(), login.who())
 }
 
-/// Reports that a client logged in, and notes it.
-fn log_in(deed: &Deed, ups: &str, clients: &mut Clients, reports: &mut Reports<'_>) {
-    let login = Login::new(deed, ups.as_bytes());
-    reports.tell(DeedReport::LoggedIn(login.ups(), login.who()));
-    clients.note_login(deed.connection, login);
-}
-
-/// Reports that a client logged out, if it was logged in.
-fn log_out(deed: &Deed, clients: &mut Clients, reports: &mut Reports<'_>) {
-    if let Some(login) = clients.end_login(deed.connection) {
-        reports.tell(DeedReport::LoggedOut(login.ups(), login.who()));
-    }
-}
-
-/// Notes that a shutdown of a UPS is forced. Returns whether that is new: another FSD changes nothing.
-fn is_first(drivers: &mut Drivers, u: usize) -> bool {
-    match drivers.get_mut(u) {
-        Some(driver) => driver.note_forced(),
-        None => true,
-    }
-}
-
 /// Returns the report that a client forced a shutdown of a UPS. The machines of a UPS without a live status don't hear of it.
 fn forced<'a>(server: &'a Server, u: usize, who: Who<'a>) -> DeedReport<'a> {
     let ups = ups_named(server, u);
@@ -74,14 +67,6 @@ fn forced<'a>(server: &'a Server, u: usize, who: Who<'a>) -> DeedReport<'a> {
         DeedReport::Forced(ups, who)
     } else {
         DeedReport::ForcedUntold(ups, who)
-    }
-}
-
-/// Returns who did this.
-fn who_did(deed: &Deed) -> Who<'_> {
-    Who {
-        user: text_of(deed.user.as_slice()),
-        address: text_of(deed.address.as_slice()),
     }
 }
 

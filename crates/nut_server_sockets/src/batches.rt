@@ -8,7 +8,7 @@ use memchr::memchr;
 
 /// Where in a client's line the next byte is.
 #[derive(Clone, Copy)]
-enum Place {
+enum InLine {
     /// At the start of a line.
     Start,
     /// In a line that only asks for one line, or gives a user name.
@@ -17,33 +17,33 @@ enum Place {
     Last,
 }
 
-impl Place {
+impl InLine {
     fn is_start(self) -> bool
-        ensures { result ≡ true → self ≡ Place.Start }
+        ensures { result ≡ true → self ≡ InLine.Start }
     {
-        matches!(self, Place::Start)
+        matches!(self, InLine::Start)
     }
 
     fn is_last(self) -> bool
         ensures { result ≡ is_last self }
     {
-        matches!(self, Place::Last)
+        matches!(self, InLine::Last)
     }
 
     /// Returns in what line the next byte is.
-    fn line_at(self, next: u8) -> Place
+    fn line_at(self, next: u8) -> InLine
         ensures { result ≡ line_at self next }
     {
         match self {
-            Place::Start => {
+            InLine::Start => {
                 if is_plain(next) {
-                    Place::Plain
+                    InLine::Plain
                 } else {
-                    Place::Last
+                    InLine::Last
                 }
             }
-            Place::Plain => Place::Plain,
-            Place::Last => Place::Last,
+            InLine::Plain => InLine::Plain,
+            InLine::Last => InLine::Last,
         }
     }
 }
@@ -78,14 +78,14 @@ fn is_one_line(piece: &[u8]) -> bool
 /// than 64 KiB.
 #[derive(Drop)]
 pub struct Batches {
-    place: Place,
+    place: InLine,
 }
 
 impl Batches {
     /// Returns the state of a client that has sent nothing.
     pub fn new() -> Batches {
         Batches {
-            place: Place::Start,
+            place: InLine::Start,
         }
     }
 
@@ -110,7 +110,7 @@ impl Batches {
                 self.place = place;
                 return piece.len();
             };
-            self.place = Place::Start;
+            self.place = InLine::Start;
             start += at + 1;
             if place.is_last() {
                 return start;

@@ -86,7 +86,8 @@ impl Client {
         }
         let end = self.batches.cut(piece.as_slice());
         let (now, later) = piece.as_slice().split_at(end);
-        if holds_line_end(now) {
+        // most end with a line's end, and then take no search
+        if matches!(now.last(), Some(b'\n')) || now.contains(&b'\n') {
             self.spoke = second;
         }
         if later.is_empty() {
@@ -177,9 +178,4 @@ fn take_held(held: &mut Slab<Piece>, key: usize, piece: &mut Piece) -> Heard {
         let _ = piece.try_extend_from_slice(bytes.as_slice());
     }
     Heard::Part
-}
-
-/// Whether these bytes end a line. Most end with one.
-fn holds_line_end(bytes: &[u8]) -> bool {
-    matches!(bytes.last(), Some(b'\n')) || bytes.contains(&b'\n')
 }

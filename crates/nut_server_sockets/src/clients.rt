@@ -196,9 +196,12 @@ impl Clients {
         let are_strangers = server.is_stranger(first);
         let mut leaving = Leaving::none();
         for (number, key) in self.keys.iter() {
-            if may_leave(server, are_strangers, *number)
-                && let Some(client) = self.sockets.get(*key)
-            {
+            let may_leave = if are_strangers {
+                server.is_stranger(*number)
+            } else {
+                !server.is_logged_in(*number)
+            };
+            if may_leave && let Some(client) = self.sockets.get(*key) {
                 leaving.look(*number, client.heard(), client.is_mute());
             }
         }
@@ -237,14 +240,5 @@ impl Clients {
             self.held.try_remove(held);
         }
         self.logins.try_remove(client.end_login()?)
-    }
-}
-
-/// Whether a client may make way: a stranger if these do, else any that isn't logged in.
-fn may_leave(server: &Server, are_strangers: bool, number: u64) -> bool {
-    if are_strangers {
-        server.is_stranger(number)
-    } else {
-        !server.is_logged_in(number)
     }
 }

@@ -127,26 +127,22 @@ impl Denials {
         self.elsewhere = self.elsewhere.saturating_add(1);
     }
 
-    /// Ends a second: reports what was refused in it and wasn't reported.
+    /// Ends a second: reports what was refused in it and wasn't reported, by address, and frees the places of the other
+    /// addresses.
     pub fn second(&mut self, reports: &mut Reports<'_>) {
         if !self.is_empty {
-            self.tell_all(reports);
+            self.is_empty = true;
+            for denied in self.by_address.iter_mut() {
+                if denied.tell(reports) {
+                    self.is_empty = false;
+                } else {
+                    denied.address.clear();
+                }
+            }
         }
         if self.elsewhere > 0 {
             reports.warn(DeedReport::DeniedElsewhere(self.elsewhere));
             self.elsewhere = 0;
-        }
-    }
-
-    /// Reports what was refused in a second and wasn't reported, by address, and frees the places of the other addresses.
-    fn tell_all(&mut self, reports: &mut Reports<'_>) {
-        self.is_empty = true;
-        for denied in self.by_address.iter_mut() {
-            if denied.tell(reports) {
-                self.is_empty = false;
-            } else {
-                denied.address.clear();
-            }
         }
     }
 }

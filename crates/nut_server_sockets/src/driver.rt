@@ -3,7 +3,7 @@
 ghost use Rattle.std.specs.Prelude.{length};
 ghost use Rattle.nut_io.specs.Writes.{IsWithin};
 
-use crate::report::{End, Report};
+use crate::report::{End, SocketReport};
 use mio::event::Event;
 use mio::net::UnixStream;
 use mio::{Interest, Registry, Token};
@@ -128,19 +128,26 @@ impl Driver {
     /// Warns that the machines of the UPS stop now, if a shutdown of it is forced.
     pub fn warn_if_forced(&self, reports: &mut Reports<'_>) {
         if self.is_forced {
-            reports.warn(Report::Stops(self.name()));
+            reports.warn(SocketReport::Stops(self.name()));
         }
     }
 
-    /// Reports the variables about which its lines can't be read, each once.
+    /// Whether some of the variables about which its lines can't be read weren't reported.
+    pub fn has_untold(&self, unread: &Unread) -> bool {
+        self.unread_told != unread.len() || unread.has_more() && !self.has_told_more
+    }
+
+    /// Reports the variables about which its lines can't be read, each once. It stands apart, so that a driver without news
+    /// doesn't pay for the place of a report.
+    #[inline(never)]
     pub fn tell_unread(&mut self, unread: &Unread, reports: &mut Reports<'_>) {
         for place in self.unread_told..unread.len() {
             let variable = text_of(unread.name(place));
-            reports.warn(Report::Unread(self.name(), variable));
+            reports.warn(SocketReport::Unread(self.name(), variable));
         }
         self.unread_told = unread.len();
         if unread.has_more() && !mem::replace(&mut self.has_told_more, true) {
-            reports.warn(Report::UnreadMore(self.name()));
+            reports.warn(SocketReport::UnreadMore(self.name()));
         }
     }
 
@@ -193,7 +200,7 @@ impl Driver {
         if self.link.take().is_some() {
             self.is_awaited = false;
             self.has_more = false;
-            reports.tell(Report::Ended(self.name(), end));
+            reports.tell(SocketReport::Ended(self.name(), end));
         }
     }
 }

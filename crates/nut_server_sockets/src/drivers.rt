@@ -47,7 +47,10 @@ impl Drivers {
     pub fn follow(&mut self, server: &Server) {
         self.is_behind = false;
         for u in 0..self.by_number.len() {
-            if self.renew(u, ups_with(server, u)).is_err() {
+            let ups = server
+                .ups_name(u)
+                .and_then(|name| server.config().ups_named(name));
+            if self.renew(u, ups).is_err() {
                 self.is_behind = true;
             }
         }
@@ -114,10 +117,4 @@ impl Drivers {
     pub fn are_awaited(&self) -> bool {
         self.by_number.iter().any(|place| matches!(place, Some(driver) if driver.is_awaited()))
     }
-}
-
-/// Returns the UPS with this number, if there is one.
-fn ups_with(server: &Server, u: usize) -> Option<Ups<'_>> {
-    let name = server.ups_name(u)?;
-    server.config().ups_named(name)
 }

@@ -2,7 +2,7 @@
 
 ghost use Rattle.std.specs.Prelude.{◌≡◌, ◌↔◌, IsTrue, true, false};
 
-use crate::report::Report;
+use crate::report::SocketReport;
 use nut_poll::Reports;
 use nut_server::Server;
 use nut_server_spec::OPENED_MAX;
@@ -50,7 +50,11 @@ impl Hindrances {
     /// Reports that the server refused a client.
     pub fn tell_refusal(&mut self, server: &Server, reports: &mut Reports<'_>) {
         if note(&mut self.has_told_refusal, &mut self.has_told) {
-            reports.warn(refusal_by(server));
+            reports.warn(if server.opened() >= OPENED_MAX {
+                SocketReport::Spent
+            } else {
+                SocketReport::Full(server.config().most_connections())
+            });
         }
     }
 
@@ -59,14 +63,14 @@ impl Hindrances {
         if !self.has_told {
             self.has_told = true;
             let most = server.config().most_connections();
-            reports.warn(Report::MadeWay(address, most));
+            reports.warn(SocketReport::MadeWay(address, most));
         }
     }
 
     /// Reports that the connection of a client from this address is closed for lack of memory.
     pub fn tell_lack(&mut self, address: IpAddr, reports: &mut Reports<'_>) {
         if note(&mut self.has_told_memory, &mut self.has_told) {
-            reports.warn(Report::Unanswered(address));
+            reports.warn(SocketReport::Unanswered(address));
         }
     }
 
@@ -78,7 +82,7 @@ impl Hindrances {
             note(&mut self.has_told_error, &mut self.has_told)
         };
         if is_due {
-            reports.warn(Report::ShutOut(error));
+            reports.warn(SocketReport::ShutOut(error));
         }
     }
 }
@@ -94,13 +98,4 @@ fn note(has_told_it: &mut bool, has_told: &mut bool) -> bool
         *has_told = true;
     }
     is_due
-}
-
-/// Returns why a server refuses clients.
-fn refusal_by(server: &Server) -> Report<'static> {
-    if server.opened() >= OPENED_MAX {
-        Report::Spent
-    } else {
-        Report::Full(server.config().most_connections())
-    }
 }

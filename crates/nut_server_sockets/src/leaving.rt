@@ -29,16 +29,8 @@ impl Leaving {
                 self.first_mute = Some(number);
             }
         }
-        if self.is_longest(heard) {
+        if self.silent.is_none_or(|(_, least)| heard < least) {
             self.silent = Some((number, heard));
-        }
-    }
-
-    /// Whether a client that was heard last in this second has been silent for longer than all others.
-    fn is_longest(&self, heard: u64) -> bool {
-        match self.silent {
-            Some((_, least)) => heard < least,
-            None => true,
         }
     }
 

@@ -1,7 +1,7 @@
 //! The listeners, and the hosts at which it isn't possible to listen yet.
 
 use crate::dual_stack::takes_ipv4;
-use crate::report::Report;
+use crate::report::SocketReport;
 use crate::source::Source;
 use libc::EAFNOSUPPORT;
 use mio::net::{TcpListener, TcpStream};
@@ -79,7 +79,7 @@ impl Missing {
 
 /// What became of a LISTEN line.
 #[derive(Drop)]
-enum Place {
+enum ListenLine {
     /// Clients connect here.
     Open(TcpListener),
     /// It is tried again each second to listen here.
@@ -89,7 +89,7 @@ enum Place {
 /// The listeners of a server, and the hosts that are tried again each second: in all as many as there are LISTEN lines at
 /// most. A listener has the number of its place.
 pub struct Listeners {
-    places: Vec<Place>,
+    places: Vec<ListenLine>,
 }
 
 // A derived drop would be proved again in each crate that drops a value, with those of its parts.
@@ -133,7 +133,7 @@ impl Listeners {
         addresses: Vec<SocketAddr>,
     ) -> io::Result<()> {
         match self.listen_at(net, addresses.as_slice()) {
-            Ok(Some(listener)) => self.places.push(Place::Open(listener))?,
+            Ok(Some(listener)) => self.places.push(ListenLine::Open(listener))?,
             Ok(None) => {}
             Err(error) if is_elsewhere(&error) => {
                 self.put_off(alloc, host, port, addresses, error)?;
@@ -153,7 +153,7 @@ impl Listeners {
         error: io::Error,
     ) -> io::Result<()> {
         let host = String::from_str(alloc, host)?;
-        self.places.push(Place::Missing(Missing {
+        self.places.push(ListenLine::Missing(Missing {
             host,
             port,
             addresses,
@@ -168,21 +168,16 @@ impl Listeners {
         self.places.len()
     }
 
-    /// Whether clients can connect somewhere.
-    fn is_open(&self) -> bool {
-        self.places
-            .iter()
-            .any(|place| matches!(place, Place::Open(_)))
-    }
-
     /// Takes out the first host at which it isn't possible to listen, if clients can connect nowhere.
     pub fn take_obstacle(&mut self) -> Option<Missing> {
-        if self.is_open() || self.places.is_empty() {
+        let mut places = self.places.iter();
+        let is_open = places.any(|place| matches!(place, ListenLine::Open(_)));
+        if is_open || self.places.is_empty() {
             return None;
         }
         match self.places.remove(0) {
-            Place::Missing(missing) => Some(missing),
-            Place::Open(_) => None,
+            ListenLine::Missing(missing) => Some(missing),
+            ListenLine::Open(_) => None,
         }
     }
 
@@ -190,8 +185,8 @@ impl Listeners {
     pub fn tell(&self, reports: &mut Reports<'_>) {
         for place in self.places.as_slice() {
             match place {
-                Place::Open(listener) => tell_open(listener, reports),
-                Place::Missing(missing) => tell_missing(missing, reports),
+                ListenLine::Open(listener) => tell_open(listener, reports),
+                ListenLine::Missing(missing) => tell_missing(missing, reports),
             }
         }
     }
@@ -203,7 +198,7 @@ impl Listeners {
     /// The error of a registration.
     pub fn register(&mut self, registry: &Registry) -> io::Result<()> {
         for (i, place) in self.places.iter_mut().enumerate() {
-            if let Place::Open(listener) = place {
+            if let ListenLine::Open(listener) = place {
                 registry.register(listener, Source::Listener(i).token(), Interest::READABLE)?;
             }
         }
@@ -217,8 +212,8 @@ impl Listeners {
     /// `WouldBlock` if none waits, or else why the client can't be accepted.
     pub fn accept(&self, i: usize) -> io::Result<(TcpStream, SocketAddr)> {
         match self.places.get(i) {
-            Some(Place::Open(listener)) => listener.accept(),
-            Some(Place::Missing(_)) | None => Err(io::Error::from(ErrorKind::WouldBlock)),
+            Some(ListenLine::Open(listener)) => listener.accept(),
+            Some(ListenLine::Missing(_)) | None => Err(io::Error::from(ErrorKind::WouldBlock)),
         }
     }
 
@@ -254,7 +249,7 @@ impl Listeners {
     /// Notes the result of a look-up, and reports why it gave no addresses unless that is as before.
     fn note_found(&mut self, found: &Found, reports: &mut Reports<'_>) {
         for place in self.places.iter_mut() {
-            if let Place::Missing(missing) = place
+            if let ListenLine::Missing(missing) = place
                 && missing.host == found.name
                 && missing.note_found(found)
             {
@@ -266,7 +261,7 @@ impl Listeners {
     /// Begins to look up the hosts whose names aren't known, those apart that are being looked up.
     fn look_up(&mut self, look_ups: &mut LookUps<'_, impl Processes>, reports: &mut Reports<'_>) {
         for place in self.places.iter_mut() {
-            if let Place::Missing(missing) = place
+            if let ListenLine::Missing(missing) = place
                 && missing.is_unknown()
                 && look_ups.has_room()
                 && !look_ups.is_going(missing.host.as_str())
@@ -278,25 +273,20 @@ impl Listeners {
         }
     }
 
-    /// Tries again to listen at the hosts of which this machine had no address.
+    /// Tries again to listen at the hosts of which this machine had no address. A host whose name isn't known has none.
     fn listen_again(&mut self, net: &impl Net, registry: &Registry, reports: &mut Reports<'_>) {
         for i in 0..self.places.len() {
-            match self.attempt(net, i) {
+            let Some(ListenLine::Missing(missing)) = self.places.get(i) else {
+                continue;
+            };
+            if missing.is_unknown() {
+                continue;
+            }
+            match self.listen_at(net, missing.addresses.as_slice()) {
                 Ok(Some(listener)) => self.open(i, listener, registry, reports),
                 Ok(None) => {}
                 Err(error) => self.note(i, error, reports),
             }
-        }
-    }
-
-    /// Listens at the first address of a host that this machine has. Returns `None` if that isn't needed, or if the host's name
-    /// isn't known.
-    fn attempt(&self, net: &impl Net, i: usize) -> io::Result<Option<TcpListener>> {
-        match self.places.get(i) {
-            Some(Place::Missing(missing)) if !missing.is_unknown() => {
-                self.listen_at(net, missing.addresses.as_slice())
-            }
-            Some(Place::Missing(_) | Place::Open(_)) | None => Ok(None),
         }
     }
 
@@ -315,13 +305,13 @@ impl Listeners {
         }
         tell_open(&listener, reports);
         if let Some(place) = self.places.get_mut(i) {
-            *place = Place::Open(listener);
+            *place = ListenLine::Open(listener);
         }
     }
 
     /// Notes why it was impossible to listen at a host, and reports it unless it is as before.
     fn note(&mut self, i: usize, error: io::Error, reports: &mut Reports<'_>) {
-        let Some(Place::Missing(missing)) = self.places.get_mut(i) else {
+        let Some(ListenLine::Missing(missing)) = self.places.get_mut(i) else {
             return;
         };
         if missing.note(error) {
@@ -342,29 +332,18 @@ impl Listeners {
                 Err(error) => error,
             };
             if !is_elsewhere(&last) {
-                return self.unless_served(last, *address);
+                let is_served = last.kind() == ErrorKind::AddrInUse && self.serve(*address);
+                return if is_served { Ok(None) } else { Err(last) };
             }
         }
         Err(last)
     }
 
-    /// Returns why it is impossible to listen at an address, unless it is in use and one of these listeners serves it.
-    fn unless_served(
-        &self,
-        error: io::Error,
-        address: SocketAddr,
-    ) -> io::Result<Option<TcpListener>> {
-        if error.kind() == ErrorKind::AddrInUse && self.serve(address) {
-            return Ok(None);
-        }
-        Err(error)
-    }
-
     /// Whether one of these listeners serves clients at this address.
     fn serve(&self, address: SocketAddr) -> bool {
         self.places.iter().any(|place| match place {
-            Place::Open(listener) => serves(listener, address),
-            Place::Missing(_) => false,
+            ListenLine::Open(listener) => serves(listener, address),
+            ListenLine::Missing(_) => false,
         })
     }
 }
@@ -386,13 +365,13 @@ fn addresses_of(
 /// Reports that clients may connect to a listener.
 fn tell_open(listener: &TcpListener, reports: &mut Reports<'_>) {
     if let Ok(address) = listener.local_addr() {
-        reports.tell(Report::Listening(address));
+        reports.tell(SocketReport::Listening(address));
     }
 }
 
 /// Reports that it is impossible to listen at a host yet.
 fn tell_missing(missing: &Missing, reports: &mut Reports<'_>) {
-    reports.warn(Report::NotListening(missing.host.as_str(), missing.port, &missing.error));
+    reports.warn(SocketReport::NotListening(missing.host.as_str(), missing.port, &missing.error));
 }
 
 /// Whether it is impossible to listen at an address because this machine doesn't have it, or doesn't know addresses of

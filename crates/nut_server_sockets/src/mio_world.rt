@@ -5,6 +5,8 @@ ghost use Rattle.nut_io.specs.Writes.{IsWithin};
 ghost use Rattle.nut_server_loop.specs.Record.{WasClosed, Steps, tells, tells_write, late_after};
 ghost use Rattle.nut_server_loop.specs.declared.types.Peer.{Peer};
 ghost use Rattle.nut_server_loop.specs.declared.types.Peer.TheVariants.{Connection, Driver};
+ghost use Rattle.nut_poll.specs.Queue.{TakesTurns};
+ghost use Rattle.nut_poll.specs.inside.TurnLaws.{turns_self, turns_on};
 ghost use Rattle.nut_server_sockets.specs.Untold.{untold, is_late};
 
 use crate::drivers::Drivers;
@@ -102,15 +104,15 @@ impl<'r, 'e, R: Net + Clock + Processes, L: Reloader + Drop> World for MioWorld<
 
     ghost has_ended = { λ w s. ⊥ };
 
-    ghost reached = { λ a b. Unit {0} };
+    ghost reached = { λ a b. TakesTurns a.sockets.rounds.ready b.sockets.rounds.ready };
 
-    ghost awaits = { λ a b. Unit {0} };
+    ghost awaits = { λ a b. TakesTurns a.sockets.rounds.ready b.sockets.rounds.ready };
 
-    ghost reached_self = { λ w. tt };
+    ghost reached_self = { λ w. turns_self w.sockets.rounds.ready };
 
-    ghost reached_on = { λ a b c first second. tt };
+    ghost reached_on = { λ a b c first second. turns_on a.sockets.rounds.ready b.sockets.rounds.ready c.sockets.rounds.ready first second };
 
-    ghost awaits_on = { λ a b c first second. tt };
+    ghost awaits_on = { λ a b c first second. turns_on a.sockets.rounds.ready b.sockets.rounds.ready c.sockets.rounds.ready first second };
 
     fn faults(&self) -> u64 {
         self.faults
@@ -135,8 +137,8 @@ impl<'r, 'e, R: Net + Clock + Processes, L: Reloader + Drop> World for MioWorld<
     fn write(&mut self, c: u64, bytes: &[u8]) -> Result<Written, Fault>
         requires { 0 < length bytes.now }
         ensures no_fault { IsOk result }
-        ensures step { Steps (λ w. w.faults) (λ w. untold) (λ a b. Unit {0}) (λ w. tells_write w (Connection c) bytes.now)
-            self.old result self.new }
+        ensures step { Steps (λ w. w.faults) (λ w. untold) (λ a b. TakesTurns a.sockets.rounds.ready b.sockets.rounds.ready)
+            (λ w. tells_write w (Connection c) bytes.now) self.old result self.new }
         ensures within { IfOk result (λ w. IsWithin w (length bytes.now)) }
         ensures late { IfOk result (λ w. (p : Peer) → is_late self.new.late.items self.new.late_drivers.items p
             ≡ late_after w (Connection c) (is_late self.old.late.items self.old.late_drivers.items) p) }
@@ -148,8 +150,8 @@ impl<'r, 'e, R: Net + Clock + Processes, L: Reloader + Drop> World for MioWorld<
     fn write_driver(&mut self, u: usize, bytes: &[u8]) -> Result<Written, Fault>
         requires { 0 < length bytes.now }
         ensures no_fault { IsOk result }
-        ensures step { Steps (λ w. w.faults) (λ w. untold) (λ a b. Unit {0}) (λ w. tells_write w (Driver u) bytes.now)
-            self.old result self.new }
+        ensures step { Steps (λ w. w.faults) (λ w. untold) (λ a b. TakesTurns a.sockets.rounds.ready b.sockets.rounds.ready)
+            (λ w. tells_write w (Driver u) bytes.now) self.old result self.new }
         ensures within { IfOk result (λ w. IsWithin w (length bytes.now)) }
         ensures late { IfOk result (λ w. (p : Peer) → is_late self.new.late.items self.new.late_drivers.items p
             ≡ late_after w (Driver u) (is_late self.old.late.items self.old.late_drivers.items) p) }
@@ -161,8 +163,8 @@ impl<'r, 'e, R: Net + Clock + Processes, L: Reloader + Drop> World for MioWorld<
 
     fn close(&mut self, c: u64) -> Result<(), Fault>
         ensures no_fault { IsOk result }
-        ensures step { Steps (λ w. w.faults) (λ w. untold) (λ a b. Unit {0}) (λ _. tells (WasClosed (Connection c)))
-            self.old result self.new }
+        ensures step { Steps (λ w. w.faults) (λ w. untold) (λ a b. TakesTurns a.sockets.rounds.ready b.sockets.rounds.ready)
+            (λ _. tells (WasClosed (Connection c))) self.old result self.new }
         ensures late { (p : Peer) → is_late self.new.late.items self.new.late_drivers.items p
             ≡ is_late self.old.late.items self.old.late_drivers.items p }
     {
@@ -172,8 +174,8 @@ impl<'r, 'e, R: Net + Clock + Processes, L: Reloader + Drop> World for MioWorld<
 
     fn close_driver(&mut self, u: usize) -> Result<(), Fault>
         ensures no_fault { IsOk result }
-        ensures step { Steps (λ w. w.faults) (λ w. untold) (λ a b. Unit {0}) (λ _. tells (WasClosed (Driver u)))
-            self.old result self.new }
+        ensures step { Steps (λ w. w.faults) (λ w. untold) (λ a b. TakesTurns a.sockets.rounds.ready b.sockets.rounds.ready)
+            (λ _. tells (WasClosed (Driver u))) self.old result self.new }
         ensures late { (p : Peer) → is_late self.new.late.items self.new.late_drivers.items p
             ≡ is_late self.old.late.items self.old.late_drivers.items p }
     {

@@ -37,7 +37,7 @@ impl End {
 
 /// An event at the sockets of a server.
 #[derive(Drop)]
-pub enum Report<'a> {
+pub enum SocketReport<'a> {
     /// Clients may connect to this address.
     Listening(SocketAddr),
     /// It is impossible to listen at this host and port yet, for this reason.
@@ -74,78 +74,77 @@ pub enum Report<'a> {
     Unanswered(IpAddr),
 }
 
-impl<'a> fmt::Display for Report<'a> {
+impl<'a> fmt::Display for SocketReport<'a> {
     fn fmt<W: fmt::Write>(&self, f: &mut fmt::Formatter<W>) -> fmt::Result {
         match self {
-            Report::Listening(address) => write!(f, "listening on {address}"),
-            Report::NotListening(host, port, error) => {
+            SocketReport::Listening(address) => write!(f, "listening on {address}"),
+            SocketReport::NotListening(host, port, error) => {
                 write!(f, "cannot listen on {host}:{port} yet: {error}")
             }
-            Report::Connected(name) => write!(f, "UPS {name}: driver connected"),
-            Report::Missed(name, error) => {
+            SocketReport::Connected(name) => write!(f, "UPS {name}: driver connected"),
+            SocketReport::Missed(name, error) => {
                 write!(f, "UPS {name}: cannot connect to its driver: {error}")
             }
-            Report::Ended(name, end) => write!(f, "UPS {name}: driver {}", end.text()),
-            Report::Stale(name) => write!(f, "UPS {name}: data is stale"),
-            Report::Fresh(name) => write!(f, "UPS {name}: data is no longer stale"),
-            Report::Stops(name) => write!(
+            SocketReport::Ended(name, end) => write!(f, "UPS {name}: driver {}", end.text()),
+            SocketReport::Stale(name) => write!(f, "UPS {name}: data is stale"),
+            SocketReport::Fresh(name) => write!(f, "UPS {name}: data is no longer stale"),
+            SocketReport::Stops(name) => write!(
                 f,
                 "UPS {name}: shutdown is still forced (FSD); its machines shut down now"
             ),
-            Report::Unread(name, variable) => put_unread(f, name, variable),
-            Report::UnreadMore(name) => write!(
+            SocketReport::Unread(name, variable) if variable.is_empty() => {
+                write!(f, "UPS {name}: unreadable line from the driver")
+            }
+            SocketReport::Unread(name, variable) => write!(
+                f,
+                "UPS {name}: unreadable line about {variable} from the driver"
+            ),
+            SocketReport::UnreadMore(name) => write!(
                 f,
                 "UPS {name}: unreadable lines about more than {UNREAD_MAX} variables from the driver"
             ),
-            Report::Full(most) => write!(
+            SocketReport::Full(most) => write!(
                 f,
                 "client refused: MAXCONN {most} is reached, and all clients are logged in"
             ),
-            Report::Spent => write!(f, "out of connection numbers; restart upsd"),
-            Report::ShutOut(error) => write!(f, "cannot accept a client: {error}"),
-            Report::Shed(address, seconds) => {
+            SocketReport::Spent => write!(f, "out of connection numbers; restart upsd"),
+            SocketReport::ShutOut(error) => write!(f, "cannot accept a client: {error}"),
+            SocketReport::Shed(address, seconds) => {
                 write!(f, "client {address} closed: silent for {seconds} s")
             }
-            Report::MadeWay(address, most) => {
+            SocketReport::MadeWay(address, most) => {
                 write!(
                     f,
                     "client {address} closed for another: not logged in, and MAXCONN {most} is reached"
                 )
             }
-            Report::Unanswered(address) => write!(f, "client {address} closed: out of memory"),
+            SocketReport::Unanswered(address) => write!(
+                f,
+                "client {address} closed: out of memory"
+            ),
         }
     }
 }
 
-impl<'a> Leveled for Report<'a> {
+impl<'a> Leveled for SocketReport<'a> {
     fn level(&self) -> Level {
         match self {
-            Report::Listening(_) | Report::Connected(_) | Report::Fresh(_) | Report::Shed(..) =>
-                Level::Info,
-            Report::Ended(_, end) => end.level(),
-            Report::NotListening(..)
-            | Report::Missed(..)
-            | Report::Stale(_)
-            | Report::Stops(_)
-            | Report::Full(_)
-            | Report::Spent
-            | Report::ShutOut(_)
-            | Report::MadeWay(..)
-            | Report::Unread(..)
-            | Report::UnreadMore(_)
-            | Report::Unanswered(_) => Level::Warning,
+            SocketReport::Listening(_)
+            | SocketReport::Connected(_)
+            | SocketReport::Fresh(_)
+            | SocketReport::Shed(..) => Level::Info,
+            SocketReport::Ended(_, end) => end.level(),
+            SocketReport::NotListening(..)
+            | SocketReport::Missed(..)
+            | SocketReport::Stale(_)
+            | SocketReport::Stops(_)
+            | SocketReport::Full(_)
+            | SocketReport::Spent
+            | SocketReport::ShutOut(_)
+            | SocketReport::MadeWay(..)
+            | SocketReport::Unread(..)
+            | SocketReport::UnreadMore(_)
+            | SocketReport::Unanswered(_) => Level::Warning,
         }
-    }
-}
-
-/// Writes that the driver of a UPS says something of a variable that can't be read.
-fn put_unread<W: fmt::Write>(f: &mut fmt::Formatter<W>, name: &str, variable: &str) -> fmt::Result {
-    if variable.is_empty() {
-        write!(f, "UPS {name}: unreadable line from the driver")
-    } else {
-        write!(
-            f,
-            "UPS {name}: unreadable line about {variable} from the driver"
-        )
     }
 }

@@ -1,11 +1,11 @@
 //! All sockets of a server, watched by one poll.
 
-ghost use Rattle.std.specs.Prelude.{◌≡◌, ◌≢◌, [], length, IfSome, IfOk, unwrap_or};
+ghost use Rattle.std.specs.Prelude.{◌≡◌, ◌≢◌, [], length, IfSome, IfOk, OnErr, unwrap_or};
 ghost use Rattle.std.specs.declared.time.Duration.{Duration};
 ghost use Rattle.mio.specs.Events.{items};
 ghost use Rattle.nut_io.specs.Writes.{IsWithin};
 ghost use Rattle.nut_poll.specs.Moments.{Begins, IsTold};
-ghost use Rattle.nut_poll.specs.Queue.{Looks, all_joined, reported};
+ghost use Rattle.nut_poll.specs.Queue.{Looks, TakesTurns, all_joined, reported};
 ghost use Rattle.nut_server_loop.specs.Record.{MayCome};
 ghost use Rattle.nut_server_loop.specs.declared.types.Next.TheVariants as next;
 ghost use Rattle.nut_server_sockets.specs.declared.source.Source.TheVariants as source;
@@ -20,7 +20,7 @@ use crate::drivers::Drivers;
 use crate::hindrances::Hindrances;
 use crate::listeners::Listeners;
 use crate::reloader::Reloader;
-use crate::report::{End, Report};
+use crate::report::{End, SocketReport};
 use crate::source::Source;
 use crate::stall::Stall;
 use mio::{Events, Token};
@@ -119,6 +119,7 @@ impl Sockets {
         ensures may { IfOk result (λ n. MayCome n server.now) }
         ensures goes_on { IfOk result (λ n. n ≢ next.End) }
         ensures turns { IfOk result (λ n. ComesInTurn n self.old.rounds self.new.rounds) }
+        ensures kept { OnErr result (TakesTurns self.old.rounds.ready self.new.rounds.ready) }
     {
         if let Some(number) = self.unkept.take() {
             return Ok(Next::Close(number));
@@ -218,7 +219,8 @@ impl Sockets {
 
     /// Offers bytes to a connection.
     pub fn offer(&mut self, number: u64, bytes: &[u8]) -> Written
-        ensures { IsWithin result (length bytes.now) }
+        ensures within { IsWithin result (length bytes.now) }
+        ensures turns { Comes self.old.rounds self.new.rounds }
     {
         let (written, resumed) = self.clients.offer(number, bytes);
         if let Some(key) = resumed {
@@ -229,7 +231,8 @@ impl Sockets {
 
     /// Offers bytes to the driver of a UPS. If that fails, the link is closed, which is reported.
     pub fn offer_driver(&mut self, u: usize, bytes: &[u8], reports: &mut Reports<'_>) -> Written
-        ensures { IsWithin result (length bytes.now) }
+        ensures within { IsWithin result (length bytes.now) }
+        ensures turns { self.new.rounds ≡ self.old.rounds }
     {
         match self.drivers.get_mut(u) {
             Some(driver) => driver.offer(bytes, reports),
@@ -248,7 +251,9 @@ impl Sockets {
 
     /// Closes the link to the driver of a UPS, and reports that a reload ended it. A link that ended for another reason is
     /// closed already.
-    pub fn close_driver(&mut self, u: usize, reports: &mut Reports<'_>) {
+    pub fn close_driver(&mut self, u: usize, reports: &mut Reports<'_>)
+        ensures { self.new.rounds ≡ self.old.rounds }
+    {
         self.end_driver(u, End::Reloaded, reports);
     }
 
@@ -333,11 +338,11 @@ impl Sockets {
         if !driver.is_connected() {
             if let Err(error) = driver.dial(net, self.rounds.registry(), source.token()) {
                 if driver.misses(error.kind()) {
-                    reports.tell(Report::Missed(driver.name(), error));
+                    reports.tell(SocketReport::Missed(driver.name(), error));
                 }
                 return None;
             }
-            reports.tell(Report::Connected(driver.name()));
+            reports.tell(SocketReport::Connected(driver.name()));
             driver.warn_if_forced(reports);
             return Some(Next::DriverUp(u));
         }
@@ -391,7 +396,7 @@ impl Sockets {
     /// Waits until an event comes or a second is over, or not at all if there is more to look at, and begins the next
     /// round. Returns the number of seconds since the start, if one more is over.
     fn wait(&mut self, clock: &impl Clock) -> io::Result<Option<u64>>
-        ensures turns { IfOk result (λ _. Looks [] self.old.rounds.ready self.new.rounds.ready) }
+        ensures turns { Looks [] self.old.rounds.ready self.new.rounds.ready }
         ensures second { IfOk result (λ moment. IsTold moment self.old.rounds.seconds.full self.new.rounds.seconds.full) }
         ensures begins { IfOk result (λ moment. (passed : Duration) × Begins passed self.old.rounds.seconds.full self.old.rounds.fixed
             moment (all_joined (reported (items self.new.rounds.events)) self.old.rounds.ready) self.new.rounds.ready) }

@@ -15,7 +15,6 @@ use nut_server::{Refused, Server};
 use nut_server_loop::Next;
 use nut_server_spec::ADDRESS_MAX;
 use std::io::{ErrorKind, Write};
-use std::net::IpAddr;
 
 impl Sockets {
     /// Keeps the socket of the announced client, if there is one, or reports that the server refused it.
@@ -103,8 +102,12 @@ impl Sockets {
             self.turn_out(server, number, reports);
             return Some(Next::Close(number));
         }
+        // the server is told the address as the piece of the arrival
         let address = self.door.announce()?;
-        show_address(address, piece);
+        let mut shown = ArrayVec::<u8, ADDRESS_MAX>::new();
+        let _ = write!(shown, "{address}");
+        piece.clear();
+        let _ = piece.try_extend_from_slice(shown.as_slice());
         Some(Next::Open)
     }
 
@@ -147,12 +150,4 @@ impl Sockets {
             }
         }
     }
-}
-
-/// Puts the address of a client, as the server knows it, into the piece.
-fn show_address(address: IpAddr, piece: &mut Piece) {
-    let mut shown = ArrayVec::<u8, ADDRESS_MAX>::new();
-    let _ = write!(shown, "{address}");
-    piece.clear();
-    let _ = piece.try_extend_from_slice(shown.as_slice());
 }

@@ -6,7 +6,7 @@ ghost use Rattle.nut_server_sockets.specs.Turns.{Comes};
 
 use crate::driver::Driver;
 use crate::reloader::Reloader;
-use crate::report::Report;
+use crate::report::SocketReport;
 use crate::sockets::Sockets;
 use crate::source::Source;
 use nut_poll::Reports;
@@ -29,7 +29,7 @@ impl Sockets {
         ensures { self.new.rounds ≡ self.old.rounds }
     {
         let silent = self.clients.find_silent(server)?;
-        reports.tell(Report::Shed(silent.address, silent.seconds));
+        reports.tell(SocketReport::Shed(silent.address, silent.seconds));
         self.close(silent.number, reports);
         Some(silent.number)
     }
@@ -114,8 +114,13 @@ impl Sockets {
     {
         for u in 0..self.drivers.len() {
             if let Some(driver) = self.drivers.get_mut(u) {
-                tell_staleness(driver, server.is_stale(u), reports);
-                if let Some(unread) = server.unread(u) {
+                let is_stale = server.is_stale(u);
+                if driver.note_staleness(is_stale) {
+                    tell_staleness(driver, is_stale, reports);
+                }
+                if let Some(unread) = server.unread(u)
+                    && driver.has_untold(unread)
+                {
                     driver.tell_unread(unread, reports);
                 }
             }
@@ -123,21 +128,14 @@ impl Sockets {
     }
 }
 
-/// Reports what has become of the data of a UPS, if that is new.
-fn tell_staleness(driver: &mut Driver, is_stale: bool, reports: &mut Reports<'_>) {
-    if driver.note_staleness(is_stale) {
-        reports.tell(staleness(driver.name(), is_stale));
-        if !is_stale {
-            driver.warn_if_forced(reports);
-        }
-    }
-}
-
-/// Returns the report that the data of a UPS are stale, or no longer are.
-fn staleness(name: &str, is_stale: bool) -> Report<'_> {
+/// Reports that the data of a UPS have become stale, or are no longer stale. It stands apart, so that a driver without news
+/// doesn't pay for the place of a report.
+#[inline(never)]
+fn tell_staleness(driver: &Driver, is_stale: bool, reports: &mut Reports<'_>) {
     if is_stale {
-        Report::Stale(name)
+        reports.tell(SocketReport::Stale(driver.name()));
     } else {
-        Report::Fresh(name)
+        reports.tell(SocketReport::Fresh(driver.name()));
+        driver.warn_if_forced(reports);
     }
 }

@@ -1,4 +1,6 @@
-use Rattle.std.proofs.Common.{◌≡◌, None, refl, rules, ◌∙◌}
+use Rattle.std.proofs.Common.{◌≡◌, None, [], refl, rules, ◌∙◌}
+use Rattle.nut_words.proofs.Written.{at_err}
+use Rattle.nut_poll.specs.inside.TurnLaws.{turns_on}
 use Rattle.nut_server_loop.specs.declared.types.Next.TheVariants.{Again, Close, Reload}
 use Rattle.nut_server_sockets.specs.Turns.{ComesInTurn}
 use Rattle.nut_server_sockets.proofs.TurnLemmas.{came_of_none, in_turn, none_came, none_told, one_told, stays}
@@ -61,3 +63,12 @@ returns-in-None-clause-turns g c =
     let none : c.in_ok-moment.field-0 ≡ None = search rules in
     none_told Again c.in_ok-moment.field-0 now c.look.new.self.rounds c.wait.new.self.rounds c.look-2.new.self.rounds
     looked c.in_ok-moment.ensures.turns c.in_ok-moment.ensures.second none c.in-None.ensures.turns
+
+pub returns-in_err-moment-clause-kept : goal.returns-in_err-moment-clause-kept
+returns-in_err-moment-clause-kept g c =
+    let now = c.args.self.now.rounds in
+    let came = stays now c.reload.new.self.rounds (c.reload.ensures ∙ c.shed.ensures ∙ c.admit.ensures.turns) in
+    let looked : ComesInTurn Again now c.look.new.self.rounds =
+    in_turn Again now c.reload.new.self.rounds c.look.new.self.rounds (none_came now c.reload.new.self.rounds came) c.in_default-look.ensures.turns in
+    at_err c.from_residual.result
+    (turns_on now.ready c.look.new.self.rounds.ready c.wait.new.self.rounds.ready (looked.0.0, looked.0.1) ([], c.wait.ensures.turns))
