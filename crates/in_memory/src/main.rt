@@ -3,8 +3,8 @@
 #![tactic(auto)]
 
 use nut::{
-    ConfFault, Config, Given, MemoryWorld, Note, Piece, Server, read_ups, read_upsd, read_users,
-    run_nutsim, run_stdio, serve,
+    Config, Given, MemoryWorld, Note, Piece, Server, read_ups, read_upsd, read_users, run_nutsim,
+    run_stdio, serve,
 };
 use std::alloc::Global;
 use std::io::{Stdout, Write};
@@ -29,13 +29,27 @@ fn main(rt: HostRuntime) -> ExitCode {
 /// Shows what a server, `upsd --stdio` and `nutsim` write. Returns `None` if memory cannot be allocated or a write fails.
 fn show_all(rt: &(impl Wait + Files), alloc: Global, mut out: Stdout) -> Option<()> {
     show_server(rt, alloc, &mut out)?;
-    show_stdio(rt, alloc, &mut out)?;
-    show_nutsim(rt, alloc, &mut out)
+
+    // from a slice into vectors
+    let words = ["upsd", "--stdio", "--ups", "su700=Server room"];
+    let (mut told, mut faults) = (Vec::new(alloc), Vec::new(alloc));
+    let mut input: &[u8] = b"GET UPSDESC su700\nLOGOUT\n";
+    let status = run_stdio(rt, alloc, &words, &mut input, &mut told, &mut faults);
+    show(status, &told, &faults, &mut out)?;
+
+    // the news of a room's steps, and the fault of the last one
+    let words = ["nutsim", ".", "room.sched", "upsmon.conf"];
+    let (mut told, mut faults) = (Vec::new(alloc), Vec::new(alloc));
+    let status = run_nutsim(rt, alloc, &words, &mut told, &mut faults);
+    show(status, &told, &faults, &mut out)
 }
 
 /// Lets a server serve one client, and writes what that took.
 fn show_server(rt: &impl Wait, alloc: Global, out: &mut Stdout) -> Option<()> {
-    let mut server = Server::new(alloc, configuration(alloc).ok()?).ok()?;
+    let ups = read_ups(alloc, UPS_CONF).ok()?;
+    let users = read_users(alloc, b"").ok()?;
+    let config = Config::new(ups, users, read_upsd(alloc, b"").ok()?);
+    let mut server = Server::new(alloc, config).ok()?;
     let mut world = MemoryWorld::new(alloc, arrivals(alloc)?);
     serve(rt, &mut server, &mut world).ok()?;
     for note in world.notes() {
@@ -44,14 +58,6 @@ fn show_server(rt: &impl Wait, alloc: Global, out: &mut Stdout) -> Option<()> {
         }
     }
     Some(())
-}
-
-/// Returns a server's configuration with one UPS.
-fn configuration(alloc: Global) -> Result<Config, ConfFault> {
-    let ups = read_ups(alloc, UPS_CONF)?;
-    let users = read_users(alloc, b"")?;
-    let upsd = read_upsd(alloc, b"")?;
-    Ok(Config::new(ups, users, upsd))
 }
 
 /// Returns a client that connects and sends requests.
@@ -68,24 +74,6 @@ fn piece(bytes: &[u8]) -> Option<Piece> {
     let mut piece = Piece::new();
     piece.try_extend_from_slice(bytes).ok()?;
     Some(piece)
-}
-
-/// Runs `upsd --stdio` from a slice into a vector, and writes its status and what the client took.
-fn show_stdio(rt: &(impl Wait + Files), alloc: Global, out: &mut Stdout) -> Option<()> {
-    let words = ["upsd", "--stdio", "--ups", "su700=Server room"];
-    let (mut told, mut faults) = (Vec::new(alloc), Vec::new(alloc));
-    let mut input: &[u8] = b"GET UPSDESC su700\nLOGOUT\n";
-    let status = run_stdio(rt, alloc, &words, &mut input, &mut told, &mut faults);
-    show(status, &told, &faults, out)
-}
-
-/// Plays `room.sched` into vectors, and writes the status, the news of its steps, and the fault of the last
-/// one.
-fn show_nutsim(files: &impl Files, alloc: Global, out: &mut Stdout) -> Option<()> {
-    let words = ["nutsim", ".", "room.sched", "upsmon.conf"];
-    let (mut told, mut faults) = (Vec::new(alloc), Vec::new(alloc));
-    let status = run_nutsim(files, alloc, &words, &mut told, &mut faults);
-    show(status, &told, &faults, out)
 }
 
 /// Writes an exit status, and what a program wrote to its two streams.

@@ -31,7 +31,7 @@ pub use nut_server_loop::{Next, World, serve};
 pub use nut_server_loop::{Given, MemoryWorld, Note, Peer, serve_memory};
 
 /// A server's world of one client over a reader and a writer.
-pub use nut_server_loop::{Stream, StreamWorld};
+pub use nut_server_loop::{StreamWorld, WorldStream};
 
 /// A server's world over sockets.
 pub use nut_server_sockets::{Drivers, Listeners, MioWorld, Reloader};

@@ -6,7 +6,7 @@ use crate::failure::ToolFailure;
 use crate::output::{Output, WriterOutput};
 use crate::password::with_password;
 use crate::tool::{Tool, run_options};
-use nut_program::{TOOL_STACK, hold_closed_streams, low_stack};
+use nut_program::{TOOL_STACK, hold_closed_streams, low_stack, words_of};
 use std::alloc::AllocGlobal;
 use std::env::Env;
 use std::io::{ErrorKind, Input, Print, Write};
@@ -14,7 +14,7 @@ use std::net::Net;
 use std::process::ExitCode;
 use std::rt::Files;
 use std::time::Clock;
-use std::{env, io, str};
+use std::{io, str};
 
 /// What the name of a UPS looks like on a command line.
 const NAME_FORM: &str =
@@ -56,7 +56,7 @@ where
     R: Clock + Env + Files + Input + Net + Print + AllocGlobal,
 {
     let _held = hold_closed_streams(rt, rt.alloc())?;
-    let words: Vec<String> = env::args(rt)?.collect(rt.alloc())?;
+    let words = words_of(rt)?;
     Ok(match tool.read_options(rt.alloc(), words.as_slice()) {
         Ok(options) => run_with_password(rt, tool, options, err),
         Err(refusal) => refuse(rt, tool, words.as_slice(), refusal, err),

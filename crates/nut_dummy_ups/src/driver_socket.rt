@@ -53,13 +53,22 @@ fn lock_path(alloc: Global, socket: &str) -> io::Result<String> {
     Ok(format!(in alloc; "{socket}.lock")?)
 }
 
-/// Listens at a socket, while no other driver does the same.
+/// Makes a socket with this path and address that listens, while no other driver does the same. Whatever the umask is, nobody
+/// but the driver's user and group can ever connect: its mode is set before it has a name, and again, since the umask takes away
+/// what it forbids, before it listens.
 fn listen_alone<R>(rt: &R, path: &str, address: &SocketAddr) -> Result<UnixListener, ListenFault>
 where
     R: Files + Net,
 {
     make_room(rt, path)?;
-    Ok(bind(rt, path, address)?)
+    let socket = rt.unix_socket()?;
+    check(fchmod(socket.as_raw_fd(), MODE))?;
+    rt.bind_unix(socket.as_fd(), address)?;
+    rt.set_permissions(path, Permissions::from_mode(MODE))?;
+    check(listen(socket.as_raw_fd(), BACKLOG))?;
+    let listener = net::UnixListener::from(socket);
+    listener.set_nonblocking(true)?;
+    Ok(UnixListener::from_std(listener))
 }
 
 /// Removes the file with this path if nothing is lost with it: a plain file without a byte, or a socket at which nobody
@@ -102,20 +111,6 @@ fn has_listener(net: &impl Net, socket: &str) -> io::Result<bool> {
             _ => Err(error),
         },
     }
-}
-
-/// Makes a socket with this path and address that listens. Whatever the umask is, nobody but the driver's user and group can
-/// ever connect: its mode is set before it has a name, and again, since the umask takes away what it forbids, before it
-/// listens.
-fn bind(rt: &(impl Files + Net), path: &str, address: &SocketAddr) -> io::Result<UnixListener> {
-    let socket = rt.unix_socket()?;
-    check(fchmod(socket.as_raw_fd(), MODE))?;
-    rt.bind_unix(socket.as_fd(), address)?;
-    rt.set_permissions(path, Permissions::from_mode(MODE))?;
-    check(listen(socket.as_raw_fd(), BACKLOG))?;
-    let listener = net::UnixListener::from(socket);
-    listener.set_nonblocking(true)?;
-    Ok(UnixListener::from_std(listener))
 }
 
 /// Returns the error of the call of the system that has just answered this, if it failed.

@@ -154,18 +154,6 @@ fn tell<E: Lines>(
     err: &mut E,
 ) -> io::Result<()> {
     let mut driver = DummyDriver::new(rt, alloc, listener, dummy)?;
-    let told = turn_for_ever(rt, &mut driver, err);
-    // dropped by a call, which keeps the proof of this function short
-    drop(driver);
-    told
-}
-
-/// Lets a driver do what there is to do, until a wait fails.
-fn turn_for_ever<E: Lines>(
-    rt: &(impl Wait + Clock),
-    driver: &mut DummyDriver,
-    err: &mut E,
-) -> io::Result<()> {
     for _ in rt.forever() {
         driver.turn(rt, err)?;
     }

@@ -1,8 +1,20 @@
-//! A program that fails before it has read its command line.
+//! The words of a command line, and a program that fails before it has read them.
 
 use nut_log::{Level, Lines};
-use std::io;
+use std::alloc::AllocGlobal;
+use std::env::Env;
 use std::io::{ErrorKind, Write};
+use std::{env, io};
+
+/// Returns the words of the command line, the program's name first.
+///
+/// # Errors
+///
+/// `InvalidData` if a word isn't UTF-8, or a lack of memory.
+pub fn words_of<R: Env + AllocGlobal>(rt: &R) -> io::Result<Vec<String>> {
+    let words = env::args(rt)?.collect(rt.alloc())?;
+    Ok(words)
+}
 
 /// Writes to `err` why the words of a program's command line, or its standard streams, are not available. Returns the
 /// exit status: 2 if a word isn't UTF-8, as for any command line that clap refuses, else 1.

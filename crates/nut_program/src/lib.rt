@@ -18,7 +18,7 @@ mod version;
 mod warning;
 mod without_tip;
 
-pub use arguments::refuse_start;
+pub use arguments::{refuse_start, words_of};
 pub use command_line::{
     UNKNOWN_OPTION, check_option, debug_option, foreground_option, quiet_option,
 };

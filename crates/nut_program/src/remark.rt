@@ -52,7 +52,10 @@ fn is_shown(word: &[u8], place: usize, hint: &Hint) -> bool {
 
 /// Says which byte of a line may not stand in its place. In a line that may hold a password it isn't shown.
 fn remark_on_byte(alloc: Global, line: &[u8]) -> Option<String> {
-    let column = column_of_bad_byte(alloc, line)?;
+    // counted from 1: the end of the shortest beginning of the line that has this fault
+    let column = (1..=line.len()).find(|end| {
+        matches!(split(alloc, &line[..*end]), Err(WordFault::BadByte))
+    })?;
     let byte = *line.get(column.checked_sub(1)?)?;
     let advice = if line.starts_with(b"#") {
         "; mulgefa-check -i mends comments"
@@ -67,12 +70,6 @@ fn remark_on_byte(alloc: Global, line: &[u8]) -> Option<String> {
         )
     };
     remark.ok()
-}
-
-/// Returns the column, counted from 1, of the first byte that may not stand in its place: the end of the shortest
-/// beginning of the line that has this fault.
-fn column_of_bad_byte(alloc: Global, line: &[u8]) -> Option<usize> {
-    (1..=line.len()).find(|end| matches!(split(alloc, &line[..*end]), Err(WordFault::BadByte)))
 }
 
 /// Whether a line, or what it has commented out, begins like one with a password.

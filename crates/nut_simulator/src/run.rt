@@ -68,18 +68,6 @@ fn run<'a, S: AsStr, O: Write, E: Write>(
 ) -> Result<(), Failure<NutsimFault<'a>>> {
     // no file takes the place of a standard stream that is closed
     let _held = hold_closed_streams(files, alloc)?;
-    run_words(files, alloc, words, out, err, is_terminal)
-}
-
-/// Plays the schedule that these words name.
-fn run_words<'a, S: AsStr, O: Write, E: Write>(
-    files: &impl Files,
-    alloc: Global,
-    words: &'a [S],
-    out: &mut O,
-    err: &mut E,
-    is_terminal: bool,
-) -> Result<(), Failure<NutsimFault<'a>>> {
     let matches = nutsim_command(alloc)?.try_get_matches_from(words)?;
     let names = Names {
         folder: matches.get_str("folder").unwrap_or(""),

@@ -2,7 +2,7 @@
 
 ghost use Rattle.std.specs.Prelude.{◌↔◌, ◌≡◌, IsNone};
 
-use nut_conf::{Descriptions, Texts, User, UsersConf};
+use nut_conf::{Descriptions, Texts, UsersConf};
 use nut_poll::text_of;
 use nut_server::{Config, Ups};
 use std::alloc::{AllocError, Global};
@@ -28,7 +28,8 @@ pub fn changes(
     if listens_elsewhere {
         list.add(&["LISTEN takes effect at the next start"]);
     }
-    list.into_text()
+    let List { text, is_whole } = list;
+    if is_whole { Ok(text) } else { Err(AllocError) }
 }
 
 /// What is told, in one line.
@@ -75,15 +76,6 @@ impl List {
         match format!(in alloc; "{number}") {
             Ok(number) => self.add(&[name, " ", number.as_str()]),
             Err(_) => self.is_whole = false,
-        }
-    }
-
-    /// Returns all items, or an error if memory was refused to one.
-    fn into_text(self) -> Result<String, AllocError> {
-        if self.is_whole {
-            Ok(self.text)
-        } else {
-            Err(AllocError)
         }
     }
 }
@@ -164,29 +156,27 @@ fn have_other_order(old: &Config, new: &Config) -> bool {
     false
 }
 
-/// Whether the users of two configurations differ, or their order.
+/// Whether the users of two configurations may do different things, or have other names, passwords or another order.
 fn have_other_users(old: &UsersConf, new: &UsersConf) -> bool {
     let (old, new) = (&old.users.by_name, &new.users.by_name);
     if old.len() != new.len() {
         return true;
     }
     for i in 0..old.len() {
-        let (Some(before), Some(after)) = (old.get_index(i), new.get_index(i)) else {
+        let (Some((name, before)), Some((new_name, after))) = (old.get_index(i), new.get_index(i))
+        else {
             return true;
         };
-        if before.0 != after.0 || differ(before.1, after.1) {
+        if name != new_name
+            || before.password != after.password
+            || before.actions != after.actions
+            || before.instcmds != after.instcmds
+            || before.upsmon != after.upsmon
+        {
             return true;
         }
     }
     false
-}
-
-/// Whether two users may do different things, or have different passwords.
-fn differ(old: &User, new: &User) -> bool {
-    old.password != new.password
-        || old.actions != new.actions
-        || old.instcmds != new.instcmds
-        || old.upsmon != new.upsmon
 }
 
 /// Whether the texts of two configurations differ, or their order. One without cmdvartab has none.

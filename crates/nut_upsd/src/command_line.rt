@@ -40,8 +40,11 @@ pub fn stdio_command<'a>(alloc: Global) -> Result<Command<'a>, AllocError> {
 pub fn upsd_command<'a>(alloc: Global) -> Result<Command<'a>, AllocError> {
     let args = with(Ok(Vec::new(alloc)), conf(alloc));
     let args = with(args, sockets(alloc));
-    let args = with(args, quiet_upsd(alloc));
-    let args = with(args, check_upsd(alloc));
+    let quiet = quiet_option(alloc, "Report no listeners, UPSes, drivers and logins");
+    let args = with(args, quiet.conflicts_with("stdio"));
+    let help =
+        "Report the first fault of the files, and exit; without --conf, of those in NUT_CONFPATH or /etc/nut";
+    let args = with(args, check_option(alloc, help).conflicts_with("stdio"));
     let args = with(args, Ok(stdio(alloc)));
     let args = with(args, ups_of_stdio(alloc));
     let args = with(args, Ok(foreground_option(alloc)));
@@ -65,14 +68,11 @@ fn command_with<'a>(
     args: Result<Vec<Arg<'a>>, AllocError>,
 ) -> Result<Command<'a>, AllocError> {
     let args = args?;
-    bare_command(alloc).args(args)
-}
-
-fn bare_command<'a>(alloc: Global) -> Command<'a> {
     Command::new(alloc, "upsd")
         .version(VERSION)
         .about("A server of the UPS Management Protocol (RFC 9271)")
         .override_usage(USAGE)
+        .args(args)
 }
 
 fn stdio<'a>(alloc: Global) -> Arg<'a> {
@@ -111,14 +111,4 @@ fn sockets<'a>(alloc: Global) -> Result<Arg<'a>, AllocError> {
         .required_unless_present("check")?
         .conflicts_with("stdio")?
         .requires_arg("conf")
-}
-
-fn quiet_upsd<'a>(alloc: Global) -> Result<Arg<'a>, AllocError> {
-    quiet_option(alloc, "Report no listeners, UPSes, drivers and logins").conflicts_with("stdio")
-}
-
-fn check_upsd<'a>(alloc: Global) -> Result<Arg<'a>, AllocError> {
-    let help =
-        "Report the first fault of the files, and exit; without --conf, of those in NUT_CONFPATH or /etc/nut";
-    check_option(alloc, help).conflicts_with("stdio")
 }

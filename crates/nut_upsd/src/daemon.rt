@@ -7,7 +7,7 @@ use crate::command_line::{matches_of, upsd_command};
 use crate::configuration::read_folder;
 use crate::folder::Folder;
 use crate::listeners::listen;
-use crate::report::Report;
+use crate::report::StartReport;
 use crate::stdio::serve_options;
 use crate::upsd_fault::{UpsdFault, exit_status};
 use clap::ArgMatches;
@@ -80,26 +80,15 @@ fn run<S: AsStr, I: Read, O: Write>(
 ) -> Result<(), Failure<UpsdFault>> {
     let matches = matches_of(upsd_command(alloc), words)?;
     if matches.get_flag("check") {
-        return check_files(rt, alloc, &matches, err);
+        let folder = conf_folder(rt, alloc, &matches)?;
+        // dropped by a call, which keeps the proof of this function short
+        drop(read_folder(rt, alloc, folder.as_str(), err)?);
+        return Ok(());
     }
     match matches.get_str("sockets") {
         Some(sockets) => serve_sockets(rt, alloc, &Options::new(&matches, sockets), err),
         None => serve_options(rt, alloc, &matches, input, out),
     }
-}
-
-/// Reads the files of the folder that the command line or the environment names, and writes of them what a start
-/// writes.
-fn check_files<R: Files + Env + Alloc>(
-    rt: &R,
-    alloc: Global,
-    matches: &ArgMatches<'_>,
-    err: &mut ErrorLines,
-) -> Result<(), Failure<UpsdFault>> {
-    let folder = conf_folder(rt, alloc, matches)?;
-    // dropped by a call, which keeps the proof of this function short
-    drop(read_folder(rt, alloc, folder.as_str(), err)?);
-    Ok(())
 }
 
 /// What the command line says of a server over sockets.
@@ -122,8 +111,8 @@ impl<'m> Options<'m> {
     }
 }
 
-/// Serves clients over sockets, and reports to the operator on `err` unless that is to be quiet. Returns only with a
-/// fault: of the files, of a listener, of memory, or of the world.
+/// Serves clients over sockets, at the addresses and with the configuration of a folder's files, and reports to the operator
+/// on `err` unless that is to be quiet. Returns only with a fault: of the files, of a listener, of memory, or of the world.
 fn serve_sockets<R: Wait + Files + Net + Clock + Processes>(
     rt: &R,
     alloc: Global,
@@ -132,16 +121,6 @@ fn serve_sockets<R: Wait + Files + Net + Clock + Processes>(
 ) -> Result<(), Failure<UpsdFault>> {
     // no file and no socket takes the place of a standard stream that is closed
     let _held = hold_closed_streams(rt, alloc)?;
-    serve_folder(rt, alloc, options, err)
-}
-
-/// Listens at the addresses that the files of a folder name, and serves clients with these files.
-fn serve_folder<R: Wait + Files + Net + Clock + Processes>(
-    rt: &R,
-    alloc: Global,
-    options: &Options<'_>,
-    err: &mut ErrorLines,
-) -> Result<(), Failure<UpsdFault>> {
     let folder = Folder::new(rt, alloc, options.conf, options.sockets)?;
     let (settings, folder) = paired(folder.read(err), folder)?;
     let listeners = listen(rt, alloc, &settings.upsd);
@@ -204,10 +183,10 @@ fn tell_start(listeners: &Listeners, drivers: &Drivers, reports: &mut Reports<'_
     listeners.tell(reports);
     for driver in drivers.as_slice() {
         if let Some(driver) = driver {
-            reports.tell(Report::Serving(driver.name(), driver.path()));
+            reports.tell(StartReport::Serving(driver.name(), driver.path()));
         }
     }
     if geteuid() == ROOT {
-        reports.tell(Report::AsRoot);
+        reports.tell(StartReport::AsRoot);
     }
 }

@@ -4,7 +4,7 @@ use crate::nuts_options::NUTS_OPTIONS;
 use nut_conf::FaultKind;
 use nut_log::Lines;
 use nut_program::{Failure, FileFault, OwnFault, way_of};
-use nut_server_loop::Stream;
+use nut_server_loop::WorldStream;
 use std::alloc::Global;
 use std::convert::AsStr;
 use std::fmt;
@@ -58,11 +58,11 @@ impl From<FileFault<'static>> for UpsdFault {
     }
 }
 
-impl From<Stream> for UpsdFault {
-    fn from(stream: Stream) -> Self {
+impl From<WorldStream> for UpsdFault {
+    fn from(stream: WorldStream) -> Self {
         match stream {
-            Stream::Input => UpsdFault::Input,
-            Stream::Output => UpsdFault::Output,
+            WorldStream::Input => UpsdFault::Input,
+            WorldStream::Output => UpsdFault::Output,
         }
     }
 }

@@ -1,15 +1,14 @@
 //! Plays a room of UPSes in memory: one server and its monitors.
 #![tactic(auto)]
 
-use nut_program::{NamedLines, refuse_start};
+use nut_program::{NamedLines, refuse_start, words_of};
 use nut_simulator::run_nutsim_showing;
 use std::io::IsTerminal;
 use std::process::ExitCode;
-use std::{env, io};
 
 fn main(rt: HostRuntime) -> ExitCode {
     let (mut out, mut err) = (rt.stdout(), rt.stderr());
-    let status = match words(&rt) {
+    let status = match words_of(&rt) {
         Ok(words) => {
             let is_terminal = err.is_terminal();
             run_nutsim_showing(
@@ -24,10 +23,4 @@ fn main(rt: HostRuntime) -> ExitCode {
         Err(error) => refuse_start(&error, &mut NamedLines::new("nutsim", &mut err)),
     };
     ExitCode::from(status)
-}
-
-/// Returns the words of the command line, the program's name first.
-fn words(rt: &HostRuntime) -> io::Result<Vec<String>> {
-    let words = env::args(rt)?.collect(rt.alloc())?;
-    Ok(words)
 }

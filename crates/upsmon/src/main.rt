@@ -4,7 +4,6 @@
 use nut_log::LogStream;
 use nut_program::Streams;
 use std::process::ExitCode;
-use std::{env, io};
 
 fn main(rt: HostRuntime) -> ExitCode {
     let mut streams = Streams {
@@ -14,7 +13,7 @@ fn main(rt: HostRuntime) -> ExitCode {
     if !nut_program::has_stack(&mut streams.err) {
         return ExitCode::from(1);
     }
-    let status = match words(&rt) {
+    let status = match nut_program::words_of(&rt) {
         Ok(words) => nut_upsmon::run_upsmon(
             &rt,
             rt.alloc(),
@@ -25,10 +24,4 @@ fn main(rt: HostRuntime) -> ExitCode {
         Err(error) => nut_program::refuse_start(&error, &mut streams.err),
     };
     ExitCode::from(status)
-}
-
-/// Returns the words of the command line, the program's name first.
-fn words(rt: &HostRuntime) -> io::Result<Vec<String>> {
-    let words = env::args(rt)?.collect(rt.alloc())?;
-    Ok(words)
 }
