@@ -149,6 +149,7 @@ impl Links {
             upstream.take_over_addresses(&self.upstreams);
         }
         self.rounds.seconds = seconds;
+        self.rounds.fixed = upstreams.len();
         self.rounds.ready.insert_first(upstreams.len());
         self.upstreams = upstreams;
         self.rounds.begin();
@@ -478,10 +479,8 @@ impl Links {
     ) -> io::Result<bool>
         ensures { IfOk result (λ _. Looks [] self.old.rounds.ready self.new.rounds.ready) }
     {
-        let passed = self.rounds.seconds.elapsed(services.rt)?;
-        let is_full = self.rounds.seconds.look_at(passed);
+        let is_full = self.rounds.look_at_clock(services.rt)?;
         if is_full {
-            self.rounds.ready.insert_first(self.upstreams.len());
             self.second(monitor, &mut services.look_ups, &mut services.reports);
         }
         Ok(is_full)

@@ -25,7 +25,8 @@ pub struct Rounds {
     pub ready: Ready,
     /// The clock.
     pub seconds: Seconds,
-    fixed: usize,
+    /// How many tokens, from 0 on, are looked at once a second, whether or not an event came.
+    pub fixed: usize,
 }
 
 // A derived drop would be proved again in each crate that drops a value, with those of its parts.

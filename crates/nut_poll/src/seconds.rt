@@ -94,11 +94,6 @@ impl Seconds {
         true
     }
 
-    /// Whether `next` would return a second.
-    pub fn has_next(&self, all: bool) -> bool {
-        self.untold > 0 && (all || self.is_due)
-    }
-
     /// Returns the next second that hasn't been handed out: one for each time the clock has advanced, and, with `all`,
     /// the missed ones, too.
     pub fn next(&mut self, all: bool) -> Option<u64>
@@ -106,7 +101,7 @@ impl Seconds {
         ensures told { IfSome result (λ t. self.new.told ≡ t) }
         ensures once { self.new.is_due ≡ false }
     {
-        let has_next = self.has_next(all);
+        let has_next = self.untold > 0 && (all || self.is_due);
         self.is_due = false;
         if !has_next {
             return None;
