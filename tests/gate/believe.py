@@ -26,6 +26,8 @@ LEFT_OUT = {
     "nut_fleet": ("pipes_move", "contents_tell", "deeds_are_seen", "fleets_go_on"),
     "nut_in_time": ("quiet_links_keep_pace", "rounds_keep_pace"),
 }
+# The beginning of a law's comment; laws of the values of constants, which the last section has, don't count.
+STATES = re.compile(r"/// States (a law|laws) and(?!.* values? of the limits? )")
 # The crates each of whose laws has to be in a section or above.
 CRATES_OF_LAWS = ("nut_server_spec", "nut_monitor_spec", "nut_conf", "nut_client", "nut_dummy", "nut_fleet", "nut_in_time", "nut_play")
 
@@ -123,7 +125,7 @@ class Source:
                 continue
             names, said = clauses(self.text, it.end())
             yield Function(f"{block[2]}.{it[2]}" if block else it[2], bool(it[1]) or bool(block and block[3]),
-                "/// States a law and" in before or "/// States laws and" in before, names, said)
+                bool(STATES.search(before)), names, said)
 
     def code_names(self):
         """Returns the names that the code itself imports from other crates, or has."""
@@ -196,7 +198,7 @@ class Promises:
         listed = {(crate, name.rstrip("?")) for _, _, calls, _ in self.sections for crate, _, wanted in calls for name in wanted}
         listed |= {(crate, name) for crate, names in LEFT_OUT.items() for name in names}
         return [f"{crate}: {it.name}" for crate in CRATES_OF_LAWS for source in self.files(crate) for it in source.functions
-            if it.is_law and not it.name.endswith("_limits") and (crate, it.name) not in listed]
+            if it.is_law and (crate, it.name) not in listed]
 
 
 def calls_of(promises, calls):

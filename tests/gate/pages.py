@@ -52,7 +52,7 @@ class Law:
 
     HEAD = re.compile(r"((?:^[ ]*///.*\n)+)^[ ]*pub fn (\w+)", re.M)
     # what each comment begins with
-    STATES = re.compile(r"States? (?:a law|laws) and does nothing when called[:,.]? ?")
+    STATES = re.compile(r"States? (?:a law|laws) and does nothing when called(?!.* values? of the limits? )[:,.]? ?")
 
     def __init__(self, name, text):
         self.name = name
@@ -67,7 +67,7 @@ class Law:
         for path in files_of(os.path.join(ROOT, "crates", crate, "src"), ".rt"):
             for comment, name in cls.HEAD.findall(read(path)):
                 text = " ".join(" ".join(line.strip()[3:] for line in comment.splitlines()).split())
-                if cls.STATES.match(text) and not name.endswith("_limits") and name not in LEFT_OUT.get(crate, ()):
+                if cls.STATES.match(text) and name not in LEFT_OUT.get(crate, ()):
                     found.append(cls(name, text))
         return found
 
