@@ -26,6 +26,8 @@ LEFT_OUT = {
     "nut_fleet": ("pipes_move", "contents_tell", "deeds_are_seen", "fleets_go_on"),
     "nut_in_time": ("quiet_links_keep_pace", "rounds_keep_pace"),
 }
+# What stands for some relation: a call says that it holds, another that it goes on, and what follows from it stands beside it.
+OPAQUE = {("nut_play", "Room", "HasPlayed")}
 # The beginning of a law's comment; laws of the values of constants, which the last section has, don't count.
 STATES = re.compile(r"/// States (a law|laws) and(?!.* values? of the limits? )")
 # The crates each of whose laws has to be in a section or above.
@@ -43,6 +45,13 @@ section leads to.
 Two files have second forms. If you believe `nut_words: Spelling`, you need only `has_backslash`, `with_backslash` and `Gives` of
 `nut_words: Reader` (law `spelled_is_meant`). If you believe `nut_state: LookBack`, which no clause here cites, you need only
 `line_adds` of `nut_state: Step` (law `every_table_holds`).
+
+`Server::arrive` looks back at all arrivals. If you prefer a machine, `Server::step` says what one arrival makes of the server's content.
+With what callers see, but without `Server::new`, it leads to STEP_LINES lines, of which `nut_server_spec: machine/Machine` and
+`MachineOutcome` stand in no section.
+
+`HasPlayed` of `nut_play` stands for some relation. You needn't know which: `Fleet::new` says that it holds, `Fleet::play` that it goes
+on, and what follows from it stands beside it. So what it leads to isn't listed.
 
 `python3 -m tests.gate.believe --write` makes this page. A test fails if the page differs, if it doesn't find a name that a clause or a
 definition has, or if a law is in no section.
@@ -165,14 +174,18 @@ class Promises:
                         first |= self.cited(crate, source, source.ghosts, (), os.path.basename(source.path))
             for pattern in wanted:
                 ensure(pattern.endswith("?") or pattern in met, f"{crate} has no function {pattern}")
-        return self.library.closure(first)
+        return self.library.closure(first, OPAQUE)
+
+    def by_machine(self):
+        """Returns what `Server::step` leads to, and all that callers see of a server."""
+        names = [it.name for source in self.files("nut_server") for it in source.functions if it.is_public and it.name.startswith("Server.")]
+        return self.believed([("nut_server", None, sorted(set(names) - {"Server.new", "Server.arrive"}))])
 
     @staticmethod
     def wanted_by(crate, function, wanted):
-        if function.name in LEFT_OUT.get(crate, ()):
-            return None
+        is_shown = function.is_public and function.name not in LEFT_OUT.get(crate, ())
         for pattern in wanted:
-            is_of_type = pattern.endswith(".*") and function.is_public and function.name.split(".")[0] == pattern[:-2]
+            is_of_type = pattern.endswith(".*") and is_shown and function.name.split(".")[0] == pattern[:-2]
             if is_of_type or function.name == pattern.rstrip("?"):
                 return pattern
         return None
@@ -254,7 +267,7 @@ def page(library):
     everything = set().union(*(found for _, _, _, found in promises.sections))
     count = sum(it[1] != CODE for it in everything)
     lines, code_lines = library.sums(everything)
-    out, before = [HEAD], set()
+    out, before = [HEAD.replace("STEP_LINES", f"{library.sums(promises.by_machine())[0]:,}")], set()
     out.append(f"In all: {count:,} definitions of {lines:,} lines; {len(everything) - count:,} types and constants of {code_lines:,}.\n")
     for title, about, calls, found in promises.sections:
         out.append(section(library, title, about, calls_of(promises, calls), found, before))

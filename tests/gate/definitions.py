@@ -423,14 +423,15 @@ class Library:
             self.citing[it] = scope.cited - {None}
         return self.citing[it]
 
-    def closure(self, first):
-        """Returns all definitions that these lead to, and the types and constants of the code that they name."""
+    def closure(self, first, opaque=()):
+        """Returns all definitions that these lead to, not through those that are opaque, and the types and constants of the code
+        that they name."""
         found, todo = set(), list(first)
         while todo:
             it = todo.pop()
             if it not in found:
                 found.add(it)
-                if it[1] != CODE:
+                if it[1] != CODE and it not in opaque:
                     todo += self.cited(it)
         return found
 
