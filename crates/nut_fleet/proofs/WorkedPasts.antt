@@ -1,8 +1,8 @@
 -- The made-up pasts: what isn't true of them.
-use Rattle.std.proofs.Common.{◌≡◌, ℕ, ◌<◌, ◌≤◌, ◌&&◌, nat_le, inl, inr, List, [], ◌∷◌, length, Bool, true, false, not, Option, Some, None, refl, sym, ◌∙◌, ap, subst, arith, codes}
+use Rattle.std.proofs.Common.{◌≡◌, ℕ, zero, ◌<◌, ◌≤◌, ◌&&◌, ◌||◌, Contains, nat_le, inl, inr, List, [], ◌∷◌, length, Bool, true, false, not, Option, Some, None, refl, sym, ◌∙◌, ap, subst, arith, codes}
 use Rattle.std.specs.Prelude.{◌==◌, nat_lt, reverse}
 use Rattle.std.specs.Fmt.{digits}
-use Rattle.std.proofs.lemmas.Bool.{and_from, and_parts, cases_Bool, eqb-true, le-leb, lt-ltb}
+use Rattle.std.proofs.lemmas.Bool.{and_from, and_parts, cases_Bool, eqb-true, le-leb, lt-ltb, ltb-true, or_cases}
 use Rattle.nut_words.specs.Reader.{read}
 use Rattle.nut_state.specs.Sorted.{named, put}
 use Rattle.nut_state.specs.Change.{asked, heard}
@@ -25,10 +25,10 @@ use Rattle.nut_monitor_spec.specs.Query.{has}
 use Rattle.nut_monitor_spec.specs.Trace.{Entry, at_status, begun, entry_of, logins, newest_answer}
 use Rattle.nut_fleet.specs.Schedule.{Step, IsFront}
 use Rattle.nut_fleet.specs.World.{monitor_of, seen, world}
-use Rattle.nut_fleet.specs.Shown.{shown_status}
+use Rattle.nut_fleet.specs.Shown.{shown_status, logins as logged_in}
 use Rattle.nut_fleet.specs.Fleet.{Cause, HasCauses, HasSupply, IsCalmLine, IsReason, WasAlone, WasShown, asked_at}
 use Rattle.nut_fleet.specs.examples.Examples.{alone, live, pair, primary, secondary, world_of}
-use Rattle.nut_fleet.specs.examples.PastExamples.{PastExamples, brings, counts_two, forces, goes_off, pass, passes}
+use Rattle.nut_fleet.specs.examples.PastExamples.{PastExamples, brings, counts_another, counts_two, forces, forcing, goes_off, logs, pass, passes}
 
 -- ---- tests of each time of a schedule
 
@@ -161,6 +161,40 @@ too-early w =
     let bad : false ≡ true = sym (ap not yes) ∙ hidden in
     cc
 
+-- from the monitor's second event on, connection 1 is the first that is logged in, and 2 is the link's
+abbrev starts-with-one : List ℕ → Bool
+starts-with-one [] = false
+starts-with-one (c ∷ cs) = c == 1
+
+one-there : (xs : List ℕ) → starts-with-one xs ≡ true → Contains xs 1
+one-there [] is = cc
+one-there (c ∷ cs) is = (zero, omega arith, eqb-true c 1 is)
+
+abbrev another-is-in : List Step → Bool
+another-is-in early =
+    nat_lt (length ((world forcing early).monitor 0)) 2
+    || (starts-with-one (logged_in forcing.server (past forcing.server (world forcing early).server) (codes "su700")) && (world forcing early).connection 0 0 == 2)
+
+another-in : each-front another-is-in (reverse counts_another) ≡ true
+unfolding digits read named put asked heard accepts changed after applied verb_of ask_line meaning command_of line refusal_name reply_line request_line text_of answer_of entry_of
+another-in = refl
+
+another-one : WasAlone forcing (reverse counts_another) 0 0 (brings 0 NumLogins 2 (codes "1") ∷ logs ∷ pass 18) → ⊥
+another-one w =
+    let t = past forcing.server (world forcing w.early).server in
+    let events = length ((world forcing w.early).monitor 0) in
+    let is_in = starts-with-one (logged_in forcing.server t (codes "su700")) in
+    let is_two = (world forcing w.early).connection 0 0 == 2 in
+    let either = front-passes another-is-in (reverse counts_another) another-in w.early w.between.front in
+    elim (or_cases (nat_lt events 2) (is_in && is_two) either) [
+      | inl few ↦ let less = ltb-true events 2 few in let asked_then = w.between.asked in absurd (omega (arith, less, asked_then))
+      | inr both ↦
+          let parts = and_parts is_in is_two both in
+          let own : 1 ≡ (world forcing w.early).connection 0 0 = w.alone (inr (inl (refl, refl))) 1 (one-there (logged_in forcing.server t (codes "su700")) parts.0) in
+          let two = eqb-true ((world forcing w.early).connection 0 0) 2 parts.1 in
+          absurd (omega (arith, own, two))
+    ]
+
 pub past-examples : PastExamples
 past-examples = record {
   before_the_question = never-shown (codes "OL") goes_off (brings 3 Status 2 (codes "OL") ∷ passes 2 ∷ passes 1 ∷ []) (codes "OL" ∷ []) goes-off-hides refl;
@@ -170,5 +204,6 @@ past-examples = record {
   no_cause = no-cause;
   no_supply = no-supply;
   two_logins = two-logins;
+  another_one = another-one;
   counted_too_early = too-early;
 }
