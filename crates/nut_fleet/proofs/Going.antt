@@ -23,7 +23,7 @@ use Rattle.nut_monitor_spec.specs.Trace.{linked, trace, notices_waiting}
 use Rattle.nut_monitor_spec.specs.Trace as monitor
 use Rattle.nut_monitor_spec.proofs.Kept as monitor_kept
 use Rattle.nut_monitor_spec.proofs.Lists.{get_at}
-use Rattle.nut_fleet.specs.Schedule.{Step, ServerClock, MonitorClock, Up, Driver, Down, Link, Out, Reach, Back, Land, CutServer, CutMonitor, Other}
+use Rattle.nut_fleet.specs.Schedule.{Step, ServerClock, MonitorClock, Up, Driver, Down, Link, Out, Reach, Back, Land, CutServer, CutMonitor}
 use Rattle.nut_fleet.specs.World.{Setup, World, Deed, Skip, Tell, Inform, Join, monitor_of, seen, served, known, is_open, is_linked, to_server, to_monitor, server_waits, monitor_waits, tell, inform, carried, counted, moved, address_of, has_link, is_fit, deed_of, all_taken, informed, for_monitor, after, world}
 use Rattle.nut_fleet.specs.Fleet.{IsSetup}
 use Rattle.nut_fleet.specs.Log.{news, news_of}
@@ -31,7 +31,8 @@ use Rattle.nut_fleet.specs.Moves.{reached, sent_off, landed, put_in, makes, Cont
 use Rattle.nut_fleet.specs.Seen.{Ends, Fleet, Stands, KeepsLink, Keeps}
 use Rattle.nut_fleet.specs.machine.Going.{what_counts, told_on, hushed, informed_on, with_ends, put_on, ends_reached, ends_back, ends_out, ends_landed, ends_made, moved_by, moved_on, heard_news, news_by, news_seen, FleetsGoOn}
 use Rattle.nut_fleet.proofs.Sound.{Sound, IsLawful}
-use Rattle.nut_fleet.proofs.Steps.{for-own, for-other, line-within, zero-closed, is_none-true, some-there}
+use Rattle.nut_fleet.proofs.Others.{is_none-true, some-there}
+use Rattle.nut_fleet.proofs.Steps.{for-own, for-other, line-within, zero-closed}
 use Rattle.nut_fleet.proofs.Worlds.{sound}
 use Rattle.nut_fleet.proofs.Moves.{input-grows, drop-more, drop-begins, landed-grows, sent-more, informed-same, linked-before, moves-made, no-link, contents-tell}
 use Rattle.nut_fleet.proofs.Entries.{entry-input}
@@ -149,20 +150,21 @@ module _ (setup : Setup) (earlier : List Step) (s : Sound setup earlier (world s
 
   tell-at : (e : arrivals.Event) → server_tests.refusal (served setup w) e ≡ None → (m i : ℕ) (next : Ends) →
       KeepsLink setup m i (w.connection m i) (e ∷ w.server) (w.monitor m) next →
-      ((k j : ℕ) → ((k ≡ m) × (j ≡ i) → ⊥) → IsQuiet (w.connection k j) e) →
+      ((k j : ℕ) → has_link setup k j ≡ true → ((k ≡ m) × (j ≡ i) → ⊥) → IsQuiet (w.connection k j) e) →
       Keeps setup (after setup w (Tell e)) (with_ends m i next (told_on e f))
   tell-at e ok m i next own others = record {
     server = server-told e ok;
     monitor = keeps.monitor;
     link = with-link m i next f.link (λ k j ends. has_link setup k j ≡ true → KeepsLink setup k j (w.connection k j) (e ∷ w.server) (w.monitor k) ends) (λ there. own)
-        (λ k j ne there. link-quiet e ok k j there (others k j ne));
+        (λ k j ne there. link-quiet e ok k j there (others k j there ne));
   }
 
   -- the connections of two links differ if one is open
-  other-connection : (m i : ℕ) → is_open setup w m i ≡ true → (k j : ℕ) → ((k ≡ m) × (j ≡ i) → ⊥) → (w.connection m i == w.connection k j) ≡ false
-  other-connection m i up k j ne = elim (cases_Bool (w.connection m i == w.connection k j)) [
+  other-connection : (m i : ℕ) → has_link setup m i ≡ true → is_open setup w m i ≡ true → (k j : ℕ) → has_link setup k j ≡ true →
+      ((k ≡ m) × (j ≡ i) → ⊥) → (w.connection m i == w.connection k j) ≡ false
+  other-connection m i there up k j has ne = elim (cases_Bool (w.connection m i == w.connection k j)) [
     | inr other ↦ other
-    | inl same ↦ absurd (elim (s.distinct m i k j (eqb-true (w.connection m i) (w.connection k j) same)) [
+    | inl same ↦ absurd (elim (s.distinct m i k j there has (eqb-true (w.connection m i) (w.connection k j) same)) [
       | inl none ↦
           some-there (server_tests.session_of (w.connection m i) (served setup w).sessions) up
           (ap (λ c. server_tests.session_of c (served setup w).sessions) none ∙ zero-closed setup w.server)
@@ -188,7 +190,7 @@ module _ (setup : Setup) (earlier : List Step) (s : Sound setup earlier (world s
       (told-link setup m i c w.server (w.monitor m) ends (ends_reached f m i e) (keeps.link m i there) refl e (s.accepted, ok) (s.bound m i) (((s.monitors m).links i there).back)
       (ap (λ d. drop (length (reached d (arrivals.Bytes (w.connection m i) piece))) ends.to_server) (keeps.link m i there).connection)
       (λ linked. sym (append-nil ends.to_monitor)))
-      (λ k j ne. quiet-bytes c (w.connection k j) piece (other-connection m i up k j ne))
+      (λ k j has ne. quiet-bytes c (w.connection k j) piece (other-connection m i there up k j has ne))
 
   back-keeps : (m i n : ℕ) → has_link setup m i ≡ true → is_open setup w m i ≡ true →
       server_tests.refusal (served setup w) (arrivals.Took (w.connection m i) n) ≡ None →
@@ -205,7 +207,7 @@ module _ (setup : Setup) (earlier : List Step) (s : Sound setup earlier (world s
       ap (λ b. put_on b (take (sent_off ends.connection (arrivals.Took (w.connection m i) n)) (server_tests.waiting_of ends.connection f.server.sessions)) ends.to_monitor) (same-linked setup w f keeps tells m i there ∙ linked)
       ∙ ap (λ bytes. ends.to_monitor ++ take (sent_off ends.connection (arrivals.Took (w.connection m i) n)) bytes) (same-server_waits setup w f keeps tells m i there up)
       ∙ ap (λ d. ends.to_monitor ++ take (sent_off d (arrivals.Took (w.connection m i) n)) (server_waits setup w m i)) (keeps.link m i there).connection))
-      (λ k j ne. quiet-took c (w.connection k j) n (other-connection m i up k j ne))
+      (λ k j has ne. quiet-took c (w.connection k j) n (other-connection m i there up k j has ne))
 
   -- ---- a monitor is told something
 
@@ -413,7 +415,7 @@ module _ (setup : Setup) (earlier : List Step) (s : Sound setup earlier (world s
       (heard-goes (Land m i n) m (events.LinkBytes i (take (min n PIECE_MAX) (to_monitor setup w m i))) tt (land-keeps m i (take (min n PIECE_MAX) (to_monitor setup w m i)) ok)))
   goes (CutServer m i) ok = told-goes (CutServer m i) (arrivals.Close (w.connection m i)) (λ e. tell-quiet (arrivals.Close (w.connection m i)) e (λ c. (refl, refl)))
   goes (CutMonitor m i) ok = heard-goes (CutMonitor m i) m (events.LinkLost i) tt (λ e. inform-quiet m (events.LinkLost i) e (λ j. (refl, refl, refl)))
-  goes (Other event) ok = cc
+  goes step ok = cc
 
   pub goes-on : (step : Step) → is_fit setup step ≡ true → Keeps setup (world setup (step ∷ earlier)) (moved_on f step)
   goes-on step ok = grind (arith, same-deed, goes)

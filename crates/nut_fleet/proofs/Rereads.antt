@@ -161,4 +161,5 @@ pub room-stays : (setup : Setup) (schedule : List schedules.Step) → KeepsRoom 
 room-stays setup [] = tt
 room-stays setup (step ∷ earlier) =
     let kept = room-stays setup earlier in
-    each-deed setup (world setup earlier) (λ v. KeepsRoom setup.server (steps v.server)) kept (keeps setup (world setup earlier) kept) (λ m event. kept) (λ m i cut. kept) step
+    each-deed setup (world setup earlier) (λ v. KeepsRoom setup.server (steps v.server)) kept (keeps setup (world setup earlier) kept) (λ m event. kept) (λ m i cut. kept) (λ m i there ok. kept)
+    (λ m i c there none unknown. kept) step

@@ -24,7 +24,8 @@ use Rattle.nut_fleet.proofs.Entries.{length-trace}
 use Rattle.nut_fleet.proofs.Fronts.{front-older, front-self, fronts-compare}
 use Rattle.nut_fleet.proofs.Primaries.{primaries-go_last, each_primary-at, same-one}
 use Rattle.nut_fleet.proofs.Sound.{IsLawful}
-use Rattle.nut_fleet.proofs.Steps.{some-there, spoken, zero-closed}
+use Rattle.nut_fleet.proofs.Others.{some-there}
+use Rattle.nut_fleet.proofs.Steps.{spoken, zero-closed}
 use Rattle.nut_fleet.proofs.Rereads.{number-within, room-stays}
 use Rattle.nut_fleet.proofs.Worlds.{sound}
 use Rattle.nut_fleet.proofs.Shutdowns.{or-right, power-more}
@@ -40,7 +41,7 @@ use Rattle.nut_in_time.proofs.Granted.{answered-forced, said-keeps}
 use Rattle.nut_in_time.proofs.Lasting.{Chosen, lasts}
 use Rattle.nut_in_time.proofs.Patient.{not-gone}
 use Rattle.nut_in_time.proofs.RoomSteps.{begins-later, begun-ending, earliest-shorter, is-halted, latest-shorter, not-ended, pace-front, polls-polled, step-front, stood}
-use Rattle.nut_in_time.proofs.Standing.{connection-kept, server-climb}
+use Rattle.nut_in_time.proofs.Standing.{connection-kept, open-some, server-climb}
 use Rattle.nut_in_time.proofs.Stopping.{is_urgent, line-primary, not-later, soon-behind, urgent-critical}
 use Rattle.nut_in_time.proofs.Unforced.{led-behind}
 
@@ -377,7 +378,7 @@ module _ (tables : EveryTableHolds) (setup : Setup) (law : IsLawful setup.server
       let line = line_of setup k i in
       let s = sound setup law fine e in
       let there = there-at k i within in
-      let same : c ≡ c0 = connection-kept setup k i start e since (λ x from to. (step.keeps i within led).linked x to from) in
+      let same : c ≡ c0 = connection-kept setup k i start e since (open-some setup (world setup start) k i (step.both_ends i within led start since (front-self start))) (λ x from to. (step.keeps i within led).linked x to from) in
       let said : Exists (IsGrant line Login) (exchanges c0 (happened setup.server h)) =
       server-climb setup start e (λ x. Exists (IsGrant line Login) (exchanges c0 (happened setup.server x))) since (ready.logged_in k follows i within led)
       (λ x event from before. said-keeps setup.server c0 (IsGrant line Login) event (world setup x).server before) in
@@ -414,7 +415,7 @@ module _ (tables : EveryTableHolds) (setup : Setup) (law : IsLawful setup.server
         let same : (world setup early).connection m follows.one ≡ (world setup early).connection p i =
         same-one (logins setup.server (happened setup.server (world setup early).server) (line_of setup p i).ups) ((world setup early).connection p i) ((world setup early).connection m follows.one)
         (omega (arith, w.at_most_one, w.counted)) one two in
-        elim ((sound setup law fine early).distinct m follows.one p i same) [
+        elim ((sound setup law fine early).distinct m follows.one p i (there-at m follows.one follows.there) (there-at p i within) same) [
           | inl none ↦
               some-there (server_tests.session_of ((world setup early).connection m follows.one) (server.content setup.server (world setup early).server).sessions)
               (step_m.both_ends follows.one follows.there follows.passes early (front-self early) since)

@@ -33,7 +33,7 @@ use Rattle.nut_in_time.proofs.Climbing.{front-of, each-event, each-event_with}
 use Rattle.nut_in_time.proofs.Emptied.{whole, all-taken}
 use Rattle.nut_in_time.proofs.Ending.{clock-entry}
 use Rattle.nut_in_time.proofs.Recent.{Up, up-older, newly, put-cases, recent-next}
-use Rattle.nut_in_time.proofs.Standing.{connection-kept, taken-grows, input-begins, sent-begins}
+use Rattle.nut_in_time.proofs.Standing.{connection-kept, open-some, taken-grows, input-begins, sent-begins}
 
 -- ---- texts
 
@@ -220,7 +220,7 @@ module _ (setup : Setup) (law : IsLawful setup.server) (fine : IsSetup setup) (m
 
     connection-at : (e : List Step) → IsFront round.reach e → IsFront e schedule → (world setup e).connection m i ≡ (world setup round.reach).connection m i
     connection-at e since within =
-        connection-kept setup m i round.reach e since (λ x from to. up x (front-of x e schedule to within) (front-of start round.reach x at_reach from))
+        connection-kept setup m i round.reach e since (open-some setup (world setup round.reach) m i round.is_open) (λ x from to. up x (front-of x e schedule to within) (front-of start round.reach x at_reach from))
 
     none-waits : NoneAsked round.out → NoneAsked round.reach → NoneAsked round.land → outstanding i (seen_at setup m round.land) ≡ None
     none-waits q1 q2 q4 =

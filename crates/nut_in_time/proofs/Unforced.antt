@@ -35,7 +35,7 @@ use Rattle.nut_in_time.proofs.Granted.{answered-forced, entitled, entitled-force
 use Rattle.nut_in_time.proofs.Lasting.{kept-pace}
 use Rattle.nut_in_time.proofs.RoomAsTold.{alone-forced, behind}
 use Rattle.nut_in_time.proofs.Showing.{monitor-grows}
-use Rattle.nut_in_time.proofs.Standing.{connection-kept, server-climb}
+use Rattle.nut_in_time.proofs.Standing.{connection-kept, said-some, server-climb}
 
 module _ (setup : Setup) (law : IsLawful setup.server) (fine : IsSetup setup) (p i u : ℕ) (start schedule : List Step) (front : IsFront start schedule)
     (there : has_link setup p i ≡ true) (number : number_of_ups (line_of setup p i).ups setup.server.upses ≡ Some u)
@@ -59,7 +59,8 @@ module _ (setup : Setup) (law : IsLawful setup.server) (fine : IsSetup setup) (p
       let t = past setup.server (world setup early).server in
       let line = line_of setup p i in
       let line_fine = spoken setup p i fine there in
-      let same : c ≡ c0 = connection-kept setup p i start early since (λ e from to. linked e (front-of e early schedule to inside) from) in
+      let same : c ≡ c0 = connection-kept setup p i start early since
+      (said-some setup (world setup start) p i (IsGrant line Primary) ((sound setup law fine start).accepted) granted) (λ e from to. linked e (front-of e early schedule to inside) from) in
       let said : Exists (IsGrant line Primary) (exchanges c0 t) =
       server-climb setup start early (λ h. Exists (IsGrant line Primary) (exchanges c0 (past setup.server h))) since granted
       (λ e event from before. said-keeps setup.server c0 (IsGrant line Primary) event (world setup e).server before) in

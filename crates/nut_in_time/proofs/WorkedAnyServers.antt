@@ -15,7 +15,7 @@ use Rattle.nut_monitor_spec.specs.Event.{Event, NoticeTaken}
 use Rattle.nut_monitor_spec.specs.Query.{status_in}
 use Rattle.nut_monitor_spec.specs.Trace.{Answer, Entry, clock, entry_of, last_query, linked, outstanding, trace}
 use Rattle.nut_monitor_spec.specs.examples.Examples.{two_primaries}
-use Rattle.nut_fleet.proofs.Steps.{is_none-true}
+use Rattle.nut_fleet.proofs.Others.{is_none-true}
 use Rattle.nut_in_time.specs.AnyServers.{Always, EachGiven, IsEven, IsTold}
 use Rattle.nut_in_time.specs.examples.AnyServersExamples.{AnyServersExamples, both_are_low, both_read, since_then}
 use Rattle.nut_in_time.specs.examples.Examples.{all, pace}

@@ -36,6 +36,7 @@ returning-examples = record {
     shows = below 1 (λ i. all i ≡ true → FromOn back (again 0 ++ back) (λ early. Says is_low (shown_at alone early (line_of alone 0 i).ups)))
         ((λ is. shown-holds alone 0 0 is_low back (again 0) refl), tt);
   };
+  counted = refl;
   steady = steady-holds alone pace 0 back (again 21) refl;
   started = refl;
   takes = refl;

@@ -8,7 +8,7 @@ use Rattle.nut_server_spec.proofs.Tells.{answers-told}
 use Rattle.nut_monitor_spec.specs.Event as events
 use Rattle.nut_monitor_spec.specs.Content as knowledge
 use Rattle.nut_monitor_spec.specs.Outcome as monitor
-use Rattle.nut_fleet.specs.Schedule.{Step, ServerClock, MonitorClock, Up, Driver, Down, Link, Out, Reach, Back, Land, CutServer, CutMonitor, Other}
+use Rattle.nut_fleet.specs.Schedule.{Step, ServerClock, MonitorClock, Up, Driver, Down, Link, Out, Reach, Back, Land, CutServer, CutMonitor}
 use Rattle.nut_fleet.specs.World.{Setup, Deed, Tell, Inform, world, known, is_fit, has_link, is_open, is_linked}
 use Rattle.nut_fleet.specs.Fleet.{EventsAreAccepted}
 use Rattle.nut_fleet.specs.Log.{News, news}
@@ -81,7 +81,7 @@ module _ (setup : Setup) (earlier : List Step) (k : Kept) (go : FleetsGoOn setup
   why (Land m i n) ok may = heard m (Land m i n) (land_by m (known_of k m) i (link_of k m i) n) ok refl may
   why (CutServer m i) ok may = inl (server-may (tell_by k.server (arrivals.Close (link_of k m i).connection)) may)
   why (CutMonitor m i) ok may = heard m (CutMonitor m i) (inform_by m (known_of k m) (events.LinkLost i)) ok refl may
-  why (Other event) ok may = absurd may
+  why step ok may = absurd may
 
   pub may-lack : (step : Step) → fits k step ≡ true → LacksAt k step → MayLack setup (world setup earlier) step
   may-lack step ok (inl may) = subst (Why step) (go.does (fleet_of k) step (fits-too step ok) is.keeps) (why step ok may)

@@ -11,7 +11,7 @@ use Rattle.nut_server_spec.specs.Content as server
 use Rattle.nut_monitor_spec.specs.Configuration.{Configuration, Line, configuration_of}
 use Rattle.nut_monitor_spec.specs.Content as knowledge
 use Rattle.nut_monitor_spec.specs.Content.{for_each_line}
-use Rattle.nut_fleet.specs.Schedule.{Step, MonitorClock, Up, Driver, Down, Link, Out, Reach, Back, Land, CutServer, CutMonitor, Other}
+use Rattle.nut_fleet.specs.Schedule.{Step, MonitorClock, Up, Driver, Down, Link, Out, Reach, Back, Land, CutServer, CutMonitor, Call, Accept, Other}
 use Rattle.nut_fleet.specs.World.{Setup, no_monitor, monitor_of, world, nothing, is_fit, has_link, has_ups}
 use Rattle.nut_fleet.specs.Fleet.{IsMonitor, ConfigurationsAreSpoken}
 use Rattle.nut_fleet.specs.Log.{logged, log, news}
@@ -111,6 +111,9 @@ seats-stay m change s k same same' = record {
 server-stays : (s : server.Content) (k : Kept) → Stays k (record k { server = s })
 server-stays s k = record { monitors = refl; links = refl; works = refl }
 
+same-stays : (k : Kept) → Stays k k
+same-stays k = record { monitors = refl; links = refl; works = refl }
+
 stays : (k : Kept) (step : Step) → Stays k (next k step)
 stays k (MonitorClock m t) = seats-stay m _ k.server k (λ x. refl) (λ x. refl)
 stays k (Link m i) = seats-stay m (join_seat k.server m i) _ k (λ x. refl) (λ x. length-changed i _ x.links)
@@ -119,7 +122,9 @@ stays k (Reach m i n) = seats-stay m (reach_seat k.server i n) _ k (λ x. refl) 
 stays k (Back m i n) = seats-stay m (back_seat k.server i n) _ k (λ x. refl) (λ x. length-changed i _ x.links)
 stays k (Land m i n) = seats-stay m (land_seat m i n) k.server k (λ x. refl) (λ x. length-changed i _ x.links)
 stays k (CutMonitor m i) = seats-stay m _ k.server k (λ x. refl) (λ x. refl)
-stays k (Other event) = record { monitors = refl; links = refl; works = refl }
+stays k (Call m i) = same-stays k
+stays k (Accept m i c) = same-stays k
+stays k (Other event) = same-stays k
 stays k _ = server-stays _ k
 
 -- ---- a step

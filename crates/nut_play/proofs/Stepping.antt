@@ -8,7 +8,7 @@ use Rattle.nut_server_spec.specs.Acceptance as server_tests
 use Rattle.nut_monitor_spec.specs.Event as events
 use Rattle.nut_monitor_spec.specs.Content as knowledge
 use Rattle.nut_monitor_spec.specs.Acceptance as monitor_tests
-use Rattle.nut_fleet.specs.Schedule.{Step, ServerClock, MonitorClock, Up, Driver, Down, Link, Out, Reach, Back, Land, CutServer, CutMonitor, Other}
+use Rattle.nut_fleet.specs.Schedule.{Step, ServerClock, MonitorClock, Up, Driver, Down, Link, Out, Reach, Back, Land, CutServer, CutMonitor}
 use Rattle.nut_fleet.specs.World.{Setup, World, Deed, Skip, Rest, Tell, Inform, Join, carried, counted, moved, address_of, for_monitor}
 use Rattle.nut_fleet.specs.Seen.{Ends, Fleet, Keeps, KeepsLink}
 use Rattle.nut_fleet.specs.machine.Going.{told_on, moved_by, moved_on, news_by, news_seen}
@@ -353,4 +353,4 @@ goes k (Back m i n) ok = back-goes k m (seat k m i ok).0 (seat k m i ok).1 i (th
 goes k (Land m i n) ok = land-goes k m (seat k m i ok).0 (seat k m i ok).1 i (there k m i ok) n
 goes k (CutServer m i) ok = told-goes k (CutServer m i) (arrivals.Close (link_of k m i).connection) (λ e. refl)
 goes k (CutMonitor m i) ok = heard-goes k m (seat k m i ok).0 (seat k m i ok).1 (CutMonitor m i) (events.LinkLost i) refl
-goes k (Other event) ok = cc
+goes k step ok = cc

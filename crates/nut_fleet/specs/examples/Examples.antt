@@ -9,8 +9,8 @@ use Rattle.nut_monitor_spec.specs.Decision.{told, shutdown_told}
 use Rattle.nut_monitor_spec.specs.Trace.{status}
 use Rattle.nut_server_spec.specs.Configuration.{Ups}
 use Rattle.nut_server_spec.specs.Content.{past}
-use Rattle.nut_server_spec.specs.Event.{Open, Bytes, Reload}
-use Rattle.nut_fleet.specs.Schedule.{Step, ServerClock, MonitorClock, Up, Driver, Down, Link, Out, Reach, Back, Land, CutServer, CutMonitor, Other}
+use Rattle.nut_server_spec.specs.Event.{Open, Bytes, Close, Reload}
+use Rattle.nut_fleet.specs.Schedule.{Step, ServerClock, MonitorClock, Up, Driver, Down, Link, Out, Reach, Back, Land, CutServer, CutMonitor, Call, Accept, Other}
 use Rattle.nut_fleet.specs.World.{Setup, World, served, world, seen, to_server, to_monitor}
 use Rattle.nut_fleet.specs.Log.{Logged, News, Skipped, Noticed, Moved, log}
 use Rattle.nut_fleet.specs.Shown.{shown_status, logins}
@@ -67,6 +67,15 @@ says_lines c lines = Other (Bytes c (joined lines))
 abbrev pub logs_in : ℕ → Step
 logs_in c = says_lines c (codes "USERNAME mon" ∷ codes "PASSWORD m1" ∷ codes "LOGIN su700" ∷ [])
 
+-- A switch restarts: the monitor, which is logged in on connection 1, loses its end and calls again, and the server,
+-- which still has its end, accepts the call as connection 2.
+abbrev pub calls_again : List Step
+calls_again = Link 0 0 ∷ rounds 0 3 ++ CutMonitor 0 0 ∷ Call 0 0 ∷ comes ∷ Accept 0 0 2 ∷ rounds 0 3
+
+-- a server that is full with one connection
+abbrev pub narrow : Setup
+narrow = record alone { server = record alone.server { most_connections = 1 } }
+
 -- the server reads its files again
 abbrev pub rereads : Step
 rereads = Other (Reload (record alone.server { upses = record { name = []; driver = []; description = codes "Rack 2" } ∷ []; users = [] }))
@@ -114,6 +123,26 @@ pub record FleetExamples : Type 0 where
   pub lost_there : to_server alone (world_of alone (Link 0 0 ∷ Out 0 0 5 ∷ CutServer 0 0 ∷ Out 0 0 5 ∷ [])) 0 0 ≡ []
   pub answer_lost :
       to_monitor alone (world_of alone (Link 0 0 ∷ Out 0 0 99 ∷ Reach 0 0 99 ∷ CutMonitor 0 0 ∷ Back 0 0 99 ∷ CutServer 0 0 ∷ Link 0 0 ∷ [])) 0 0 ≡ []
+  -- a login counts until the server closes its end, though the monitor has logged in again
+  pub twice_in : logins alone.server (past alone.server (world_of alone calls_again).server) (codes "su700") ≡ 1 ∷ 2 ∷ []
+  pub once_in : logins alone.server (past alone.server (world_of alone (calls_again ++ Other (Close 1) ∷ [])).server) (codes "su700") ≡ 2 ∷ []
+  -- a server that is full accepts no call, and the monitor loses its end again
+  pub full :
+      told_by narrow (Link 0 0 ∷ CutMonitor 0 0 ∷ Call 0 0 ∷ comes ∷ Accept 0 0 2 ∷ CutMonitor 0 0 ∷ [])
+      ≡ at 2 (Noticed 0 (told kinds.Commbad 0)) ∷ at 4 Skipped ∷ at 5 Skipped ∷ []
+  -- what a monitor puts into its pipe waits until the server accepts the call, which it may have done before
+  pub not_yet : to_server alone (world_of alone (Call 0 0 ∷ Out 0 0 512 ∷ [])) 0 0 ≡ []
+  pub accepted : to_server alone (world_of alone (Call 0 0 ∷ Out 0 0 512 ∷ comes ∷ Accept 0 0 1 ∷ [])) 0 0 ≡ codes "USERNAME mon" ++ 10 ∷ []
+  pub accepted_before : told_by alone (comes ∷ Call 0 0 ∷ Accept 0 0 1 ∷ Call 0 0 ∷ rounds 0 1) ≡ at 4 Skipped ∷ []
+  -- on a connection that was given up only that arrives which was on its way
+  pub given_up :
+      told_by alone (Link 0 0 ∷ Out 0 0 5 ∷ CutMonitor 0 0 ∷ Call 0 0 ∷ Other (Bytes 1 (codes "FSD")) ∷ Other (Bytes 1 (codes "USE"))
+      ∷ Other (Bytes 1 (codes "RNA")) ∷ Other (Bytes 1 (codes "RN")) ∷ [])
+      ≡ at 3 (Noticed 0 (told kinds.Commbad 0)) ∷ at 5 Skipped ∷ at 7 Skipped ∷ []
+  -- no link gets a connection that it gave up, one on which something came, or another's
+  pub its_old_one : told_by alone (Link 0 0 ∷ CutMonitor 0 0 ∷ Call 0 0 ∷ Accept 0 0 1 ∷ []) ≡ at 2 (Noticed 0 (told kinds.Commbad 0)) ∷ at 4 Skipped ∷ []
+  pub a_clients : told_by alone (comes ∷ says_lines 1 (codes "VER" ∷ []) ∷ Call 0 0 ∷ Accept 0 0 1 ∷ []) ≡ at 4 Skipped ∷ []
+  pub anothers : told_by pair (Link 0 0 ∷ Call 1 0 ∷ Accept 1 0 1 ∷ []) ≡ at 3 Skipped ∷ []
   -- the status that the monitor reads is the one that the server shows
   pub status_read : status 0 (seen alone (world_of alone (live (codes "OL CHRG") ++ Link 0 0 ∷ rounds 0 5)) 0) ≡ Some (codes "OL" ∷ codes "CHRG" ∷ [])
   pub status_shown :

@@ -8,7 +8,7 @@ use Rattle.nut_monitor_spec.specs.Content as knowledge
 use Rattle.nut_monitor_spec.specs.Acceptance as monitor_tests
 use Rattle.nut_monitor_spec.specs.machine.Machine as monitor_machine
 use Rattle.nut_fleet.specs.Schedule.{Step, Out, Reach, Back, Land}
-use Rattle.nut_fleet.specs.World.{Setup, Deed, Skip, Rest, Tell, Inform, Join, address_of, has_link, is_open, is_linked, is_fit, deed, for_monitor, world}
+use Rattle.nut_fleet.specs.World.{Setup, Deed, Skip, Rest, Tell, Inform, Join, Renew, Meet, address_of, has_link, is_open, is_linked, is_fit, deed, for_monitor, world}
 use Rattle.nut_fleet.specs.Log.{News, Skipped, Noticed, turned, news}
 use Rattle.nut_fleet.specs.Moves.{reached, sent_off, landed, put_in}
 use Rattle.nut_fleet.specs.Seen.{Ends, Fleet, Stands, Keeps, open_seen, linked_seen, deed_by}
@@ -78,6 +78,8 @@ moved_by f (Tell event) step = told_on event f
 moved_by f (Inform k event) (Out m i n) = with_ends m i (ends_out f m i event) (informed_on m event f)
 moved_by f (Inform k event) (Land m i n) = with_ends m i (ends_landed f m i event) (informed_on m event f)
 moved_by f (Inform m event) step = informed_on m event f
+moved_by f (Renew m i) step = f
+moved_by f (Meet m i c) step = f
 moved_by f (Join m i) step = with_ends m i (ends_made f) (informed_on m (events.Linked i) (told_on (arrivals.Open (address_of m)) f))
 
 abbrev pub moved_on : Fleet → Step → Fleet
@@ -96,6 +98,8 @@ news_by f Rest = []
 news_by f (Tell event) = []
 news_by f (Inform m event) = heard_news m (f.monitor m) event
 news_by f (Join m i) = heard_news m (f.monitor m) (events.Linked i)
+news_by f (Renew m i) = []
+news_by f (Meet m i c) = []
 
 abbrev pub news_seen : Fleet → Step → List News
 news_seen f step = news_by f (deed_by f step)

@@ -10,7 +10,7 @@ use Rattle.nut_server_spec.specs.machine.MachineOutcome.{Refuses}
 use Rattle.nut_monitor_spec.specs.Event as events
 use Rattle.nut_monitor_spec.specs.Content as knowledge
 use Rattle.nut_monitor_spec.specs.Outcome.{MayLack}
-use Rattle.nut_fleet.specs.Schedule.{Step, ServerClock, MonitorClock, Up, Driver, Down, Link, Out, Reach, Back, Land, CutServer, CutMonitor, Other}
+use Rattle.nut_fleet.specs.Schedule.{Step, ServerClock, MonitorClock, Up, Driver, Down, Link, Out, Reach, Back, Land, CutServer, CutMonitor}
 use Rattle.nut_fleet.specs.World.{Deed, Tell, Inform}
 use Rattle.nut_play.specs.Kept.{Kept}
 use Rattle.nut_play.specs.machine.Next.{tell_by, inform_by, open_by, linked_by, reach_by, back_by, out_by, land_by, told_news, link_of, known_of, said}
@@ -54,4 +54,4 @@ StepLacks k (Back m i n) = IsTrue (back_grows (linked_by (known_of k m) i) (back
 StepLacks k (Land m i n) = MonitorLacks m (known_of k m) (land_by m (known_of k m) i (link_of k m i) n)
 StepLacks k (CutServer m i) = ServerLacks k.server (tell_by k.server (arrivals.Close (link_of k m i).connection))
 StepLacks k (CutMonitor m i) = MonitorLacks m (known_of k m) (inform_by m (known_of k m) (events.LinkLost i))
-StepLacks k (Other event) = ⊥
+StepLacks k step = ⊥

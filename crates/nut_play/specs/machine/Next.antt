@@ -11,8 +11,8 @@ use Rattle.nut_monitor_spec.specs.Content as knowledge
 use Rattle.nut_monitor_spec.specs.Acceptance as monitor_tests
 use Rattle.nut_monitor_spec.specs.machine.Machine as monitor_machine
 use Rattle.nut_monitor.specs.Monitors.{MonitorValue}
-use Rattle.nut_fleet.specs.Schedule.{Step, ServerClock, MonitorClock, Up, Driver, Down, Link, Out, Reach, Back, Land, CutServer, CutMonitor, Other}
-use Rattle.nut_fleet.specs.World.{Deed, Skip, Rest, Tell, Inform, Join, carried, counted, moved, address_of}
+use Rattle.nut_fleet.specs.Schedule.{Step, ServerClock, MonitorClock, Up, Driver, Down, Link, Out, Reach, Back, Land, CutServer, CutMonitor}
+use Rattle.nut_fleet.specs.World.{Deed, Skip, Tell, Inform, Join, carried, counted, moved, address_of}
 use Rattle.nut_fleet.specs.Log.{News}
 use Rattle.nut_fleet.specs.Moves.{reached, sent_off, landed, put_in}
 use Rattle.nut_fleet.specs.Seen.{Ends}
@@ -23,10 +23,7 @@ use Rattle.nut_play.specs.Kept.{Seat, Kept, ends_at, known_in, links_in}
 
 abbrev pub is_played : Deed → Bool
 is_played Skip = false
-is_played Rest = true
-is_played (Tell event) = true
-is_played (Inform m event) = true
-is_played (Join m i) = true
+is_played d = true
 
 abbrev pub tell_by : server.Content → arrivals.Event → Deed
 tell_by s event = if is_none (server_tests.refusal s event) then Tell event else Skip
@@ -196,7 +193,7 @@ next k (Back m i n) = back_next k m i n
 next k (Land m i n) = with_seat k m (land_seat m i n)
 next k (CutServer m i) = told_to k (arrivals.Close (link_of k m i).connection)
 next k (CutMonitor m i) = with_seat k m (hear_seat m (events.LinkLost i))
-next k (Other event) = k
+next k step = k
 
 -- what a monitor reports at a step, if it has an event
 abbrev pub said : Kept → Step → List News
@@ -224,4 +221,4 @@ fits k (Back m i n) = fits_link k m i
 fits k (Land m i n) = fits_link k m i
 fits k (CutServer m i) = fits_link k m i
 fits k (CutMonitor m i) = fits_link k m i
-fits k (Other event) = false
+fits k step = false
