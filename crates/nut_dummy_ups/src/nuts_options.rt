@@ -1,16 +1,9 @@
 //! The options of NUT's drivers that dummy-ups doesn't have.
 
-use nut_program::NutsOption;
-
-/// Makes a row of each flag, which any value may follow, and what to do in its place.
-macro_rules! options {
-    ($($flag:literal => $way:literal,)*) => {
-        [$(NutsOption { flag: $flag, value: "", way: $way }),*]
-    };
-}
+use nut_program::{NutsOption, nuts_options};
 
 /// The first of these that a command line has is explained.
-pub const NUTS_OPTIONS: [NutsOption; 10] = options! {
+pub const NUTS_OPTIONS: [NutsOption; 10] = nuts_options! {
     "-a" => "-a is not supported: use dummy-ups FILE SOCKET, or systemctl start mulgefa-dummy-ups@NAME",
     "-s" => "-s is not supported: use dummy-ups FILE SOCKET",
     "-x" => "-x is not supported: FILE has all settings",

@@ -12,6 +12,14 @@ pub struct NutsOption {
     pub way: &'static str,
 }
 
+/// Makes rows: a flag, the word with it if not any word may be, and what to do in its place.
+#[macro_export]
+macro_rules! nuts_options {
+    ($($flag:literal $($value:literal)? => $way:literal,)*) => {
+        [$($crate::NutsOption { flag: $flag, value: concat!($($value)?), way: $way }),*]
+    };
+}
+
 impl NutsOption {
     /// Whether this word gives the option, by the word after it, if there is one.
     fn is_given(&self, word: &str, next: Option<&str>) -> bool {
