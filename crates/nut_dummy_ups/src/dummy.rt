@@ -9,7 +9,7 @@ use mio::net::UnixListener;
 use nut_dummy::{Dummy, Script, ScriptFault, ScriptFaultKind, ScriptKind};
 use nut_log::Lines;
 use nut_program::{
-    Failure, OwnFault, VERSION, hold_closed_streams, read_file, remark_on_unread, way_of,
+    Failure, FileFault, OwnFault, VERSION, hold_closed_streams, paired, read_file, way_of,
 };
 use std::alloc::{AllocError, Global};
 use std::convert::AsStr;
@@ -29,8 +29,8 @@ const FILE_MAX: u64 = 16_777_216;
 enum DummyUpsFault<'a> {
     /// The file's name doesn't end in `.dev` or `.seq`.
     UnknownKind(&'a str),
-    /// The file doesn't exist, isn't a plain file, may not be read, or a read failed. The remark says why.
-    CannotRead(&'a str, Option<String>),
+    /// The file cannot be read.
+    File(FileFault<'a>),
     /// The file is too long.
     TooLong(&'a str),
     /// The file has this fault.
@@ -43,7 +43,7 @@ impl<'a> fmt::Display for DummyUpsFault<'a> {
     fn fmt<W: fmt::Write>(&self, f: &mut fmt::Formatter<W>) -> fmt::Result {
         match self {
             DummyUpsFault::UnknownKind(file) => write!(f, "{file}: unknown kind"),
-            DummyUpsFault::CannotRead(file, _) => write!(f, "{file}: cannot read"),
+            DummyUpsFault::File(fault) => write!(f, "{fault}"),
             DummyUpsFault::TooLong(file) => write!(f, "{file}: more than {FILE_MAX} bytes"),
             DummyUpsFault::Script(file, fault) => write!(f, "{file}:{fault}"),
             DummyUpsFault::Listen(socket, _) => write!(f, "cannot listen on {socket}"),
@@ -54,15 +54,19 @@ impl<'a> fmt::Display for DummyUpsFault<'a> {
 impl<'a> OwnFault for DummyUpsFault<'a> {
     fn remark(&self) -> Option<&str> {
         match self {
-            DummyUpsFault::CannotRead(_, Some(remark)) | DummyUpsFault::Listen(_, Some(remark)) => {
-                Some(remark.as_str())
-            }
-            DummyUpsFault::CannotRead(_, None)
-            | DummyUpsFault::Listen(_, None)
+            DummyUpsFault::File(fault) => fault.remark(),
+            DummyUpsFault::Listen(_, Some(remark)) => Some(remark.as_str()),
+            DummyUpsFault::Listen(_, None)
             | DummyUpsFault::UnknownKind(_)
             | DummyUpsFault::TooLong(_)
             | DummyUpsFault::Script(..) => None,
         }
+    }
+}
+
+impl<'a> From<FileFault<'a>> for DummyUpsFault<'a> {
+    fn from(fault: FileFault<'a>) -> Self {
+        DummyUpsFault::File(fault)
     }
 }
 
@@ -102,47 +106,26 @@ fn run<'a, S: AsStr, E: Lines>(
     err: &mut E,
 ) -> Result<(), Failure<DummyUpsFault<'a>>> {
     let matches = command(alloc)?.try_get_matches_from(words)?;
+    let file = matches.get_str("file").unwrap_or("");
     let socket = matches.get_str("socket").unwrap_or("");
-    let script = read_script(rt, alloc, matches.get_str("file").unwrap_or(""))?;
-    match Dummy::new(alloc, script, 0) {
-        Ok(dummy) => tell_at(rt, alloc, dummy, socket, err),
-        Err(_) => Err(Failure::Memory),
-    }
+    play(rt, alloc, file, socket, err)
 }
 
-/// Runs a dummy driver at a socket. The standard streams that are closed are held meanwhile.
-fn tell_at<'a, E: Lines>(
+/// Plays the script of a file to servers that connect at a socket.
+fn play<'a, E: Lines>(
     rt: &(impl Wait + Files<File = File> + Net + Clock),
     alloc: Global,
-    dummy: Dummy,
+    file: &'a str,
     socket: &'a str,
     err: &mut E,
 ) -> Result<(), Failure<DummyUpsFault<'a>>> {
-    match listen_held(rt, alloc, socket) {
-        Ok((_held, listener)) => Ok(tell(rt, alloc, listener, dummy, err)?),
-        Err(failure) => {
-            // dropped by a call, which keeps the proof of this function short
-            drop(dummy);
-            Err(failure)
-        }
-    }
-}
-
-/// Holds the standard streams that are closed, and then listens at a socket.
-fn listen_held<'a>(
-    rt: &(impl Files<File = File> + Net),
-    alloc: Global,
-    socket: &'a str,
-) -> Result<(Vec<File>, UnixListener), Failure<DummyUpsFault<'a>>> {
-    let held = hold_closed_streams(rt, alloc)?;
-    match listen(rt, alloc, socket) {
-        Ok(listener) => Ok((held, listener)),
-        Err(failure) => {
-            // dropped by a call, which keeps the proof of this function short
-            drop(held);
-            Err(failure)
-        }
-    }
+    // no socket takes the place of a standard stream that is closed
+    let _held = hold_closed_streams(rt, alloc)?;
+    let Ok(dummy) = Dummy::new(alloc, read_script(rt, alloc, file)?, 0) else {
+        return Err(Failure::Memory);
+    };
+    let (listener, dummy) = paired(listen(rt, alloc, socket), dummy)?;
+    Ok(tell(rt, alloc, listener, dummy, err)?)
 }
 
 /// Runs a dummy driver whose servers connect to this listener, until a wait fails.
@@ -173,28 +156,16 @@ fn read_script<'a>(
     } else {
         return Err(Failure::Own(DummyUpsFault::UnknownKind(file)));
     };
-    let bytes = contents(files, alloc, file)?;
+    // of a file that is too long no more bytes are read than show that
+    let bytes = match read_file(files, alloc, file, FILE_MAX + 1) {
+        Ok(bytes) if bytes.len() as u64 <= FILE_MAX => bytes,
+        Ok(_) => return Err(Failure::Own(DummyUpsFault::TooLong(file))),
+        Err(error) => return Err(Failure::from(FileFault::unread(alloc, file, &error, file))),
+    };
     match Script::read(alloc, kind, bytes.as_slice()) {
         Ok(script) => Ok(script),
         Err(fault) if fault.kind == ScriptFaultKind::Memory => Err(Failure::Memory),
         Err(fault) => Err(Failure::Own(DummyUpsFault::Script(file, fault))),
-    }
-}
-
-/// Returns the bytes of a script's file. Of one that is too long no more bytes are read than show that.
-fn contents<'a>(
-    files: &impl Files,
-    alloc: Global,
-    file: &'a str,
-) -> Result<Vec<u8>, Failure<DummyUpsFault<'a>>> {
-    match read_file(files, alloc, file, FILE_MAX + 1) {
-        Ok(bytes) if bytes.len() as u64 <= FILE_MAX => Ok(bytes),
-        Ok(_) => Err(Failure::Own(DummyUpsFault::TooLong(file))),
-        Err(error) if error.kind() == ErrorKind::OutOfMemory => Err(Failure::Memory),
-        Err(error) => {
-            let remark = remark_on_unread(alloc, file, &error);
-            Err(Failure::Own(DummyUpsFault::CannotRead(file, remark)))
-        }
     }
 }
 

@@ -5,7 +5,7 @@ use nut_conf::{
     ConfFault, Descriptions, FILE_MAX, FaultKind, MonConfig, UpsConf, UpsdConf, UsersConf,
     read_descriptions, read_ups, read_upsd, read_upsmon, read_users,
 };
-use std::alloc::Global;
+use std::alloc::{AllocError, Global};
 use std::fs::File;
 use std::io::{ErrorKind, Read};
 use std::path::{AsPath, Path};
@@ -101,7 +101,23 @@ impl<'a> fmt::Display for FileFault<'a> {
     }
 }
 
+impl<'a> From<AllocError> for FileFault<'a> {
+    fn from(_: AllocError) -> Self {
+        FileFault::Memory
+    }
+}
+
 impl<'a> FileFault<'a> {
+    /// Returns why [`read_file`] failed for the file with this path, which the fault calls by this name.
+    pub fn unread(alloc: Global, path: &str, error: &io::Error, name: &'a str) -> FileFault<'a> {
+        let remark = match error.kind() {
+            ErrorKind::OutOfMemory => return FileFault::Memory,
+            ErrorKind::InvalidInput => format!(in alloc; "{path}: not a plain file"),
+            _ => format!(in alloc; "{path}: {error}"),
+        };
+        FileFault::CannotRead(name, remark.ok())
+    }
+
     /// Returns what a line of its own is to say besides, such as `/etc/nut/ups.conf: No such file or directory (os
     /// error 2)`, `vendorid isn't taken here: see from-nut(7)`, or `master: 'primary' or 'secondary' is meant`.
     pub fn remark(&self) -> Option<&str> {
@@ -127,10 +143,8 @@ pub fn read_conf<C: ConfFile>(
     folder: &str,
 ) -> Result<C, FileFault<'static>> {
     let name = C::FILE_NAME;
-    match Path::new(folder).join(alloc, name) {
-        Ok(path) => read_conf_at(files, alloc, path, name),
-        Err(_) => Err(FileFault::Memory),
-    }
+    let path = Path::new(folder).join(alloc, name)?;
+    read_conf_at(files, alloc, path, name)
 }
 
 /// Reads a configuration from its file in a folder, if the file is there: `None` if it isn't.
@@ -144,13 +158,11 @@ pub fn read_conf_if_there<C: ConfFile>(
     folder: &str,
 ) -> Result<Option<C>, FileFault<'static>> {
     let name = C::FILE_NAME;
-    let Ok(path) = Path::new(folder).join(alloc, name) else {
-        return Err(FileFault::Memory);
-    };
+    let path = Path::new(folder).join(alloc, name)?;
     match read_file(files, alloc, &path, READ_MAX) {
-        Ok(bytes) => Ok(Some(conf_of(alloc, bytes.as_slice(), name)?)),
+        Ok(bytes) => conf_of(alloc, bytes.as_slice(), name).map(Some),
         Err(error) if error.kind() == ErrorKind::NotFound => Ok(None),
-        Err(error) => Err(unread(alloc, path.path_text(), &error, name)),
+        Err(error) => Err(FileFault::unread(alloc, path.path_text(), &error, name)),
     }
 }
 
@@ -167,32 +179,12 @@ pub fn read_conf_at<'a, C: ConfFile, P: AsPath>(
 ) -> Result<C, FileFault<'a>> {
     match read_file(files, alloc, &path, READ_MAX) {
         Ok(bytes) => conf_of(alloc, bytes.as_slice(), name),
-        Err(error) => Err(unread(alloc, path.path_text(), &error, name)),
+        Err(error) => Err(FileFault::unread(alloc, path.path_text(), &error, name)),
     }
 }
 
 /// Of a file that is too long no more bytes are read than show that.
 const READ_MAX: u64 = FILE_MAX as u64 + 1;
-
-/// Why the file with this path can't be read.
-fn unread<'a>(alloc: Global, path: &str, error: &io::Error, name: &'a str) -> FileFault<'a> {
-    if error.kind() == ErrorKind::OutOfMemory {
-        FileFault::Memory
-    } else {
-        FileFault::CannotRead(name, remark_on_unread(alloc, path, error))
-    }
-}
-
-/// Says why [`read_file`] failed for the file with this path, as in `/etc/nut/ups.conf: No such file or directory (os
-/// error 2)`. `None` if memory for that cannot be allocated.
-pub fn remark_on_unread(alloc: Global, path: &str, error: &io::Error) -> Option<String> {
-    let remark = if error.kind() == ErrorKind::InvalidInput {
-        format!(in alloc; "{path}: not a plain file")
-    } else {
-        format!(in alloc; "{path}: {error}")
-    };
-    remark.ok()
-}
 
 /// Reads a configuration from the bytes of its file.
 fn conf_of<'a, C: ConfFile>(

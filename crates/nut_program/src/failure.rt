@@ -129,34 +129,25 @@ impl<F: OwnFault> Failure<F> {
         out: &mut O,
         err: &mut E,
     ) -> u8 {
-        match self {
-            Failure::CommandLine(error) if is_of_nut(error.kind(), way) => {
-                tell_option(alloc, error, way, err)
-            }
-            _ => self.tell(out, err),
+        let Failure::CommandLine(error) = self else {
+            return self.tell(out, err);
+        };
+        let is_of_nut = match error.kind() {
+            clap::error::ErrorKind::UnknownArgument => true,
+            clap::error::ErrorKind::ArgumentConflict => way.is_some(),
+            _ => false,
+        };
+        if !is_of_nut {
+            return self.tell(out, err);
         }
+        let _ = match clap_text(alloc, error) {
+            Ok(text) => write!(err.mark(Level::Error), "{text}"),
+            Err(AllocError) => writeln!(err.begin(Level::Error), "out of memory"),
+        };
+        if let Some(way) = way {
+            let _ = writeln!(err.begin(Level::Error), "{way}");
+        }
+        let _ = writeln!(err.begin(Level::Error), "{UNKNOWN_OPTION}");
+        2
     }
-}
-
-/// Whether clap refuses a command line by an option that NUT may have.
-fn is_of_nut(kind: clap::error::ErrorKind, way: Option<&str>) -> bool {
-    match kind {
-        clap::error::ErrorKind::UnknownArgument => true,
-        clap::error::ErrorKind::ArgumentConflict => way.is_some(),
-        _ => false,
-    }
-}
-
-/// Writes clap's text about an option that NUT may have, what to do in its place, if that is known, and where to read about
-/// such options. Returns the exit status, which is 2.
-fn tell_option<E: Lines>(alloc: Global, error: &clap::Error, way: Option<&str>, err: &mut E) -> u8 {
-    let _ = match clap_text(alloc, error) {
-        Ok(text) => write!(err.mark(Level::Error), "{text}"),
-        Err(AllocError) => writeln!(err.begin(Level::Error), "out of memory"),
-    };
-    if let Some(way) = way {
-        let _ = writeln!(err.begin(Level::Error), "{way}");
-    }
-    let _ = writeln!(err.begin(Level::Error), "{UNKNOWN_OPTION}");
-    2
 }

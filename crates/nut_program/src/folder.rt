@@ -17,10 +17,6 @@ const VARIABLE: &str = "NUT_CONFPATH";
 
 /// Returns the folder that the command line names; else that of the variable NUT_CONFPATH, if it is UTF-8 and not
 /// empty; else `/etc/nut`.
-///
-/// # Errors
-///
-/// [`AllocError`] if memory for the name cannot be allocated.
 pub fn conf_folder<R: Env + Alloc>(
     rt: &R,
     alloc: Global,

@@ -8,6 +8,7 @@ mod failure;
 mod folder;
 mod named_lines;
 mod nuts_option;
+mod pairing;
 mod reload_file;
 mod reload_report;
 mod remark;
@@ -22,13 +23,12 @@ pub use arguments::{refuse_start, words_of};
 pub use command_line::{
     UNKNOWN_OPTION, check_option, debug_option, foreground_option, quiet_option,
 };
-pub use conf_file::{
-    ConfFile, FileFault, read_conf, read_conf_at, read_conf_if_there, read_file, remark_on_unread,
-};
+pub use conf_file::{ConfFile, FileFault, read_conf, read_conf_at, read_conf_if_there, read_file};
 pub use failure::{Failure, OwnFault, tell_not_reloaded};
 pub use folder::conf_folder;
 pub use named_lines::NamedLines;
 pub use nuts_option::{NutsOption, way_of};
+pub use pairing::paired;
 pub use reload_file::{Look, ReloadFile, Turn};
 pub use reload_report::ReloadReport;
 pub use stack::{LowStack, TOOL_STACK, has_stack, low_stack};

@@ -72,10 +72,6 @@ impl ReloadFile {
     /// Returns the file in this folder. `beside` is the name of a file that the folder has if another program reads it,
     /// and `turn` says which of the two answers first. Call it before the configuration is read: a file that is there
     /// already is no request, and goes after two looks.
-    ///
-    /// # Errors
-    ///
-    /// [`AllocError`] if memory for a path cannot be allocated.
     pub fn new(
         files: &impl Files,
         alloc: Global,

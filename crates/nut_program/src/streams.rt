@@ -21,10 +21,6 @@ const STREAMS: usize = 3;
 /// Opens the root directory as often as there are standard streams. While these files are kept, they hold the descriptors
 /// of streams that are closed. Otherwise the next socket would get one of these, and its peer would be sent what is meant
 /// for an operator. A directory can be neither read nor written, so a closed stream fails as a broken one does.
-///
-/// # Errors
-///
-/// `AllocError` if memory for the list cannot be allocated.
 pub fn hold_closed_streams<F: Files>(files: &F, alloc: Global) -> Result<Vec<F::File>, AllocError> {
     let mut held = Vec::new(alloc);
     for _ in 0..STREAMS {

@@ -52,10 +52,6 @@ impl Readable {
 
 /// Warns if the file of a configuration, which holds passwords, can be read by everybody. If there is no such file, it
 /// doesn't warn.
-///
-/// # Errors
-///
-/// [`AllocError`] if memory for the file's path cannot be allocated.
 pub fn readable_file<C: ConfFile>(
     files: &impl Files,
     alloc: Global,

@@ -6,10 +6,6 @@ use std::alloc::{AllocError, Global};
 const TIP: &str = "\n  tip: to pass ";
 
 /// Returns clap's text without the tip to pass an unknown option as an argument: it is more likely an option of NUT.
-///
-/// # Errors
-///
-/// [`AllocError`] if memory for it cannot be allocated.
 pub fn clap_text(alloc: Global, error: &clap::Error) -> Result<String, AllocError> {
     let text = format!(in alloc; "{error}")?;
     // the tip ends at a blank line

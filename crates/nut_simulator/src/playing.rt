@@ -4,7 +4,7 @@ use crate::fault::NutsimFault;
 use crate::news::write_news;
 use crate::progress::Progress;
 use nut_play::{Fleet, FleetFault, Logged, Step, StepFault, read_step};
-use nut_program::Failure;
+use nut_program::{Failure, FileFault};
 use nut_words::{Line, LineCutter};
 use std::alloc::Global;
 use std::io::{BufRead, BufWriter, Write};
@@ -50,7 +50,7 @@ pub fn play_schedule<'a, R: BufRead, O: Write, E: Write>(
         Ok(()) => Ok(()),
         Err(Stop::BadStep(number)) => Err(Failure::Own(NutsimFault::BadStep(path, number))),
         Err(Stop::Memory) => Err(Failure::Memory),
-        Err(Stop::Input) => Err(Failure::Own(NutsimFault::CannotRead(path, None))),
+        Err(Stop::Input) => Err(Failure::from(FileFault::CannotRead(path, None))),
         Err(Stop::Output) => Err(Failure::Io),
     }
 }

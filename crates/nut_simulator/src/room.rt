@@ -1,8 +1,8 @@
 //! The configuration files of a room.
 
 use crate::fault::NutsimFault;
-use nut_conf::{MonConfig, UpsConf, UpsdConf, UsersConf};
-use nut_program::{Failure, FileFault, read_conf, read_conf_at};
+use nut_conf::MonConfig;
+use nut_program::{Failure, FileFault, paired, read_conf, read_conf_at};
 use nut_server::Config;
 use std::alloc::{AllocError, Global};
 use std::rt::Files;
@@ -14,31 +14,9 @@ pub fn read_config(
     folder: &str,
 ) -> Result<Config, FileFault<'static>> {
     let ups = read_conf(files, alloc, folder)?;
-    match read_conf(files, alloc, folder) {
-        Ok(users) => with_upsd(ups, users, read_conf(files, alloc, folder)),
-        Err(fault) => {
-            // dropped by a call, which keeps the proof of this function short
-            drop(ups);
-            Err(fault)
-        }
-    }
-}
-
-/// Returns the configuration with this ups.conf and upsd.users, and with upsd.conf as it was read.
-fn with_upsd(
-    ups: UpsConf,
-    users: UsersConf,
-    upsd: Result<UpsdConf, FileFault<'static>>,
-) -> Result<Config, FileFault<'static>> {
-    match upsd {
-        Ok(upsd) => Ok(Config::new(ups, users, upsd)),
-        Err(fault) => {
-            // dropped by calls, which keep the proof of this function short
-            drop(ups);
-            drop(users);
-            Err(fault)
-        }
-    }
+    let (users, ups) = paired(read_conf(files, alloc, folder), ups)?;
+    let (upsd, (users, ups)) = paired(read_conf(files, alloc, folder), (users, ups))?;
+    Ok(Config::new(ups, users, upsd))
 }
 
 /// Reads the upsmon.conf of each monitor, in order.

@@ -4,15 +4,13 @@ use crate::command::nutsim_command;
 use crate::fault::NutsimFault;
 use crate::playing::play_schedule;
 use crate::room::{read_config, read_monitors};
-use nut_conf::MonConfig;
-use nut_play::{Fleet, FleetFault};
-use nut_program::{Failure, NamedLines, hold_closed_streams, remark_on_unread};
-use nut_server::Config;
+use nut_play::Fleet;
+use nut_program::{Failure, FileFault, NamedLines, hold_closed_streams, paired};
 use std::alloc::Global;
 use std::convert::AsStr;
 use std::fs::File;
 use std::io;
-use std::io::{BufRead, BufReader, ErrorKind, Write};
+use std::io::{BufRead, BufReader, Write};
 use std::rt::Files;
 
 /// Plays a schedule on a server and its monitors, joined by pipes in memory. Returns the exit status.
@@ -95,78 +93,32 @@ fn play_room<'a, O: Write, E: Write>(
     is_terminal: bool,
 ) -> Result<(), Failure<NutsimFault<'a>>> {
     let config = read_config(files, alloc, names.folder)?;
-    match read_rest(files, alloc, names) {
-        Ok((mut schedule, monitors)) => {
-            let made = Fleet::new(alloc, config, monitors);
-            play_made(
-                alloc,
-                made,
-                names.schedule,
-                &mut schedule,
-                out,
-                err,
-                is_terminal,
-            )
-        }
-        Err(failure) => {
-            // dropped by a call, which keeps the proof of this function short
-            drop(config);
-            Err(failure)
-        }
-    }
-}
-
-/// Opens the schedule of a room, and reads the files of its monitors.
-fn read_rest<'a, F: Files>(
-    files: &F,
-    alloc: Global,
-    names: Names<'a, '_>,
-) -> Result<(BufReader<F::File>, Vec<MonConfig>), Failure<NutsimFault<'a>>> {
-    let schedule = open_schedule(files, alloc, names.schedule)?;
-    match read_monitors(files, alloc, names.monitors) {
-        Ok(monitors) => Ok((schedule, monitors)),
-        Err(failure) => Err(failure),
-    }
-}
-
-/// Plays a schedule in a room, if memory was found for it.
-fn play_made<'a, R: BufRead, O: Write, E: Write>(
-    alloc: Global,
-    made: Result<Fleet, FleetFault>,
-    path: &'a str,
-    schedule: &mut R,
-    out: &mut O,
-    err: &mut E,
-    is_terminal: bool,
-) -> Result<(), Failure<NutsimFault<'a>>> {
-    match made {
-        Ok(mut fleet) => {
-            let played = play_schedule(alloc, &mut fleet, path, schedule, out, err, is_terminal);
-            // dropped by a call, which keeps the proof of this function short
-            drop(fleet);
-            played
-        }
-        Err(_) => Err(Failure::Memory),
-    }
+    let path = names.schedule;
+    let schedule = open_schedule(files, alloc, path).map_err(|error| FileFault::unread(
+        alloc, path, &error, path,
+    ));
+    let (schedule, config) = paired(schedule, config)?;
+    let monitors = read_monitors(files, alloc, names.monitors);
+    let (monitors, (mut schedule, config)) = paired(monitors, (schedule, config))?;
+    let Ok(mut fleet) = Fleet::new(alloc, config, monitors) else {
+        return Err(Failure::Memory);
+    };
+    let played = play_schedule(
+        alloc,
+        &mut fleet,
+        path,
+        &mut schedule,
+        out,
+        err,
+        is_terminal,
+    );
+    // dropped by a call, which keeps the proof of this function short
+    drop(fleet);
+    played
 }
 
 /// Opens a schedule, and checks that it can be read.
-fn open_schedule<'a, F: Files>(
-    files: &F,
-    alloc: Global,
-    path: &'a str,
-) -> Result<BufReader<F::File>, Failure<NutsimFault<'a>>> {
-    match opened(files, alloc, path) {
-        Ok(schedule) => Ok(schedule),
-        Err(error) if error.kind() == ErrorKind::OutOfMemory => Err(Failure::Memory),
-        Err(error) => {
-            let remark = remark_on_unread(alloc, path, &error);
-            Err(Failure::Own(NutsimFault::CannotRead(path, remark)))
-        }
-    }
-}
-
-fn opened<F: Files>(files: &F, alloc: Global, path: &str) -> io::Result<BufReader<F::File>> {
+fn open_schedule<F: Files>(files: &F, alloc: Global, path: &str) -> io::Result<BufReader<F::File>> {
     let mut schedule = BufReader::new(alloc, File::open(files, path)?)?;
     schedule.fill_buf()?;
     Ok(schedule)
