@@ -149,10 +149,6 @@ fn tell_fault<E: Output>(text: &Text, err: &mut E) -> u8
 
 /// Returns clap's text, as the tool of this name writes it. If a word is unknown, a last line says where to read about the
 /// options of NUT that are not supported.
-///
-/// # Errors
-///
-/// [`AllocError`] if memory for it cannot be allocated.
 fn clap_text(alloc: Global, name: &str, error: &clap::Error) -> Result<Text, AllocError> {
     let mut text = nut_program::clap_text(alloc, error)?;
     if error.kind() == ErrorKind::UnknownArgument {

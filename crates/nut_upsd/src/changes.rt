@@ -10,10 +10,6 @@ use std::alloc::{AllocError, Global};
 /// Returns what a new configuration changes: the UPSes that are added, those that are removed, and those that differ,
 /// each in the order of its file; and then the order of those that stay, the users, MAXAGE, MAXCONN and cmdvartab, if they
 /// differ. `listens_elsewhere` says that the LISTEN lines aren't those of the start. The text is empty if nothing changes.
-///
-/// # Errors
-///
-/// [`AllocError`] if memory cannot be allocated.
 pub fn changes(
     alloc: Global,
     old: &Config,
@@ -159,24 +155,14 @@ fn have_other_order(old: &Config, new: &Config) -> bool {
 /// Whether the users of two configurations may do different things, or have other names, passwords or another order.
 fn have_other_users(old: &UsersConf, new: &UsersConf) -> bool {
     let (old, new) = (&old.users.by_name, &new.users.by_name);
-    if old.len() != new.len() {
-        return true;
-    }
-    for i in 0..old.len() {
-        let (Some((name, before)), Some((new_name, after))) = (old.get_index(i), new.get_index(i))
-        else {
-            return true;
-        };
-        if name != new_name
-            || before.password != after.password
-            || before.actions != after.actions
-            || before.instcmds != after.instcmds
-            || before.upsmon != after.upsmon
-        {
-            return true;
-        }
-    }
-    false
+    old.len() != new.len()
+        || old.iter().zip(new.iter()).any(|((name, before), (new_name, after))| {
+            name != new_name
+                || before.password != after.password
+                || before.actions != after.actions
+                || before.instcmds != after.instcmds
+                || before.upsmon != after.upsmon
+        })
 }
 
 /// Whether the texts of two configurations differ, or their order. One without cmdvartab has none.
@@ -193,16 +179,7 @@ fn have_other_texts(old: Option<&Descriptions>, new: Option<&Descriptions>) -> b
 /// Whether texts or their names differ, or their order.
 fn are_other_texts(old: &Texts, new: &Texts) -> bool {
     let (old, new) = (&old.by_name, &new.by_name);
-    if old.len() != new.len() {
-        return true;
-    }
-    for i in 0..old.len() {
-        let (Some(before), Some(after)) = (old.get_index(i), new.get_index(i)) else {
-            return true;
-        };
-        if before.0 != after.0 || before.1 != after.1 {
-            return true;
-        }
-    }
-    false
+    old.len() != new.len()
+        || old.iter().zip(new.iter()).any(|((name, before), (new_name, after))| name != new_name
+            || before != after)
 }

@@ -1,31 +1,14 @@
 //! The command line of upsd.
 
-use clap::{Arg, ArgAction, ArgMatches, Command};
+use clap::{Arg, ArgAction, Command};
 use nut_program::{VERSION, check_option, debug_option, foreground_option, quiet_option};
 use std::alloc::{AllocError, Global};
-use std::convert::AsStr;
 
 /// The forms of upsd's command line. clap's own usage would be of the required options alone.
 const USAGE: &str =
     "upsd [OPTIONS] --conf <DIR> -s <SOCKDIR>\n       upsd --check [--conf <DIR> [-s <SOCKDIR>]]\n       upsd --stdio [--conf <DIR> | --ups <NAME=DESC>...]";
 
-/// Returns what these words say on a command line, the program's name first.
-///
-/// # Errors
-///
-/// That of clap. It is a lack of memory if the command line couldn't be made.
-pub fn matches_of<'a, S: AsStr>(
-    command: Result<Command<'a>, AllocError>,
-    words: &'a [S],
-) -> Result<ArgMatches<'a>, clap::Error> {
-    command?.try_get_matches_from(words)
-}
-
 /// Returns the command line of `upsd --stdio`.
-///
-/// # Errors
-///
-/// [`AllocError`] if memory cannot be allocated.
 pub fn stdio_command<'a>(alloc: Global) -> Result<Command<'a>, AllocError> {
     let args = with(Ok(Vec::new(alloc)), Ok(stdio(alloc).required(true)));
     let args = with(args, conf(alloc));
@@ -33,10 +16,6 @@ pub fn stdio_command<'a>(alloc: Global) -> Result<Command<'a>, AllocError> {
 }
 
 /// Returns the command line of upsd: `upsd --stdio`, `upsd --conf DIR -s SOCKDIR` and `upsd --check`.
-///
-/// # Errors
-///
-/// [`AllocError`] if memory cannot be allocated.
 pub fn upsd_command<'a>(alloc: Global) -> Result<Command<'a>, AllocError> {
     let args = with(Ok(Vec::new(alloc)), conf(alloc));
     let args = with(args, sockets(alloc));

@@ -1,11 +1,11 @@
 //! The configuration that upsd's command line names.
 
 use crate::read_ups_options;
-use crate::upsd_fault::{UpsdFault, ups_failure};
+use crate::upsd_fault::UpsdFault;
 use clap::ArgMatches;
-use nut_conf::{Descriptions, UpsConf, UpsdConf, UsersConf};
+use nut_conf::{Descriptions, FaultKind, UpsConf, UpsdConf, UsersConf};
 use nut_poll::ErrorLines;
-use nut_program::{Failure, FileFault, read_conf, read_conf_if_there, readable_file, warn};
+use nut_program::{Failure, FileFault, paired, read_conf, read_conf_if_there, readable_file, warn};
 use nut_server::Config;
 use std::alloc::Global;
 use std::rt::Files;
@@ -82,22 +82,18 @@ pub fn read_options(
     alloc: Global,
     matches: &ArgMatches<'_>,
 ) -> Result<Settings, Failure<UpsdFault>> {
-    match matches.get_str("conf") {
-        Some(folder) => Ok(read_settings(files, alloc, folder)?),
-        None => read_upses(alloc, matches.get_strs("ups").unwrap_or(&[])),
+    if let Some(folder) = matches.get_str("conf") {
+        return Ok(read_settings(files, alloc, folder)?);
     }
-}
-
-/// Reads the values of `--ups`. Nothing else is set.
-fn read_upses(alloc: Global, values: &[&str]) -> Result<Settings, Failure<UpsdFault>> {
-    match read_ups_options(alloc, values) {
+    match read_ups_options(alloc, matches.get_strs("ups").unwrap_or(&[])) {
         Ok(ups) => Ok(Settings {
             ups,
             users: UsersConf::new(alloc),
             upsd: UpsdConf::new(alloc),
             descriptions: None,
         }),
-        Err(fault) => Err(ups_failure(fault)),
+        Err(FaultKind::Memory) => Err(Failure::Memory),
+        Err(fault) => Err(Failure::Own(UpsdFault::Ups(fault))),
     }
 }
 
@@ -125,11 +121,7 @@ pub fn read_folder(
     err: &mut ErrorLines,
 ) -> Result<Settings, FileFault<'static>> {
     let settings = read_settings(files, alloc, folder)?;
-    match readable_file::<UsersConf>(files, alloc, folder) {
-        Ok(readable) => {
-            warn(readable, err);
-            Ok(settings)
-        }
-        Err(_) => Err(FileFault::Memory),
-    }
+    let (readable, settings) = paired(readable_file::<UsersConf>(files, alloc, folder), settings)?;
+    warn(readable, err);
+    Ok(settings)
 }

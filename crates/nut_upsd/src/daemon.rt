@@ -3,7 +3,7 @@
 ghost use Rattle.std.specs.Prelude.{◌≡◌, []};
 ghost use Rattle.nut_server_spec.specs.Content.{content};
 
-use crate::command_line::{matches_of, upsd_command};
+use crate::command_line::upsd_command;
 use crate::configuration::read_folder;
 use crate::folder::Folder;
 use crate::listeners::listen;
@@ -13,7 +13,7 @@ use crate::upsd_fault::{UpsdFault, exit_status};
 use clap::ArgMatches;
 use libc::geteuid;
 use nut_poll::{ErrorLines, Reports};
-use nut_program::{Failure, conf_folder, hold_closed_streams};
+use nut_program::{Failure, conf_folder, hold_closed_streams, paired};
 use nut_server::{Config, Server};
 use nut_server_loop::serve;
 use nut_server_sockets::{Drivers, Listeners, MioWorld, Reloader};
@@ -78,7 +78,7 @@ fn run<S: AsStr, I: Read, O: Write>(
     out: &mut O,
     err: &mut ErrorLines,
 ) -> Result<(), Failure<UpsdFault>> {
-    let matches = matches_of(upsd_command(alloc), words)?;
+    let matches = upsd_command(alloc)?.try_get_matches_from(words)?;
     if matches.get_flag("check") {
         let folder = conf_folder(rt, alloc, &matches)?;
         // dropped by a call, which keeps the proof of this function short
@@ -127,12 +127,6 @@ fn serve_sockets<R: Wait + Files + Net + Clock + Processes>(
     let (listeners, (settings, mut folder)) = paired(listeners, (settings, folder))?;
     let config = folder.start(settings);
     serve_config(rt, alloc, config, listeners, folder, options, err)
-}
-
-/// Returns what was made, and `value` beside it. If nothing was made, `value` is dropped here, in one place: a drop at
-/// each caller's `?` makes its proof long (CONTRIBUTING.md).
-fn paired<A: Drop, B: Drop, F: Drop>(made: Result<A, F>, value: B) -> Result<(A, B), F> {
-    Ok((made?, value))
 }
 
 /// Serves all clients that connect to the listeners with this configuration, and then with those of the reloader.

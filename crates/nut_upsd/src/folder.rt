@@ -4,7 +4,9 @@ use crate::changes::changes;
 use crate::configuration::{Settings, read_folder};
 use nut_conf::{Endpoint, MonConfig};
 use nut_poll::{ErrorLines, Reports};
-use nut_program::{ConfFile, FileFault, Look, ReloadFile, ReloadReport, Turn, tell_not_reloaded};
+use nut_program::{
+    ConfFile, FileFault, Look, ReloadFile, ReloadReport, Turn, paired, tell_not_reloaded,
+};
 use nut_server::{Config, Refused, Server};
 use nut_server_sockets::Reloader;
 use std::alloc::{AllocError, Global};
@@ -35,10 +37,6 @@ pub struct Folder<'r, F> {
 impl<'r, F: Files> Folder<'r, F> {
     /// Returns the folder with this path, beside the folder of the drivers' sockets. A request for a reload counts from now
     /// on.
-    ///
-    /// # Errors
-    ///
-    /// [`AllocError`] if memory cannot be allocated.
     pub fn new(
         files: &'r F,
         alloc: Global,
@@ -84,17 +82,12 @@ impl<'r, F: Files> Folder<'r, F> {
         err: &mut ErrorLines,
     ) -> Result<Box<Config>, FileFault<'static>> {
         let settings = self.read(err)?;
-        match self.give(server, settings) {
-            Ok(config) => Ok(config),
-            Err(_) => Err(FileFault::Memory),
-        }
-    }
-
-    /// Makes a new configuration, and notes what differs from that of a server.
-    fn give(&mut self, server: &Server, settings: Settings) -> Result<Box<Config>, AllocError> {
         let listens_elsewhere = settings.upsd.listen.lines != self.endpoints;
-        let config = Box::new(self.alloc, settings.into_config())?;
-        let differences = changes(self.alloc, server.config(), &config, listens_elsewhere)?;
+        let Ok(config) = Box::new(self.alloc, settings.into_config()) else {
+            return Err(FileFault::Memory);
+        };
+        let differences = changes(self.alloc, server.config(), &config, listens_elsewhere);
+        let (differences, config) = paired(differences, config)?;
         self.changes = Some(differences);
         Ok(config)
     }

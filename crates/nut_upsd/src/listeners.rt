@@ -59,7 +59,7 @@ pub fn listen(
     match listeners.take_obstacle() {
         Some(missing) => {
             let (host, port, error) = missing.into_parts();
-            let remark = remark_on(alloc, &error);
+            let remark = format!(in alloc; "{error}").ok();
             Err(Failure::Own(UpsdFault::Listen(host, port, remark)))
         }
         None => Ok(listeners),
@@ -75,9 +75,10 @@ fn add_listeners(
     listeners: &mut Listeners,
 ) -> Result<(), Failure<UpsdFault>> {
     for i in 0..conf.endpoints() {
-        let Some((host, port)) = endpoint(conf, i) else {
+        let Some((address, port)) = conf.endpoint(i) else {
             break;
         };
+        let host = text_of(address);
         if Reach::of(host) == reach
             && let Err(error) = listeners.add(net, alloc, host, port)
         {
@@ -87,24 +88,16 @@ fn add_listeners(
     Ok(())
 }
 
-/// Returns an endpoint of upsd.conf, with its address as text.
-fn endpoint(conf: &UpsdConf, i: usize) -> Option<(&str, u16)> {
-    let (address, port) = conf.endpoint(i)?;
-    Some((text_of(address), port))
-}
-
 /// Returns why upsd ends if this error makes it impossible to listen at a host.
 fn cannot_listen(alloc: Global, host: &str, port: u16, error: &io::Error) -> Failure<UpsdFault> {
     if error.kind() == ErrorKind::OutOfMemory {
         return Failure::Memory;
     }
     match String::from_str(alloc, host) {
-        Ok(host) => Failure::Own(UpsdFault::Listen(host, port, remark_on(alloc, error))),
+        Ok(host) => {
+            let remark = format!(in alloc; "{error}").ok();
+            Failure::Own(UpsdFault::Listen(host, port, remark))
+        }
         Err(_) => Failure::Memory,
     }
-}
-
-/// Says why it is impossible to listen. `None` if memory for that cannot be allocated.
-fn remark_on(alloc: Global, error: &io::Error) -> Option<String> {
-    format!(in alloc; "{error}").ok()
 }

@@ -3,13 +3,13 @@
 ghost use Rattle.std.specs.Prelude.{◌≡◌, []};
 ghost use Rattle.nut_server_spec.specs.Content.{content};
 
-use crate::command_line::{matches_of, stdio_command};
+use crate::command_line::stdio_command;
 use crate::configuration::read_options;
 use crate::upsd_fault::{UpsdFault, exit_status};
 use clap::ArgMatches;
 use nut_program::{Failure, NamedLines, hold_closed_streams};
 use nut_server::Server;
-use nut_server_loop::{StreamWorld, serve};
+use nut_server_loop::{StreamWorld, WorldStream, serve};
 use std::alloc::Global;
 use std::convert::AsStr;
 use std::io::{Read, Write};
@@ -54,7 +54,7 @@ fn serve_words<S: AsStr, I: Read, O: Write>(
     input: &mut I,
     out: &mut O,
 ) -> Result<(), Failure<UpsdFault>> {
-    let matches = matches_of(stdio_command(alloc), words)?;
+    let matches = stdio_command(alloc)?.try_get_matches_from(words)?;
     serve_options(rt, alloc, &matches, input, out)
 }
 
@@ -94,9 +94,9 @@ fn serve_client<I: Read, O: Write>(
 {
     let mut world = StreamWorld::new(input, out);
     let served = serve(rt, server, &mut world);
-    if let Some(stream) = world.failed() {
-        return Err(Failure::Own(UpsdFault::from(stream)));
+    match world.failed() {
+        Some(WorldStream::Input) => Err(Failure::Own(UpsdFault::Input)),
+        Some(WorldStream::Output) => Err(Failure::Own(UpsdFault::Output)),
+        None => Ok(served?),
     }
-    served?;
-    Ok(())
 }

@@ -4,7 +4,6 @@ use crate::nuts_options::NUTS_OPTIONS;
 use nut_conf::FaultKind;
 use nut_log::Lines;
 use nut_program::{Failure, FileFault, OwnFault, way_of};
-use nut_server_loop::WorldStream;
 use std::alloc::Global;
 use std::convert::AsStr;
 use std::fmt;
@@ -55,23 +54,6 @@ impl OwnFault for UpsdFault {
 impl From<FileFault<'static>> for UpsdFault {
     fn from(fault: FileFault<'static>) -> Self {
         UpsdFault::File(fault)
-    }
-}
-
-impl From<WorldStream> for UpsdFault {
-    fn from(stream: WorldStream) -> Self {
-        match stream {
-            WorldStream::Input => UpsdFault::Input,
-            WorldStream::Output => UpsdFault::Output,
-        }
-    }
-}
-
-/// Returns why upsd ends if a value of `--ups` has this fault.
-pub fn ups_failure(fault: FaultKind) -> Failure<UpsdFault> {
-    match fault {
-        FaultKind::Memory => Failure::Memory,
-        fault => Failure::Own(UpsdFault::Ups(fault)),
     }
 }
 
