@@ -4,18 +4,6 @@ use Rattle.nut_words.proofs.CutLemmas.{pending, left, left-shorter}
 use Rattle.nut_dummy.proofs.ScriptLemmas.{read_lines-fault, read_lines-done, makes_more, reads_on}
 use Rattle.nut_dummy.proofs.script.Script.add_lines.Goals as goal
 
-pub loop-rest-init : goal.loop-rest-init
-loop-rest-init c = (
-  [],
-  record {
-    taken = refl;
-    count = refl;
-    makes = λ more. ap (λ s. read_lines c.args.kind s 1 more) (sym c.requires);
-    room = omega arith;
-    round = omega (arith, ap (λ s. s.round) c.requires);
-  },
-)
-
 pub returns-in-Err-clause-fault : goal.returns-in-Err-clause-fault
 returns-in-Err-clause-fault c =
     let kept = c.loop-rest.invariant in
@@ -24,20 +12,6 @@ returns-in-Err-clause-fault c =
     let line_of : pending 10 c.loop-rest.rest ≡ c.cut.result.0.now ∷ behind = ap (pending 10) c.in-Some.is ∙ c.cut.ensures.parts in
     subst (IsFaultOf n c.in-Err.kind) (sym (reads_on c.args.kind c.args.bytes.now kept.0 (c.cut.result.0.now ∷ behind) c.loop-rest.self c.loop-rest.number (kept.1.taken ∙ ap (λ ls. kept.0 ++ ls) line_of) kept.1.count kept.1.makes))
     (read_lines-fault c.args.kind c.loop-rest.self n c.in-Err.kind c.cut.result.0.now behind c.in-Err.ensures.line)
-
-pub returns-in-Err-clause-memory : goal.returns-in-Err-clause-memory
-returns-in-Err-clause-memory c = λ ran_out.
-    let kept = c.loop-rest.invariant in
-    record {
-      front = kept.0;
-      line = c.cut.result.0.now;
-      rest = pending 10 c.cut.result.1;
-      before = c.loop-rest.self;
-      parted = kept.1.taken ∙ ap (λ ls. kept.0 ++ ls) (ap (pending 10) c.in-Some.is ∙ c.cut.ensures.parts);
-      number = omega (arith, kept.1.count);
-      makes = kept.1.makes;
-      takes = c.in-Err.ensures.memory (ap (λ k. Err k) ran_out);
-    }
 
 pub loop-rest-preserved : goal.loop-rest-preserved
 loop-rest-preserved c =
