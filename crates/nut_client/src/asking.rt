@@ -1,6 +1,5 @@
 //! What a tool asks to show something, one query after the other, and the text that it makes of the answers.
 ghost use Rattle.std.specs.Prelude.{◌≡◌, ◌∷◌, ◌++◌, [], List, ℕ};
-ghost use Rattle.nut_client.specs.Json.{json_object};
 ghost use Rattle.nut_client.specs.Script.{Asks, Prints, Script, commands, line, lists, on_rows, row_lines, script, settings, values_of as values_meant, with_values, word};
 ghost use Rattle.nut_client.specs.inside.Between.{Goes, IsMade, point};
 ghost use Rattle.nut_client.specs.declared.wanted.Wanted.TheVariants.{Commands, Member, Object, Settings, Value};
@@ -8,7 +7,7 @@ ghost use Rattle.nut_proto.specs.declared.request.Request.TheVariants.{List as L
 
 use crate::conversation::Conversation;
 use crate::failure::ToolFailure;
-use crate::json::{put_object, put_object_of_one};
+use crate::json::{member_text, object_text};
 use crate::printing::{AllowedValues, RowForm, put_heading, put_line, put_rows, values_of};
 use crate::stream::Stream;
 use crate::wanted::Wanted;
@@ -23,24 +22,6 @@ fn rows_text(alloc: Global, form: RowForm, rows: &[Fields]) -> Result<Text, Tool
 {
     let mut text = Vec::new(alloc);
     put_rows(&mut text, form, rows)?;
-    Ok(Text::of(text))
-}
-
-/// Returns the rows as a JSON object.
-fn object_text(alloc: Global, rows: &[Fields]) -> Result<Text, ToolFailure>
-    ensures { IsMade (json_object rows.now) result }
-{
-    let mut text = Vec::new(alloc);
-    put_object(&mut text, rows)?;
-    Ok(Text::of(text))
-}
-
-/// Returns a name and its value as a JSON object.
-fn member_text(alloc: Global, name: &[u8], value: &[u8]) -> Result<Text, ToolFailure>
-    ensures { IsMade (json_object ((name.now ∷ value.now ∷ []) ∷ [])) result }
-{
-    let mut text = Vec::new(alloc);
-    put_object_of_one(&mut text, name, value)?;
     Ok(Text::of(text))
 }
 

@@ -2,9 +2,11 @@
 ghost use Rattle.std.specs.Prelude.{◌≡◌, ◌<◌, ◌++◌, ◌∷◌, [], OnOk, codes};
 ghost use Rattle.std.specs.List.{flat_map};
 ghost use Rattle.nut_client.specs.Json.{escaped, hex_digit as hex_digit_of, json_object, json_string, member, members};
+ghost use Rattle.nut_client.specs.inside.Between.{IsMade};
 
-use nut_link::Fields;
-use std::alloc::AllocError;
+use crate::failure::ToolFailure;
+use nut_link::{Fields, Text};
+use std::alloc::{AllocError, Global};
 
 /// Returns the digit of a number below 16.
 fn hex_digit(number: u8) -> u8
@@ -94,24 +96,24 @@ fn put_members(out: &mut Vec<u8>, rows: &[Fields]) -> Result<(), AllocError>
     }
 }
 
-/// Appends the rows as one object and a line feed.
-pub(crate) fn put_object(out: &mut Vec<u8>, rows: &[Fields]) -> Result<(), AllocError>
-    ensures { OnOk result (out.new.items ≡ out.old.items ++ json_object rows.now) }
+/// Returns the rows as one object and a line feed.
+pub(crate) fn object_text(alloc: Global, rows: &[Fields]) -> Result<Text, ToolFailure>
+    ensures { IsMade (json_object rows.now) result }
 {
-    out.extend_from_slice(b"{")?;
-    put_members(out, rows)?;
-    out.extend_from_slice(b"}\n")
+    let mut text = Vec::new(alloc);
+    text.extend_from_slice(b"{")?;
+    put_members(&mut text, rows)?;
+    text.extend_from_slice(b"}\n")?;
+    Ok(Text::of(text))
 }
 
-/// Appends an object of one member and a line feed.
-pub(crate) fn put_object_of_one(
-    out: &mut Vec<u8>,
-    name: &[u8],
-    value: &[u8],
-) -> Result<(), AllocError>
-    ensures { OnOk result (out.new.items ≡ out.old.items ++ json_object ((name.now ∷ value.now ∷ []) ∷ [])) }
+/// Returns a name and its value as an object of one member and a line feed.
+pub(crate) fn member_text(alloc: Global, name: &[u8], value: &[u8]) -> Result<Text, ToolFailure>
+    ensures { IsMade (json_object ((name.now ∷ value.now ∷ []) ∷ [])) result }
 {
-    out.extend_from_slice(b"{")?;
-    put_pair(out, name, value)?;
-    out.extend_from_slice(b"}\n")
+    let mut text = Vec::new(alloc);
+    text.extend_from_slice(b"{")?;
+    put_pair(&mut text, name, value)?;
+    text.extend_from_slice(b"}\n")?;
+    Ok(Text::of(text))
 }

@@ -3,6 +3,3 @@ use Rattle.nut_client.proofs.forcing.ask_as_user.Goals as goal
 
 pub returns-clause-ends : goal.returns-clause-ends
 returns-clause-ends g c = all_asked _ c.ask_in_turn.result _ _ c.new-conversation.ensures c.ask_in_turn.ensures.goes
-
-pub returns-clause-lost : goal.returns-clause-lost
-returns-clause-lost g c = c.ask_in_turn.ensures.goes.lost
