@@ -61,6 +61,8 @@ impl MonWorld for MemoryMonWorld {
 
     ghost fault_count = { λ w. w.faults };
 
+    ghost failed_at_next = { λ w. ⊥ };
+
     ghost has_ended = { λ w. w.left ≡ [] };
 
     ghost did_self = { λ config. goes_on_self };
@@ -106,6 +108,7 @@ impl MonWorld for MemoryMonWorld {
         requires some { 0 < length bytes.now }
         ensures ok { IfOk result (λ w. GoesOn self.old self.new (written_by w i bytes.now ∷ [])) }
         ensures err { OnErr result (GoesOn self.old self.new []) }
+        ensures elsewhere { OnErr result (⊥ → ⊥) }
         ensures within { IfOk result (λ w. IsWithin w (length bytes.now)) }
         ensures late { IfOk result (λ w. (j : ℕ) → false ≡ late_after w i (λ _. false) j) }
         ensures counted { self.new.faults ≡ (if is_ok result then self.old.faults else self.old.faults + 1) }
@@ -125,6 +128,7 @@ impl MonWorld for MemoryMonWorld {
         requires { self.old.faults < 2 ^ 64 - 1 }
         ensures ok { OnOk result (GoesOn self.old self.new (entry.WasClosed i ∷ [])) }
         ensures err { OnErr result (GoesOn self.old self.new []) }
+        ensures elsewhere { OnErr result (⊥ → ⊥) }
         ensures late { (j : ℕ) → false ≡ false }
         ensures counted { self.new.faults ≡ (if is_ok result then self.old.faults else self.old.faults + 1) }
         ensures left { self.new.left ≡ self.old.left }
@@ -142,6 +146,7 @@ impl MonWorld for MemoryMonWorld {
         requires { self.old.faults < 2 ^ 64 - 1 }
         ensures ok { OnOk result (GoesOn self.old self.new (entry.WasTold notice ∷ [])) }
         ensures err { OnErr result (GoesOn self.old self.new []) }
+        ensures elsewhere { OnErr result (⊥ → ⊥) }
         ensures late { (j : ℕ) → false ≡ false }
         ensures counted { self.new.faults ≡ (if is_ok result then self.old.faults else self.old.faults + 1) }
         ensures left { self.new.left ≡ self.old.left }

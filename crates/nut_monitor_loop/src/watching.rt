@@ -1,6 +1,6 @@
 //! The loop over any world.
 
-ghost use Rattle.std.specs.Prelude.{◌≡◌, ◌⊎◌, ◌-◌, ◌^◌, ◌<◌, ℕ, true, false, [], length, slice_get, Option, Some, None, Ok, IfOk, OnOk, OnErr, option_map};
+ghost use Rattle.std.specs.Prelude.{◌≡◌, ◌⊎◌, ◌-◌, ◌^◌, ◌<◌, ℕ, true, false, [], length, slice_get, Option, Some, None, Ok, IfOk, OnOk, OnErr, is_ok, if◌then◌else◌, ◌+◌, option_map};
 ghost use Rattle.nut_monitor_spec.specs.Content.{content, phase_of};
 ghost use Rattle.nut_monitor_spec.specs.Decision.{is_halted};
 ghost use Rattle.nut_monitor.specs.Events.{event_of as told_as};
@@ -27,7 +27,7 @@ use std::sync::Wait;
 ///
 /// # Errors
 ///
-/// `ServeFault::World` if a call of the world returned a fault.
+/// `ServeFault::World` if a call of the world returned a fault. If it was `next`, the machine need not be halted then.
 pub fn watch<W: MonWorld>(
     rt: &impl Wait,
     monitor: &mut Monitor,
@@ -42,7 +42,8 @@ pub fn watch<W: MonWorld>(
     ensures phase { IfOk result (λ phase. phase ≡ phase_of monitor.new.content) }
     ensures told { OnOk result (monitor.new.content.notices ≡ []) }
     ensures ended { IfOk result (λ phase. (is_halted phase ≡ true) ⊎ W.has_ended world.new) }
-    ensures fault { OnErr result (W.fault_count world.old < W.fault_count world.new) }
+    ensures fault { W.fault_count world.new ≡ (if is_ok result then W.fault_count world.old else W.fault_count world.old + 1) }
+    ensures going { OnErr result (W.failed_at_next world.new → is_halted (phase_of monitor.new.content) ≡ false) }
     ensures config { monitor.new.config ≡ monitor.old.config }
 {
     let mut piece = Piece::new();
@@ -62,6 +63,7 @@ fn go_on<W: MonWorld>(
     ghost since: { Since W }
     requires ready { Ready W.fault_count W.did since world.old monitor.old }
     ensures goes { Goes W.fault_count W.did since world.old result world.new monitor.new }
+    ensures going { OnErr result (W.failed_at_next world.new → is_halted (phase_of monitor.new.content) ≡ false) }
     ensures phase { IfOk result (λ phase. phase ≡ phase_of monitor.new.content) }
     ensures told { OnOk result (monitor.new.content.notices ≡ []) }
     ensures ended { IfOk result (λ phase. (is_halted phase ≡ true) ⊎ W.has_ended world.new) }
@@ -84,6 +86,7 @@ fn round<W: MonWorld>(
     ghost since: { Since W }
     requires ready { Ready W.fault_count W.did since world.old monitor.old }
     ensures goes { Goes W.fault_count W.did since world.old result world.new monitor.new }
+    ensures going { OnErr result (W.failed_at_next world.new → is_halted (phase_of monitor.new.content) ≡ false) }
     ensures told { result ≡ Ok false → monitor.new.content.notices ≡ [] }
     ensures ended { result ≡ Ok false → (is_halted (phase_of monitor.new.content) ≡ true) ⊎ W.has_ended world.new }
 {
@@ -103,6 +106,7 @@ fn turn<W: MonWorld>(monitor: &mut Monitor, world: &mut W, piece: &mut Piece) ->
     requires withheld { NothingIsWithheld (W.late world.old) monitor.old.content }
     requires told { monitor.old.content.notices ≡ [] }
     ensures goes { Goes W.fault_count W.did since world.old result world.new monitor.new }
+    ensures going { OnErr result (W.failed_at_next world.new → is_halted (phase_of monitor.new.content) ≡ false) }
     ensures told { result ≡ Ok false → monitor.new.content.notices ≡ [] }
     ensures ended { result ≡ Ok false → (is_halted (phase_of monitor.new.content) ≡ true) ⊎ W.has_ended world.new }
 {
@@ -142,6 +146,7 @@ fn hand_on<W: MonWorld>(
         monitor.old.content next.now piece.now.items }
     requires config { monitor.old.config ≡ since.config }
     ensures goes { Goes W.fault_count W.did since world.old result world.new monitor.new }
+    ensures elsewhere { OnErr result (W.failed_at_next world.new → ⊥) }
 {
     let Some(event) = event_of(next, piece) else {
         return Ok(());
@@ -196,6 +201,7 @@ fn settle_links<W: MonWorld>(monitor: &mut Monitor, world: &mut W) -> Result<boo
     ghost since: { Since W }
     requires ready { Ready W.fault_count W.did since world.old monitor.old }
     ensures goes { Goes W.fault_count W.did since world.old result world.new monitor.new }
+    ensures elsewhere { OnErr result (W.failed_at_next world.new → ⊥) }
     ensures withheld { result ≡ Ok true → NothingIsWithheld (W.late world.new) monitor.new.content }
 {
     let lines = monitor.lines();
@@ -215,6 +221,7 @@ fn flush<W: MonWorld>(monitor: &mut Monitor, world: &mut W, i: usize) -> Result<
     ghost since: { Since W }
     requires ready { Ready W.fault_count W.did since world.old monitor.old }
     ensures goes { Goes W.fault_count W.did since world.old result world.new monitor.new }
+    ensures elsewhere { OnErr result (W.failed_at_next world.new → ⊥) }
     ensures settled { result ≡ Ok true → IsSettled (W.late world.new) monitor.new.content.watches i }
     ensures only { result ≡ Ok true → OnlyAt i monitor.old.content.watches monitor.new.content.watches }
     ensures late { OnOk result (StaysLate (W.late world.old) (W.late world.new)) }
@@ -235,6 +242,7 @@ fn write_once<W: MonWorld>(monitor: &mut Monitor, world: &mut W, i: usize) -> Re
     requires ready { Ready W.fault_count W.did since world.old monitor.old }
     requires some { 0 < length (waiting_of i monitor.old.content.watches) }
     ensures goes { Goes W.fault_count W.did since world.old result world.new monitor.new }
+    ensures elsewhere { OnErr result (W.failed_at_next world.new → ⊥) }
     ensures less { IfOk result (λ w. Less w i monitor.old.content.watches monitor.new.content.watches) }
     ensures settled { IfOk result (λ w. Settles w (W.late world.new) monitor.new.content.watches i) }
     ensures only { IfOk result (λ w. Unbroken w i monitor.old.content.watches monitor.new.content.watches) }
@@ -259,6 +267,7 @@ fn tell_all<W: MonWorld>(monitor: &mut Monitor, world: &mut W) -> Result<(), Fau
     ghost since: { Since W }
     requires ready { Ready W.fault_count W.did since world.old monitor.old }
     ensures goes { Goes W.fault_count W.did since world.old result world.new monitor.new }
+    ensures elsewhere { OnErr result (W.failed_at_next world.new → ⊥) }
     ensures told { OnOk result (monitor.new.content.notices ≡ []) }
     ensures watches { OnOk result (monitor.new.content.watches ≡ monitor.old.content.watches) }
     ensures late { OnOk result (KeepsLate (W.late world.old) (W.late world.new)) }
@@ -275,6 +284,7 @@ fn tell<W: MonWorld>(monitor: &mut Monitor, world: &mut W, notice: Notice) -> Re
     requires ready { Ready W.fault_count W.did since world.old monitor.old }
     requires oldest { slice_get monitor.old.content.notices 0 ≡ Some notice }
     ensures goes { Goes W.fault_count W.did since world.old result world.new monitor.new }
+    ensures elsewhere { OnErr result (W.failed_at_next world.new → ⊥) }
     ensures less { OnOk result (length monitor.new.content.notices < length monitor.old.content.notices) }
     ensures watches { OnOk result (monitor.new.content.watches ≡ monitor.old.content.watches) }
     ensures late { OnOk result (KeepsLate (W.late world.old) (W.late world.new)) }

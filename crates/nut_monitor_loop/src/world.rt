@@ -31,6 +31,9 @@ pub trait MonWorld {
     /// How many calls returned a fault.
     ghost fault_count: { Self → ℕ };
 
+    /// It tells that its last fault was one of `next`.
+    ghost failed_at_next: { Self → Type 0 };
+
     /// Nothing more will come.
     ghost has_ended: { Self → Type 0 };
 
@@ -69,6 +72,7 @@ pub trait MonWorld {
         requires some { 0 < length bytes.now }
         ensures ok { IfOk result (λ w. did monitor.now.config self.old self.new (written_by w i bytes.now ∷ [])) }
         ensures err { OnErr result (did monitor.now.config self.old self.new []) }
+        ensures elsewhere { OnErr result (failed_at_next self.new → ⊥) }
         ensures within { IfOk result (λ w. IsWithin w (length bytes.now)) }
         ensures late { IfOk result (λ w. (j : ℕ) → late self.new j ≡ late_after w i (late self.old) j) }
         ensures counted { fault_count self.new ≡ (if is_ok result then fault_count self.old else fault_count self.old + 1) };
@@ -78,6 +82,7 @@ pub trait MonWorld {
         requires few { fault_count self.old < 2 ^ 64 - 1 }
         ensures ok { OnOk result (did monitor.now.config self.old self.new (WasClosed i ∷ [])) }
         ensures err { OnErr result (did monitor.now.config self.old self.new []) }
+        ensures elsewhere { OnErr result (failed_at_next self.new → ⊥) }
         ensures late { (j : ℕ) → late self.new j ≡ late self.old j }
         ensures counted { fault_count self.new ≡ (if is_ok result then fault_count self.old else fault_count self.old + 1) };
 
@@ -86,6 +91,7 @@ pub trait MonWorld {
         requires few { fault_count self.old < 2 ^ 64 - 1 }
         ensures ok { OnOk result (did monitor.now.config self.old self.new (WasTold notice ∷ [])) }
         ensures err { OnErr result (did monitor.now.config self.old self.new []) }
+        ensures elsewhere { OnErr result (failed_at_next self.new → ⊥) }
         ensures late { (j : ℕ) → late self.new j ≡ late self.old j }
         ensures counted { fault_count self.new ≡ (if is_ok result then fault_count self.old else fault_count self.old + 1) };
 

@@ -15,6 +15,7 @@ returns-in_default g c =
         counted = search rules;
         config = search rules;
       };
+      elsewhere = tt;
     }
 
 pub returns-in-None : goal.returns-in-None
@@ -30,6 +31,7 @@ returns-in-None g c =
         counted = search rules;
         config = search rules;
       };
+      elsewhere = tt;
     }
 
 pub returns-in-Some-lost_link : goal.returns-in-Some-lost_link
@@ -53,4 +55,5 @@ returns-in-Some-lost_link g c =
         counted = search rules;
         config = search rules;
       };
+      elsewhere = c.close.ensures.elsewhere;
     }
