@@ -114,12 +114,13 @@ waits_less first D s s' i part w n r watched is within all answer moved =
 
 pub only_took : (first : Configuration) (D : List Entry → Type 0) (s s' : Content) (i : ℕ) (part : List ℕ) (w : Written) (n : ℕ) (r : Result (Unit {0}) MonitorFault)
     → Watched first D s None → w ≡ Took n → IsWithin w (length part) → part ≡ waiting_of i s.watches → IsAnswer s (LinkTook i n) r → s' ≡ content_after r s (LinkTook i n)
-    → OnlyAt i s.watches s'.watches
+    → OnlyAt i s s'
 only_took first D s s' i part w n r watched is within all answer moved =
     let facts = took_moved first D s s' i part w n r watched is within all answer moved in
     record {
       as_many = ap (λ (t : Content). length t.watches) facts.2 ∙ length-update i (took n) s.watches;
       others = λ j other. ap (λ (t : Content). waiting_of j t.watches) facts.2 ∙ ap waiting_on (update_other i j (took n) s.watches other);
+      notices = ap (λ (t : Content). t.notices) facts.2;
     }
 
 -- ---- all links, one after the other
@@ -135,11 +136,11 @@ here_or_below (suc i) (suc j) less =
     ]
 
 -- the links before i were settled, and now i is
-pub settled_to : (late late' : ℕ → Bool) (ws ws' : List Watch) (i : ℕ) → OnlyAt i ws ws' → StaysLate late late' → IsSettled late' ws' i
-    → ((j : ℕ) → j < i → IsSettled late ws j) → (j : ℕ) → j < i + 1 → IsSettled late' ws' j
-settled_to late late' ws ws' i only stays here before j less =
+pub settled_to : (late late' : ℕ → Bool) (s s' : Content) (i : ℕ) → OnlyAt i s s' → StaysLate late late' → IsSettled late' s'.watches i
+    → ((j : ℕ) → j < i → IsSettled late s.watches j) → (j : ℕ) → j < i + 1 → IsSettled late' s'.watches j
+settled_to late late' s s' i only stays here before j less =
     elim (here_or_below i j less) [
-      | inl is ↦ subst (IsSettled late' ws') (sym is) here
+      | inl is ↦ subst (IsSettled late' s'.watches) (sym is) here
       | inr below ↦ λ some. stays j (before j below (subst (λ bytes. 0 < length bytes) (only.others j (λ is. absurd (omega (arith, below, is)))) some))
     ]
 

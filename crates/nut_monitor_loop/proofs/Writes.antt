@@ -68,9 +68,9 @@ took_notices first h s s' i n before told told' same =
 
 -- a write took some of what waits
 pub write_took : (first : Configuration) (D D' : List Entry → Type 0) (s s' : Content) (i : ℕ) (part : List ℕ) (w : Written) (n : ℕ) (r : Result (Unit {0}) MonitorFault)
-    → Watched first D s None → w ≡ Took n → Grows D D' (written_by w i part) → IsWithin w (length part) → part ≡ waiting_of i s.watches
+    → Watched first D s None → s.notices ≡ [] → w ≡ Took n → Grows D D' (written_by w i part) → IsWithin w (length part) → part ≡ waiting_of i s.watches
     → IsAnswer s (LinkTook i n) r → s' ≡ content_after r s (LinkTook i n) → Watched first D' s' None
-write_took first D D' s s' i part w n r watched is more within all answer moved =
+write_took first D D' s s' i part w n r watched silent is more within all answer moved =
     let h = history_of watched.steps in
     let inside : IsWithin (Took n) (length part) = subst (λ v. IsWithin v (length part)) is within in
     let some : 0 < n = inside.0 in
@@ -81,6 +81,7 @@ write_took first D D' s s' i part w n r watched is more within all answer moved 
     let holds : Tells first (LinkTook i n ∷ h) s' = holds_on first h s s' (LinkTook i n) r watched.holds free (no_memory_took i n) answer moved in
     let base : Tells first (LinkTook i n ∷ h) (advance s (LinkTook i n)) = answers-keep first h s (LinkTook i n) (Ok tt) watched.holds (free, tt) in
     goes_on first D D' s s' None None (TookBytes i (take n part)) (Some (LinkTook i n)) watched (λ entries did. subst (λ v. D' (written_by v i part ∷ entries)) is (more entries did)) (
+      subst (λ (t : Content). t.notices ≡ []) watched.holds.1 silent,
       subst (λ m. refusal (content first h) (LinkTook i m) ≡ None) (sym len) (subst (λ t. refusal t (LinkTook i n) ≡ None) watched.holds.1 free),
       ap (λ m. Some (LinkTook i m)) (sym len),
       refl,
@@ -97,14 +98,14 @@ write_late first D D' s i part w watched is more =
 
 -- a write failed
 pub write_broke : (first : Configuration) (D D' : List Entry → Type 0) (s s' : Content) (i : ℕ) (part : List ℕ) (w : Written) (r : Result (Unit {0}) MonitorFault)
-    → Watched first D s None → w ≡ Failed → Grows D D' (written_by w i part) → 0 < length (waiting_of i s.watches)
+    → Watched first D s None → s.notices ≡ [] → w ≡ Failed → Grows D D' (written_by w i part) → 0 < length (waiting_of i s.watches)
     → IsAnswer s (LinkLost i) r → s' ≡ content_after r s (LinkLost i) → Watched first D' s' (Some i)
-write_broke first D D' s s' i part w r watched is more some answer moved =
+write_broke first D D' s s' i part w r watched silent is more some answer moved =
     let h = history_of watched.steps in
     let free = may_lose s i some in
     let holds = holds_on first h s s' (LinkLost i) r watched.holds free (no_memory_lost i) answer moved in
     goes_on first D D' s s' None (Some i) (WriteBroke i) (Some (LinkLost i)) watched (λ entries did. subst (λ v. D' (written_by v i part ∷ entries)) is (more entries did))
-    (subst (λ t. refusal t (LinkLost i) ≡ None) watched.holds.1 free, refl, refl, refl)
+    (subst (λ (t : Content). t.notices ≡ []) watched.holds.1 silent, subst (λ t. refusal t (LinkLost i) ≡ None) watched.holds.1 free, refl, refl, refl)
     holds
     (λ j. sent_on first h (Some (LinkLost i)) j _ holds.0 tt (watched.sent_is j))
     (notices_on first h s s' (Some (LinkLost i)) (handed (entries_of watched.steps)) watched.holds holds tt watched.notices_are)

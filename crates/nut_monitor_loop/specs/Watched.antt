@@ -51,12 +51,15 @@ abbrev pub Stands : Configuration → List Event → Option ℕ → Entry → Op
 Stands first h owed (Gave e) event owed' =
     (answer : Result (Unit {0}) MonitorFault) × (owed ≡ None) × ((content first h).notices ≡ []) × IsAnswer (content first h) e answer
     × (with_event event h ≡ after answer e h) × (owed' ≡ lost_by e (content first h) (content first (after answer e h)))
--- `LinkTook` stands for bytes that were taken, `LinkLost` for a write that failed, and no event for a late write.
+-- `LinkTook` stands for bytes that were taken, `LinkLost` for a write that failed, and no event for a late write. Both come
+-- only when no notice waits.
 Stands first h owed (TookBytes i bytes) event owed' =
-    (refusal (content first h) (LinkTook i (length bytes)) ≡ None) × (event ≡ Some (LinkTook i (length bytes))) × (owed' ≡ owed)
+    ((content first h).notices ≡ []) × (refusal (content first h) (LinkTook i (length bytes)) ≡ None)
+    × (event ≡ Some (LinkTook i (length bytes))) × (owed' ≡ owed)
 Stands first h owed (WasLate i) event owed' = (event ≡ None) × (owed' ≡ owed)
 Stands first h owed (WriteBroke i) event owed' =
-    (refusal (content first h) (LinkLost i) ≡ None) × (event ≡ Some (LinkLost i)) × (owed ≡ None) × (owed' ≡ Some i)
+    ((content first h).notices ≡ []) × (refusal (content first h) (LinkLost i) ≡ None) × (event ≡ Some (LinkLost i))
+    × (owed ≡ None) × (owed' ≡ Some i)
 -- Only the link that has to be closed is closed.
 Stands first h owed (WasClosed i) event owed' = (event ≡ None) × (owed ≡ Some i) × (owed' ≡ None)
 -- The notice that is handed over is the oldest that waits, and is handed out.

@@ -76,7 +76,7 @@ fn go_on<W: MonWorld>(
     unreachable!()
 }
 
-/// Writes what waits, hands over the notices, and handles the next event, unless the machine has to be halted. Returns
+/// Hands over the notices, writes what waits, and handles the next event, unless the machine has to be halted. Returns
 /// whether the loop continues.
 fn round<W: MonWorld>(
     monitor: &mut Monitor,
@@ -90,11 +90,11 @@ fn round<W: MonWorld>(
     ensures told { result ≡ Ok false → monitor.new.content.notices ≡ [] }
     ensures ended { result ≡ Ok false → (is_halted (phase_of monitor.new.content) ≡ true) ⊎ W.has_ended world.new }
 {
-    // A lost link may let queries be put on other links, so after a failed write all links are settled again.
+    tell_all(monitor, world)?;
+    // A lost link brings a notice, and may let queries be put on other links. So after a failed write all begins again.
     if !settle_links(monitor, world)? {
         return Ok(true);
     }
-    tell_all(monitor, world)?;
     turn(monitor, world, piece)
 }
 
@@ -200,9 +200,11 @@ fn lost_link(monitor: &Monitor, sender: Option<usize>) -> Option<usize>
 fn settle_links<W: MonWorld>(monitor: &mut Monitor, world: &mut W) -> Result<bool, Fault>
     ghost since: { Since W }
     requires ready { Ready W.fault_count W.did since world.old monitor.old }
+    requires told { monitor.old.content.notices ≡ [] }
     ensures goes { Goes W.fault_count W.did since world.old result world.new monitor.new }
     ensures elsewhere { OnErr result (W.failed_at_next world.new → ⊥) }
     ensures withheld { result ≡ Ok true → NothingIsWithheld (W.late world.new) monitor.new.content }
+    ensures told { result ≡ Ok true → monitor.new.content.notices ≡ [] }
 {
     let lines = monitor.lines();
     let mut i = 0;
@@ -220,10 +222,11 @@ fn settle_links<W: MonWorld>(monitor: &mut Monitor, world: &mut W) -> Result<boo
 fn flush<W: MonWorld>(monitor: &mut Monitor, world: &mut W, i: usize) -> Result<bool, Fault>
     ghost since: { Since W }
     requires ready { Ready W.fault_count W.did since world.old monitor.old }
+    requires told { monitor.old.content.notices ≡ [] }
     ensures goes { Goes W.fault_count W.did since world.old result world.new monitor.new }
     ensures elsewhere { OnErr result (W.failed_at_next world.new → ⊥) }
     ensures settled { result ≡ Ok true → IsSettled (W.late world.new) monitor.new.content.watches i }
-    ensures only { result ≡ Ok true → OnlyAt i monitor.old.content.watches monitor.new.content.watches }
+    ensures only { result ≡ Ok true → OnlyAt i monitor.old.content monitor.new.content }
     ensures late { OnOk result (StaysLate (W.late world.old) (W.late world.new)) }
 {
     while monitor.waiting(i).len() > 0 {
@@ -241,11 +244,12 @@ fn write_once<W: MonWorld>(monitor: &mut Monitor, world: &mut W, i: usize) -> Re
     ghost since: { Since W }
     requires ready { Ready W.fault_count W.did since world.old monitor.old }
     requires some { 0 < length (waiting_of i monitor.old.content.watches) }
+    requires told { monitor.old.content.notices ≡ [] }
     ensures goes { Goes W.fault_count W.did since world.old result world.new monitor.new }
     ensures elsewhere { OnErr result (W.failed_at_next world.new → ⊥) }
     ensures less { IfOk result (λ w. Less w i monitor.old.content.watches monitor.new.content.watches) }
     ensures settled { IfOk result (λ w. Settles w (W.late world.new) monitor.new.content.watches i) }
-    ensures only { IfOk result (λ w. Unbroken w i monitor.old.content.watches monitor.new.content.watches) }
+    ensures only { IfOk result (λ w. Unbroken w i monitor.old.content monitor.new.content) }
     ensures late { OnOk result (StaysLate (W.late world.old) (W.late world.new)) }
 {
     match world.write(monitor, i, monitor.waiting(i))? {

@@ -1,7 +1,7 @@
 -- What the parts of the loop need and what they leave unchanged.
 use Rattle.std.specs.Prelude.{◌≡◌, ◌≢◌, ◌+◌, ◌-◌, ◌^◌, ◌<◌, ℕ, Bool, true, List, length, Option, None, Result, OnOk, OnErr, is_ok, if◌then◌else◌}
 use Rattle.nut_conf.specs.declared.upsmon.MonConfig.{MonConfig}
-use Rattle.nut_monitor_spec.specs.Content.{Watch}
+use Rattle.nut_monitor_spec.specs.Content.{Watch, Content}
 use Rattle.nut_monitor.specs.Monitors.{MonitorValue}
 use Rattle.nut_io.specs.declared.types.Written.{Written}
 use Rattle.nut_io.specs.declared.types.Written.TheVariants.{Took, Later, Failed}
@@ -25,10 +25,11 @@ pub record Goes {W R E : Type 0} (faults : W → ℕ) (Did : MonConfig → W →
   pub counted : faults world ≡ (if is_ok result then faults before else faults before + 1)
   pub config : monitor.config ≡ since.config
 
--- There are as many links as before, and what waits on a link other than i is the same.
-pub record OnlyAt (i : ℕ) (old new : List Watch) : Type 0 where
-  pub as_many : length new ≡ length old
-  pub others : (j : ℕ) → j ≢ i → waiting_of j new ≡ waiting_of j old
+-- There are as many links as before, what waits on a link other than i is the same, and the same notices wait.
+pub record OnlyAt (i : ℕ) (old new : Content) : Type 0 where
+  pub as_many : length new.watches ≡ length old.watches
+  pub others : (j : ℕ) → j ≢ i → waiting_of j new.watches ≡ waiting_of j old.watches
+  pub notices : new.notices ≡ old.notices
 
 -- links that were late are still late
 abbrev pub StaysLate : (ℕ → Bool) → (ℕ → Bool) → Type 0
@@ -48,7 +49,7 @@ abbrev pub Settles : Written → (ℕ → Bool) → List Watch → ℕ → Type 
 Settles Later late watches i = IsSettled late watches i
 Settles written late watches i = Unit {0}
 
--- no other link changes if the write didn't fail
-abbrev pub Unbroken : Written → ℕ → List Watch → List Watch → Type 0
+-- no other link changes, and no notice comes, if the write didn't fail
+abbrev pub Unbroken : Written → ℕ → Content → Content → Type 0
 Unbroken Failed i old new = Unit {0}
 Unbroken written i old new = OnlyAt i old new

@@ -6,7 +6,7 @@ returns-then-not-branch-clause-goes g c =
     record {
       ok = c.in_ok-settle_links.ensures.goes.ok;
       err = search rules;
-      counted = c.in_ok-settle_links.ensures.goes.counted;
+      counted = c.in_ok-settle_links.ensures.goes.counted ∙ c.in_ok-tell_all.ensures.goes.counted;
       config = search rules;
     }
 
@@ -16,7 +16,7 @@ returns-clause-goes g c =
       ok = c.turn.ensures.goes.ok;
       err = c.turn.ensures.goes.err;
       counted = c.turn.ensures.goes.counted
-          ∙ ap (λ n. if is_ok c.turn.result then n else n + 1) (c.in_ok-tell_all.ensures.goes.counted ∙ c.in_ok-settle_links.ensures.goes.counted);
+          ∙ ap (λ n. if is_ok c.turn.result then n else n + 1) (c.in_ok-settle_links.ensures.goes.counted ∙ c.in_ok-tell_all.ensures.goes.counted);
       config = c.turn.ensures.goes.config;
     }
 

@@ -8,8 +8,9 @@ loop-i-preserved g c =
       same_count = search rules;
       watched = search rules;
       as_many = search rules;
-      settled = settled_to (g.W.MonWorld.late c.loop-i.world) (g.W.MonWorld.late c.flush.new.world) c.loop-i.monitor.content.watches
-          c.flush.new.monitor.content.watches c.loop-i.i (search rules) (search rules) (search rules) c.loop-i.invariant.settled;
+      settled = settled_to (g.W.MonWorld.late c.loop-i.world) (g.W.MonWorld.late c.flush.new.world) c.loop-i.monitor.content
+          c.flush.new.monitor.content c.loop-i.i (search rules) (search rules) (search rules) c.loop-i.invariant.settled;
+      quiet = search rules;
       config = search rules;
     }
 

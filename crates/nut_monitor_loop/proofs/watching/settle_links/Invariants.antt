@@ -1,4 +1,4 @@
-use Rattle.std.proofs.Common.{◌≡◌, ◌<◌, ◌-◌, ℕ, None, length}
+use Rattle.std.proofs.Common.{◌≡◌, ◌<◌, ◌-◌, ℕ, [], None, length}
 use Rattle.nut_monitor_loop.specs.Record.{IsSettled}
 use Rattle.nut_monitor_loop.specs.Watched.{Watched}
 use Rattle.nut_monitor_loop.proofs.watching.settle_links.Given as goal
@@ -13,6 +13,7 @@ invariant-loop-i g l =
       watched : Watched g.since.first (g.W.MonWorld.did g.since.config g.since.start l.world) l.monitor.content None;
       as_many : l.lines ≡ length l.monitor.content.watches;
       settled : (j : ℕ) → j < l.i → IsSettled (g.W.MonWorld.late l.world) l.monitor.content.watches j;
+      quiet : l.monitor.content.notices ≡ [];
       config : l.monitor.config ≡ g.since.config;
     }
 

@@ -9,7 +9,7 @@ use Rattle.nut_monitor_loop.proofs.watching.write_once.Goals as goal
 pub returns-in-Took-clause-goes : goal.returns-in-Took-clause-goes
 returns-in-Took-clause-goes g c =
     record {
-      ok = write_took g.since.first _ _ _ _ c.args.i c.waiting.result.now _ c.in-Took.n _ c.requires.1.0.watched c.in-Took.is
+      ok = write_took g.since.first _ _ _ _ c.args.i c.waiting.result.now _ c.in-Took.n _ c.requires.1.0.watched c.requires.1.1.1 c.in-Took.is
           (follows g.W.MonWorld.did g.met.W.MonWorld.did_on g.since _ _ _ _ c.requires.1.0.config c.in_ok-n.ensures.ok) c.in_ok-n.ensures.within c.waiting.ensures.value c.step.ensures.answered
           (ap (λ (m : MonitorValue). m.content) c.step.ensures.content);
       err = search rules;
@@ -41,8 +41,8 @@ pub returns-in_ok-close-in-Failed-clause-goes : goal.returns-in_ok-close-in-Fail
 returns-in_ok-close-in-Failed-clause-goes g c =
     record {
       ok = closed g.since.first _ _ _ c.args.i
-          (write_broke g.since.first _ _ _ _ c.args.i c.waiting.result.now _ _ c.requires.1.0.watched c.in-Failed.is
-          (follows g.W.MonWorld.did g.met.W.MonWorld.did_on g.since _ _ _ _ c.requires.1.0.config c.in_ok-n.ensures.ok) c.requires.1.1 c.step-in-Failed.ensures.answered
+          (write_broke g.since.first _ _ _ _ c.args.i c.waiting.result.now _ _ c.requires.1.0.watched c.requires.1.1.1 c.in-Failed.is
+          (follows g.W.MonWorld.did g.met.W.MonWorld.did_on g.since _ _ _ _ c.requires.1.0.config c.in_ok-n.ensures.ok) c.requires.1.1.0 c.step-in-Failed.ensures.answered
           (ap (λ (m : MonitorValue). m.content) c.step-in-Failed.ensures.content))
           (follows g.W.MonWorld.did g.met.W.MonWorld.did_on g.since _ _ _ _ (ap (λ (m : MonitorValue). m.config) c.step-in-Failed.ensures.content ∙ c.requires.1.0.config) c.in_ok-close-in-Failed.ensures.ok);
       err = search rules;
@@ -56,8 +56,8 @@ returns-in_err-close-in-Failed-clause-goes g c =
       ok = search rules;
       err = at_err _ g.since.first _ _ _
           (stays g.since.first _ _ _ _ (follows g.W.MonWorld.did g.met.W.MonWorld.did_on g.since _ _ _ _ (ap (λ (m : MonitorValue). m.config) c.step-in-Failed.ensures.content ∙ c.requires.1.0.config) c.in_err-close-in-Failed.ensures.err)
-          (write_broke g.since.first _ _ _ _ c.args.i c.waiting.result.now _ _ c.requires.1.0.watched c.in-Failed.is
-          (follows g.W.MonWorld.did g.met.W.MonWorld.did_on g.since _ _ _ _ c.requires.1.0.config c.in_ok-n.ensures.ok) c.requires.1.1 c.step-in-Failed.ensures.answered
+          (write_broke g.since.first _ _ _ _ c.args.i c.waiting.result.now _ _ c.requires.1.0.watched c.requires.1.1.1 c.in-Failed.is
+          (follows g.W.MonWorld.did g.met.W.MonWorld.did_on g.since _ _ _ _ c.requires.1.0.config c.in_ok-n.ensures.ok) c.requires.1.1.0 c.step-in-Failed.ensures.answered
           (ap (λ (m : MonitorValue). m.content) c.step-in-Failed.ensures.content)));
       counted = search rules;
       config = search rules;
