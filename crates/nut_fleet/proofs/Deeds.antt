@@ -9,7 +9,7 @@ use Rattle.nut_server_spec.specs.Event as arrivals
 use Rattle.nut_server_spec.specs.Acceptance as server_tests
 use Rattle.nut_monitor_spec.specs.Event as events
 use Rattle.nut_monitor_spec.specs.Acceptance as monitor_tests
-use Rattle.nut_fleet.specs.Schedule.{Step, ServerClock, MonitorClock, Up, Driver, Down, Link, Out, Reach, Back, Land, CutServer, CutMonitor, Call, Accept, Other}
+use Rattle.nut_fleet.specs.Schedule.{Step, ServerClock, MonitorClock, Up, Driver, Down, Link, Out, Reach, Back, Land, CutServer, CutMonitor, Call, Accept, Write, Other}
 use Rattle.nut_fleet.specs.World.{Setup, World, Deed, Skip, Tell, Inform, Join, Renew, Meet, served, known, is_open, is_linked, to_server, to_monitor, server_waits, monitor_waits, tell, inform, carried, counted, moved, address_of, has_link, is_fit, is_other, is_unknown, deed, deed_of, heeded, kept_from, may_tell, after}
 
 -- a step that is played if a test holds
@@ -88,6 +88,7 @@ module _ (setup : Setup) (w : World) (P : World → Type 0) (same : P w) (on_tel
       if-played P setup w (w.connection m i == 0 && is_unknown setup w c) (Meet m i c) same
       (λ ok. let parts = and_parts (w.connection m i == 0) (is_unknown setup w c) ok in
       on_meet m i c (or-false (has_link setup m i) fits) (eqb-true (w.connection m i) 0 parts.0) parts.1)
+  by (Write m i n) fits = heard m (events.LinkTook i n)
   by (Other e) fits = if-played P setup w (may_tell setup w (heeded setup.server e)) (tell setup w (heeded setup.server e)) same (λ may. told (heeded setup.server e) (fair setup w e may))
 
   pub each-deed-open : (step : Step) → P (after setup w (deed setup w step))

@@ -1,0 +1,5 @@
+pub mod Calls
+pub mod Joining
+pub mod Recorded
+pub mod Laws
+pub mod Worked

@@ -1,0 +1,3 @@
+pub mod Running
+pub mod Rooms
+pub mod examples
