@@ -189,7 +189,8 @@ impl Parts {
         }
     }
 
-    /// Takes one arrival, as a server does.
+    /// Takes one arrival, as a server does. It stands in its callers, most of which know the kind of the arrival.
+    #[inline(always)]
     fn step(&mut self, arrival: Arrival<'_>) -> Result<(), Refused>
         ensures answered { Answers self.old (event_of arrival.entry) result }
         ensures content { self.new ≡ content_after result self.old (event_of arrival.entry) }
@@ -237,6 +238,7 @@ impl Server {
     /// # Errors
     ///
     /// Those of `arrive`.
+    #[inline(always)]
     pub fn step(&mut self, arrival: Arrival<'_>) -> Result<(), Refused>
         ensures answered { Answers self.old (event_of arrival.entry) result }
         ensures content { self.new ≡ content_after result self.old (event_of arrival.entry) }
@@ -271,6 +273,7 @@ impl Server {
     /// `Memory` if memory cannot be allocated for a line of a piece. The lines before it stay done, and the connection
     /// is closed, or the driver counts as disconnected. Also if memory cannot be allocated for the UPSes of a reload:
     /// then nothing changes.
+    #[inline(always)]
     pub fn arrive(&mut self, arrival: Arrival<'_>) -> Result<(), Refused>
         // The result is that of the first test that fails. Only if none fails may it be `Memory`.
         ensures answered { (first : Configuration) (h : List Event) → Tells first h self.old
