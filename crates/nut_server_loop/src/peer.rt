@@ -14,6 +14,7 @@ use nut_server::{Arrival, Server};
 
 impl Peer {
     /// Returns a front part of what waits for the peer. It is empty only if nothing waits.
+    #[inline(always)]
     pub fn waiting(self, server: &Server) -> &[u8]
         ensures { IsFrontPart result.now (waits_of self server.now) }
     {
@@ -24,6 +25,7 @@ impl Peer {
     }
 
     /// Returns how many bytes wait for the peer.
+    #[inline(always)]
     pub(crate) fn waits(self, server: &Server) -> usize
         ensures { result ≡ length (waits_of self server.now) }
     {
@@ -34,6 +36,7 @@ impl Peer {
     }
 
     /// Returns the arrival that stands for bytes that the peer took.
+    #[inline(always)]
     pub fn took(self, n: usize) -> Arrival<'static>
         ensures { event_of result ≡ took self n }
     {
@@ -54,6 +57,7 @@ impl Peer {
     }
 
     /// Offers at least one byte to the peer, and returns the outcome.
+    #[inline(always)]
     pub(crate) fn write<W: World>(self, world: &mut W, bytes: &[u8]) -> Result<Written, Fault>
         requires few { W.fault_count world.old < 2 ^ 64 - 1 }
         requires some { 0 < length bytes.now }

@@ -48,6 +48,7 @@ pub(crate) fn settle<W: World>(server: &mut Server, world: &mut W, c: u64) -> Re
 }
 
 /// Writes to a peer until all that waits for it is written or the world accepts no more.
+#[inline(always)]
 fn flush<W: World>(server: &mut Server, world: &mut W, peer: Peer) -> Result<(), Fault>
     ghost since: { Since W }
     requires ready { Ready W.fault_count W.log W.reached since world.old server.old [] }
@@ -61,6 +62,7 @@ fn flush<W: World>(server: &mut Server, world: &mut W, peer: Peer) -> Result<(),
 
 /// Writes to a peer once, if anything waits for it, and passes the outcome to the server. Returns whether another write may
 /// follow.
+#[inline(always)]
 fn write_once<W: World>(server: &mut Server, world: &mut W, peer: Peer) -> Result<bool, Fault>
     ghost since: { Since W }
     requires ready { Ready W.fault_count W.log W.reached since world.old server.old [] }
