@@ -138,9 +138,7 @@ pub fn next_query(
     if let Some(query) = opening(line, last) {
         return Some(query);
     }
-    let Some(query) = wanted(phase, is_primary(line), forced) else {
-        return None;
-    };
+    let query = wanted(phase, is_primary(line), forced)?;
     if is_early(config, clock, query, last) {
         return None;
     }
