@@ -32,7 +32,7 @@ OPAQUE = {("nut_play", "Room", "HasPlayed")}
 # The beginning of a law's comment; laws of the values of constants, which the last section has, don't count.
 STATES = re.compile(r"/// States (a law|laws) and(?!.* values? of the limits? )")
 # The crates each of whose laws has to be in a section or above.
-CRATES_OF_LAWS = ("nut_server_spec", "nut_monitor_spec", "nut_conf", "nut_client", "nut_dummy", "nut_fleet", "nut_running", "nut_in_time", "nut_play")
+CRATES_OF_LAWS = "nut_server_spec nut_monitor_spec nut_conf nut_client nut_dummy nut_fleet nut_running nut_in_time nut_play nut_server_loop".split()
 
 HEAD = """# What has to be believed
 

@@ -2,24 +2,23 @@
 use Rattle.std.proofs.Common.{◌≡◌, ℕ, List, [], ◌∷◌, ◌++◌, Option, Some, None, unwrap_or, Result, Ok, Err, refl, sym, ◌∙◌, ap, subst, true, false}
 use Rattle.std.specs.Prelude.{IfSome, option_map, is_err}
 use Rattle.std.proofs.lemmas.Bool.{true≢false}
-use Rattle.nut_server_spec.specs.declared.Place.{Place}
 use Rattle.nut_server_spec.specs.declared.Place.TheVariants.{NewUpses}
 use Rattle.nut_server_spec.specs.declared.Refused.{Refused}
 use Rattle.nut_server_spec.specs.declared.Refused.TheVariants.{Memory}
 use Rattle.nut_server_spec.specs.Configuration.{Configuration}
 use Rattle.nut_server_spec.specs.Event.{Event}
 use Rattle.nut_server_spec.specs.Event as event
-use Rattle.nut_server_spec.specs.Content.{Content}
+use Rattle.nut_server_spec.specs.Content.{Content, content}
 use Rattle.nut_server_spec.specs.Acceptance.{Tells}
 use Rattle.nut_server_spec.specs.Outcome.{IsRefusal, after_refusal}
 use Rattle.nut_server_spec.specs.Reloading.{drivers_ended, connections_ended}
 use Rattle.nut_server.specs.declared.arrival.Arrival.{Arrival}
 use Rattle.nut_server.specs.Arrival.{event_of}
-use Rattle.nut_server_loop.specs.Record.{Entry, Gave, tells, tells_next, tells_arrival, arrival_of, is_reload, LeadsTo}
+use Rattle.nut_server_loop.specs.Record.{Entry, Gave, tells, tells_next, tells_arrival, arrival_of, is_reload, late_in, NothingIsWithheld, LeadsTo}
 use Rattle.nut_server_loop.specs.declared.types.Next.{Next}
 use Rattle.nut_server_loop.specs.declared.types.Next.TheVariants as next
-use Rattle.nut_server_loop.specs.Served.{Served, ServedBefore, to_close, ended_by, ended_by_event, ended_by_refusal, history_of, taken, sent_to}
-use Rattle.nut_server_loop.specs.inside.Going.{ended_by_lack, listed}
+use Rattle.nut_server_loop.specs.Served.{Served, entries_of, to_close, ended_by, ended_by_event, ended_by_refusal, history_of, taken, sent_to}
+use Rattle.nut_server_loop.specs.inside.Going.{Offered, OfferedBefore, ended_by_lack, listed}
 use Rattle.nut_server_loop.specs.declared.types.Peer.{Peer}
 use Rattle.nut_server_loop.specs.declared.types.Peer.TheVariants.{Connection}
 use Rattle.nut_server_loop.proofs.Steps.{Answered, Leads, goes_on, stays}
@@ -47,33 +46,40 @@ takes_none e p given = refl
 
 -- ---- an arrival came and was answered
 
+offered_by : (first : Configuration) (o : Option (List Entry)) (s : Content) (ready : Offered first o s) → NothingIsWithheld (late_in (entries_of ready.served.steps)) (content first (history_of ready.served.steps))
+offered_by first o s ready = subst (λ t. NothingIsWithheld (late_in (entries_of ready.served.steps)) t) ready.served.holds.1 ready.offered
+
 gave_event : {U : Type 0} (first : Configuration) (o o' : Option (List Entry)) (s s' : Content) (e : Event) (r : Result U Refused)
-    → Served first o s [] → o' ≡ tells (Gave e) o → IsGiven e → Answered s e r → Leads s e r s' → Served first o' s' (ended_by s e r)
-gave_event first o o' s s' e (Ok u) served more given answer leads =
+    → Offered first o s → o' ≡ tells (Gave e) o → IsGiven e → Answered s e r → Leads s e r s' → Served first o' s' (ended_by s e r)
+gave_event first o o' s s' e (Ok u) ready more given answer leads =
+    let served = ready.served in
     let h = history_of served.steps in
     let holds = leads first h served.holds in
-    goes_on first o o' s s' [] (ended_by_event s e) (Gave e) served (e ∷ []) more
-    (Ok tt, refl, answer first h served.holds, refl, ap (λ x. ended_by_event x e) served.holds.1)
+    (goes_on first o o' (λ p. false) s s' [] (ended_by_event s e) (Gave e) served (e ∷ []) more
+    (Ok tt, offered_by first o s ready, refl, answer first h served.holds, refl, ap (λ x. ended_by_event x e) served.holds.1)
     holds
     (λ p. sent_on first h e p (taken first p served.steps) (takes_none e p given) holds.0 (served.sent_is p))
-gave_event first o o' s s' e (Err r) served more given answer leads =
+    (λ p is. is)).served
+gave_event first o o' s s' e (Err r) ready more given answer leads =
+    let served = ready.served in
     let h : List Event = history_of served.steps in
     let joins : after_refusal r e [] ++ h ≡ after_refusal r e h = (refusal_leaves first h (Connection 0) [] r e).joins in
-    goes_on first o o' s s' [] (ended_by_refusal r) (Gave e) served (after_refusal r e []) more
-    (Err r, refl, answer first h served.holds, joins, refl)
+    (goes_on first o o' (λ p. false) s s' [] (ended_by_refusal r) (Gave e) served (after_refusal r e []) more
+    (Err r, offered_by first o s ready, refl, answer first h served.holds, joins, refl)
     (subst (λ g. Tells first g s') (sym joins) (leads first h served.holds))
     (λ p.
     (refusal_leaves first h p (taken first p served.steps) r e).stays ∙ served.sent_is p ∙ sym (sent_to-refused first h p r e served.holds.0)
     ∙ ap (λ g. sent_to first p g) (sym joins))
+    (λ p is. is)).served
 
 -- What `next` gave was told to the server as the arrival that it stands for.
 gave : {U : Type 0} (first : Configuration) (o o' : Option (List Entry)) (s s' : Content) (n : Next) (items : List ℕ) (found : Option Arrival) (arrival : Arrival) (r : Result U Refused)
-    → Served first o s [] → o' ≡ tells_next n items o → option_map event_of found ≡ arrival_of n items → found ≡ Some arrival
+    → Offered first o s → o' ≡ tells_next n items o → option_map event_of found ≡ arrival_of n items → found ≡ Some arrival
     → Answered s (event_of arrival) r → Leads s (event_of arrival) r s' → Served first o' s' (ended_by s (event_of arrival) r)
-gave first o o' s s' n items found arrival r served more stands is answer leads =
+gave first o o' s s' n items found arrival r ready more stands is answer leads =
     let e : Event = event_of arrival in
     let same : arrival_of n items ≡ Some e = sym stands ∙ ap (λ a. option_map event_of a) is in
-    gave_event first o o' s s' e r served (more ∙ ap (λ a. tells_arrival a o) same) (given_next n items e same) answer leads
+    gave_event first o o' s s' e r ready (more ∙ ap (λ a. tells_arrival a o) same) (given_next n items e same) answer leads
 
 -- The event ends nothing if it is accepted, whatever the server's content.
 abbrev EndsNothing : Event → Type 0
@@ -90,7 +96,7 @@ ended_without s e (Err r) plain = refl
 
 -- What `next` gave was told to the server, and the answer is known to have ended this.
 pub gave_ending : {U : Type 0} (first : Configuration) (o' : Option (List Entry)) (s s' : Content) (n : Next) (items : List ℕ) (found : Option Arrival) (arrival : Arrival) (r : Result U Refused) (lack known : Option Peer)
-    → ServedBefore first o' s n items → option_map event_of found ≡ arrival_of n items → found ≡ Some arrival → is_reload n ≡ false
+    → OfferedBefore first o' s n items → option_map event_of found ≡ arrival_of n items → found ≡ Some arrival → is_reload n ≡ false
     → Answered s (event_of arrival) r → Leads s (event_of arrival) r s' → ended_by_lack r ≡ listed lack → lack ≡ known → Served first o' s' (listed known)
 gave_ending first o' s s' n items found arrival r lack known before stands is plain answer leads ended same =
     let e : Event = event_of arrival in
@@ -106,13 +112,13 @@ refused_reload first h k (Memory place) is = absurd is.1
 refused_reload first h k r is = cc
 
 reloaded : {U : Type 0} (first : Configuration) (o' : Option (List Entry)) (s s' : Content) (n : Next) (items : List ℕ) (k : Configuration) (r : Result U Refused)
-    → ServedBefore first o' s n items → arrival_of n items ≡ Some (event.Reload k) → Answered s (event.Reload k) r → Leads s (event.Reload k) r s' → Served first o' s' (ended_by s (event.Reload k) r)
+    → OfferedBefore first o' s n items → arrival_of n items ≡ Some (event.Reload k) → Answered s (event.Reload k) r → Leads s (event.Reload k) r s' → Served first o' s' (ended_by s (event.Reload k) r)
 reloaded first o' s s' n items k r before is answer leads =
     gave_event first before.0 o' s s' (event.Reload k) r before.1 (before.2 ∙ ap (λ a. tells_arrival a before.0) is) tt answer leads
 
 -- The server took a new configuration, and this is left to close.
 pub reload_taken : (first : Configuration) (o' : Option (List Entry)) (s s' : Content) (n : Next) (items : List ℕ) (k : Configuration) (r : Result (Unit {0}) Refused) (drivers connections : List ℕ)
-    → ServedBefore first o' s n items → arrival_of n items ≡ Some (event.Reload k) → Answered s (event.Reload k) r → Leads s (event.Reload k) r s'
+    → OfferedBefore first o' s n items → arrival_of n items ≡ Some (event.Reload k) → Answered s (event.Reload k) r → Leads s (event.Reload k) r s'
     → is_err r ≡ false → drivers ≡ drivers_ended k s → connections ≡ connections_ended k s → Served first o' s' (to_close drivers connections)
 reload_taken first o' s s' n items k (Ok u) drivers connections before is answer leads fine same_drivers same_connections =
     subst (λ ds. Served first o' s' (to_close ds connections)) (sym same_drivers)
@@ -123,22 +129,18 @@ reload_taken first o' s s' n items k (Err r) drivers connections before is answe
 
 -- The server had no memory for it: nothing is left to close.
 pub reload_refused : (first : Configuration) (o' : Option (List Entry)) (s s' : Content) (n : Next) (items : List ℕ) (k : Configuration) (r : Result (Unit {0}) Refused)
-    → ServedBefore first o' s n items → arrival_of n items ≡ Some (event.Reload k) → Answered s (event.Reload k) r → Leads s (event.Reload k) r s'
+    → OfferedBefore first o' s n items → arrival_of n items ≡ Some (event.Reload k) → Answered s (event.Reload k) r → Leads s (event.Reload k) r s'
     → is_err r ≡ true → Served first o' s' []
 reload_refused first o' s s' n items k (Ok u) before is answer leads failed = absurd (true≢false (sym failed))
 reload_refused first o' s s' n items k (Err r) before is answer leads failed =
-    subst (λ w. Served first o' s' w) (refused_reload first (history_of before.1.steps) k r (answer first (history_of before.1.steps) before.1.holds))
+    subst (λ w. Served first o' s' w) (refused_reload first (history_of before.1.served.steps) k r (answer first (history_of before.1.served.steps) before.1.served.holds))
     (reloaded {U = Unit {0}} first o' s s' n items k (Err r) before is answer leads)
-
--- What the world gave, before the server is told.
-pub given : (first : Configuration) (o o' : Option (List Entry)) (s : Content) (n : Next) (items : List ℕ) → Served first o s [] → o' ≡ tells_next n items o → ServedBefore first o' s n items
-given first o o' s n items served more = (o, served, more)
 
 -- It gave no arrival.
 pub gave_none : (first : Configuration) (o' : Option (List Entry)) (s : Content) (n : Next) (items : List ℕ) (found : Option Arrival)
-    → ServedBefore first o' s n items → option_map event_of found ≡ arrival_of n items → found ≡ None → Served first o' s []
+    → OfferedBefore first o' s n items → option_map event_of found ≡ arrival_of n items → found ≡ None → Served first o' s []
 gave_none first o' s n items found before stands is =
-    stays first before.0 o' s [] (before.2 ∙ ap (λ a. tells_arrival a before.0) (sym stands ∙ ap (λ a. option_map event_of a) is)) before.1
+    stays first before.0 o' s [] (before.2 ∙ ap (λ a. tells_arrival a before.0) (sym stands ∙ ap (λ a. option_map event_of a) is)) before.1.served
 
 -- ---- the answer to an arrival
 

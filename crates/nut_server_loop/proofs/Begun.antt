@@ -4,7 +4,7 @@ use Rattle.nut_server_spec.specs.declared.Place.TheVariants.{Line, Report}
 use Rattle.nut_server_spec.specs.declared.Refused.{Refused}
 use Rattle.nut_server_spec.specs.declared.Refused.TheVariants.{Memory}
 use Rattle.nut_server_spec.specs.Configuration.{Configuration}
-use Rattle.nut_server_spec.specs.Event.{Event, Moment, Bytes, Took, DriverBytes, DriverTook, DriverUp, Reload}
+use Rattle.nut_server_spec.specs.Event.{Event, Bytes, Took, DriverBytes, DriverTook, DriverUp}
 use Rattle.nut_server_spec.specs.Trace.{driver_sent, driver_waits}
 use Rattle.nut_server_spec.specs.Content.{past}
 use Rattle.nut_server_spec.specs.Acceptance.{IsAccepted}

@@ -5,3 +5,5 @@ pub mod Peers
 pub mod Arrivals
 pub mod Settles
 pub mod Noted
+pub mod Rounds
+pub mod Starts

@@ -18,7 +18,7 @@ use Rattle.nut_server_spec.proofs.Others.{advance-other_driver, advance-driver_t
 use Rattle.nut_io.specs.declared.types.Written.{Written}
 use Rattle.nut_io.specs.declared.types.Written.TheVariants.{Took, Later, Failed}
 use Rattle.nut_server_loop.specs.Record.{is_peer, late_after, waits_of, leaves_at}
-use Rattle.nut_server_loop.specs.Served.{took, failed, closed, sent_to}
+use Rattle.nut_server_loop.specs.Served.{took, failed, sent_to}
 use Rattle.nut_server_loop.specs.declared.types.Peer.{Peer}
 use Rattle.nut_server_loop.specs.declared.types.Peer.TheVariants.{Connection, Driver}
 use Rattle.nut_server_loop.proofs.Begun.{taken_in}
@@ -80,7 +80,7 @@ waits_up false all some = absurd (omega arith)
 abbrev IsUp : Option Supply → Type 0
 IsUp o = (d : Supply) → o ≡ Some d → 0 < length d.device.waits → d.device.connected ≡ true
 
-up_here : (first : Configuration) (h : List Event) (u : ℕ) → IsUp (supply_of u (content first h).supplies)
+pub up_here : (first : Configuration) (h : List Event) (u : ℕ) → IsUp (supply_of u (content first h).supplies)
 up_here first h u d found some =
     let same = supply_is first h u d found in
     ap (λ d. d.device.connected) same

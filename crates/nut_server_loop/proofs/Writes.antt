@@ -1,5 +1,6 @@
 -- What a write to a peer, and closing it, do to `Served`.
-use Rattle.std.proofs.Common.{◌≡◌, ℕ, ◌+◌, ◌<◌, ◌≤◌, true, List, [], ◌∷◌, ◌++◌, length, get_or, take, drop, Option, Some, None, Result, Ok, Err, OnOk, if◌then◌else◌, refl, sym, ◌∙◌, ap, subst, inl, inr, arith}
+use Rattle.std.proofs.Common.{◌≡◌, ℕ, ◌+◌, ◌<◌, ◌≤◌, Bool, true, false, List, [], ◌∷◌, ◌++◌, length, get_or, take, drop, Option, None, Result, Ok, Err, OnOk, if◌then◌else◌, refl, sym, ◌∙◌, ap, subst, inl, inr, arith}
+use Rattle.std.specs.Prelude.{◌||◌}
 use Rattle.std.proofs.lemmas.Bool.{cases_Bool}
 use Rattle.std.proofs.lemmas.List.{length-take-le, at_drop_more}
 use Rattle.nut_queue.specs.Front.{IsFrontPart}
@@ -12,8 +13,9 @@ use Rattle.nut_server_spec.specs.Acceptance.{refusal, IsAccepted, Tells, session
 use Rattle.nut_io.specs.Writes.{IsWithin}
 use Rattle.nut_io.specs.declared.types.Written.{Written}
 use Rattle.nut_io.specs.declared.types.Written.TheVariants.{Took, Later, Failed}
-use Rattle.nut_server_loop.specs.Record.{Entry, TookBytes, WasLate, WriteBroke, WasClosed, tells, tells_write, is_peer, waits_of}
-use Rattle.nut_server_loop.specs.Served.{Served, history_of, since_begun, taken, took, failed, sent_to}
+use Rattle.nut_server_loop.specs.Record.{Entry, TookBytes, WasLate, WriteBroke, WasClosed, tells, tells_write, is_peer, late_after, late_in, waits_of}
+use Rattle.nut_server_loop.specs.Served.{entries_of, history_of, since_begun, taken, took, failed, sent_to}
+use Rattle.nut_server_loop.specs.inside.Going.{Serving}
 use Rattle.nut_server_loop.specs.declared.types.Peer.{Peer}
 use Rattle.nut_server_loop.specs.declared.types.Peer.TheVariants.{Connection}
 use Rattle.nut_server_loop.proofs.Begun.{sent_on}
@@ -45,19 +47,23 @@ more_taken first h s p q bytes before holds free accepted front same =
     kept p = refl
 
 -- Bytes were taken, the first of those that waited.
-took_bytes : (first : Configuration) (o o' : Option (List Entry)) (s s' : Content) (p : Peer) (bytes : List ℕ) → (served : Served first o s []) → o' ≡ tells (TookBytes p bytes) o
-    → bytes ≡ take (length bytes) (waits_of p s) → refusal s (took p (length bytes)) ≡ None → Tells first (took p (length bytes) ∷ history_of served.steps) s' → Served first o' s' []
-took_bytes first o o' s s' p bytes served more front free holds =
-    goes_on first o o' s s' [] [] (TookBytes p bytes) served (took p (length bytes) ∷ []) more
+took_bytes : (first : Configuration) (o o' : Option (List Entry)) (late late' : Peer → Bool) (s s' : Content) (p : Peer) (bytes : List ℕ) → (serving : Serving first o late s []) → o' ≡ tells (TookBytes p bytes) o
+    → ((q : Peer) → late' q ≡ late q)
+    → bytes ≡ take (length bytes) (waits_of p s) → refusal s (took p (length bytes)) ≡ None → Tells first (took p (length bytes) ∷ history_of serving.served.steps) s' → Serving first o' late' s' []
+took_bytes first o o' late late' s s' p bytes serving more still front free holds =
+    let served = serving.served in
+    goes_on first o o' late' s s' [] [] (TookBytes p bytes) served (took p (length bytes) ∷ []) more
     (subst (λ t. refusal t (took p (length bytes)) ≡ None) served.holds.1 free, refl, refl)
     holds
     (λ q. more_taken first (history_of served.steps) s p q bytes (taken first q served.steps) served.holds free holds.0 front (served.sent_is q))
+    (λ q is. serving.late_is q (sym (still q) ∙ is))
 
 -- Some of what was offered was taken.
-pub write_took : {U : Type 0} (first : Configuration) (o o' : Option (List Entry)) (s s' : Content) (p : Peer) (part : List ℕ) (w : Written) (n : ℕ) (r : Result U Refused)
-    → Served first o s [] → w ≡ Took n → o' ≡ tells_write w p part o → IsWithin w (length part) → IsFrontPart part (waits_of p s)
-    → Answered s (took p n) r → Leads s (took p n) r s' → Served first o' s' []
-write_took first o o' s s' p part w n r served is more within front answer leads =
+pub write_took : {U : Type 0} (first : Configuration) (o o' : Option (List Entry)) (late late' : Peer → Bool) (s s' : Content) (p : Peer) (part : List ℕ) (w : Written) (n : ℕ) (r : Result U Refused)
+    → Serving first o late s [] → w ≡ Took n → o' ≡ tells_write w p part o → ((q : Peer) → late' q ≡ late_after w p late q) → IsWithin w (length part) → IsFrontPart part (waits_of p s)
+    → Answered s (took p n) r → Leads s (took p n) r s' → Serving first o' late' s' []
+write_took first o o' late late' s s' p part w n r serving is more says within front answer leads =
+    let served = serving.served in
     let h : List Event = history_of served.steps in
     let inside : IsWithin (Took n) (length part) = subst (λ v. IsWithin v (length part)) is within in
     let some : 0 < n = inside.0 in
@@ -66,53 +72,70 @@ write_took first o o' s s' p part w n r served is more within front answer leads
     let len : length (take n part) ≡ n = length-take-le n part fits in
     let told : o' ≡ tells (TookBytes p (take n part)) o = more ∙ ap (λ v. tells_write v p part o) is in
     let free = may_take first h s p n served.holds some reach in
-    took_bytes first o o' s s' p (take n part) served told
+    took_bytes first o o' late late' s s' p (take n part) serving told
+    (λ q. says q ∙ ap (λ v. late_after v p late q) is)
     (take_of_front n part (waits_of p s) front fits ∙ ap (λ m. take m (waits_of p s)) (sym len))
     (subst (λ m. refusal s (took p m) ≡ None) (sym len) free)
     (subst (λ m. Tells first (took p m ∷ h) s') (sym len) (holds_on first h s s' (took p n) r served.holds free (no_memory_took p n) answer leads))
 
+either_late : (before noted is : Bool) → (before ≡ true → noted ≡ true) → (before || is) ≡ true → (noted || is) ≡ true
+either_late true noted is was now = rw (was refl) refl
+either_late false noted true was now = or_true noted where
+  or_true : (b : Bool) → (b || true) ≡ true
+  or_true true = refl
+  or_true false = refl
+either_late false noted false was now = absurd (cc)
+
 -- A write is to come later.
-pub write_late : (first : Configuration) (o o' : Option (List Entry)) (s : Content) (p : Peer) (part : List ℕ) (w : Written) → Served first o s [] → w ≡ Later → o' ≡ tells_write w p part o → Served first o' s []
-write_late first o o' s p part w served is more =
-    goes_on first o o' s s [] [] (WasLate p) served [] (more ∙ ap (λ v. tells_write v p part o) is) (refl, refl) served.holds served.sent_is
+pub write_late : (first : Configuration) (o o' : Option (List Entry)) (late late' : Peer → Bool) (s : Content) (p : Peer) (part : List ℕ) (w : Written)
+    → Serving first o late s [] → w ≡ Later → o' ≡ tells_write w p part o → ((q : Peer) → late' q ≡ late_after w p late q) → Serving first o' late' s []
+write_late first o o' late late' s p part w serving is more says =
+    goes_on first o o' late' s s [] [] (WasLate p) serving.served [] (more ∙ ap (λ v. tells_write v p part o) is) (refl, refl) serving.served.holds serving.served.sent_is
+    (λ q now. either_late (late q) (late_in (entries_of serving.served.steps) q) (is_peer q p) (serving.late_is q) (sym (says q ∙ ap (λ v. late_after v p late q) is) ∙ now))
 
 -- A write failed.
-pub write_broke : {U : Type 0} (first : Configuration) (o o' : Option (List Entry)) (s s' : Content) (p : Peer) (part : List ℕ) (w : Written) (r : Result U Refused)
-    → Served first o s [] → w ≡ Failed → o' ≡ tells_write w p part o → 0 < length (waits_of p s)
-    → Answered s (failed p) r → Leads s (failed p) r s' → Served first o' s' (p ∷ [])
-write_broke first o o' s s' p part w r served is more some answer leads =
+pub write_broke : {U : Type 0} (first : Configuration) (o o' : Option (List Entry)) (late late' : Peer → Bool) (s s' : Content) (p : Peer) (part : List ℕ) (w : Written) (r : Result U Refused)
+    → Serving first o late s [] → w ≡ Failed → o' ≡ tells_write w p part o → ((q : Peer) → late' q ≡ late_after w p late q) → 0 < length (waits_of p s)
+    → Answered s (failed p) r → Leads s (failed p) r s' → Serving first o' late' s' (p ∷ [])
+write_broke first o o' late late' s s' p part w r serving is more says some answer leads =
+    let served = serving.served in
     let h : List Event = history_of served.steps in
     let free = may_fail first h s p served.holds some in
     let holds = holds_on first h s s' (failed p) r served.holds free (no_memory_failed p) answer leads in
-    goes_on first o o' s s' [] (p ∷ []) (WriteBroke p) served (failed p ∷ []) (more ∙ ap (λ v. tells_write v p part o) is)
+    goes_on first o o' late' s s' [] (p ∷ []) (WriteBroke p) served (failed p ∷ []) (more ∙ ap (λ v. tells_write v p part o) is)
     (subst (λ t. refusal t (failed p) ≡ None) served.holds.1 free, refl, refl)
     holds
     (λ q. sent_on first h (failed p) q (taken first q served.steps) (taken_in-failed p q) holds.0 (served.sent_is q))
+    (λ q now. serving.late_is q (sym (says q ∙ ap (λ v. late_after v p late q) is) ∙ now))
 
 -- The peer that is the next to be closed is closed.
-pub closed_ended : (first : Configuration) (o o' : Option (List Entry)) (s : Content) (p : Peer) (owed : List Peer) → Served first o s (p ∷ owed) → o' ≡ tells (WasClosed p) o → Served first o' s owed
-closed_ended first o o' s p owed served more =
-    goes_on first o o' s s (p ∷ owed) owed (WasClosed p) served [] more (inl (refl, refl)) served.holds served.sent_is
+pub closed_ended : (first : Configuration) (o o' : Option (List Entry)) (late late' : Peer → Bool) (s : Content) (p : Peer) (owed : List Peer)
+    → Serving first o late s (p ∷ owed) → o' ≡ tells (WasClosed p) o → ((q : Peer) → late' q ≡ late q) → Serving first o' late' s owed
+closed_ended first o o' late late' s p owed serving more still =
+    goes_on first o o' late' s s (p ∷ owed) owed (WasClosed p) serving.served [] more (inl (refl, refl)) serving.served.holds serving.served.sent_is (λ q is. serving.late_is q (sym (still q) ∙ is))
 
-pub closes_ended : {T E : Type 0} (r : Result T E) (first : Configuration) (o o' : Option (List Entry)) (s : Content) (p : Peer) → Served first o s (p ∷ []) → OnOk r (o' ≡ tells (WasClosed p) o) → OnOk r (Served first o' s [])
-closes_ended (Ok _) first o o' s p served more = closed_ended first o o' s p [] served more
-closes_ended (Err _) first o o' s p served more = tt
+pub closes_ended : {T E : Type 0} (r : Result T E) (first : Configuration) (o o' : Option (List Entry)) (late late' : Peer → Bool) (s : Content) (p : Peer)
+    → Serving first o late s (p ∷ []) → OnOk r (o' ≡ tells (WasClosed p) o) → ((q : Peer) → late' q ≡ late q) → OnOk r (Serving first o' late' s [])
+closes_ended (Ok _) first o o' late late' s p serving more still = closed_ended first o o' late late' s p [] serving more still
+closes_ended (Err _) first o o' late late' s p serving more still = tt
 
 -- The next of a list of peers that are to be closed is closed.
-pub closed_next : (first : Configuration) (o o' : Option (List Entry)) (s : Content) (peers : List ℕ → List Peer) (p : Peer) (numbers : List ℕ) (i : ℕ) → i < length numbers
+pub closed_next : (first : Configuration) (o o' : Option (List Entry)) (late late' : Peer → Bool) (s : Content) (peers : List ℕ → List Peer) (p : Peer) (numbers : List ℕ) (i : ℕ) → i < length numbers
     → peers (get_or numbers i 0 ∷ drop (i + 1) numbers) ≡ p ∷ peers (drop (i + 1) numbers)
-    → Served first o s (peers (drop i numbers)) → o' ≡ tells (WasClosed p) o → Served first o' s (peers (drop (i + 1) numbers))
-closed_next first o o' s peers p numbers i within next served more =
-    closed_ended first o o' s p (peers (drop (i + 1) numbers)) (subst (λ owed. Served first o s owed) (at_drop_more peers numbers i 0 within ∙ next) served) more
+    → Serving first o late s (peers (drop i numbers)) → o' ≡ tells (WasClosed p) o → ((q : Peer) → late' q ≡ late q) → Serving first o' late' s (peers (drop (i + 1) numbers))
+closed_next first o o' late late' s peers p numbers i within next serving more still =
+    closed_ended first o o' late late' s p (peers (drop (i + 1) numbers)) (subst (λ owed. Serving first o late s owed) (at_drop_more peers numbers i 0 within ∙ next) serving) more still
 
 -- A connection that has logged out, and for which nothing waits, is closed.
-pub closed_left : {U : Type 0} (first : Configuration) (o o' : Option (List Entry)) (s s' : Content) (c : ℕ) (r : Result U Refused)
-    → Served first o s [] → o' ≡ tells (WasClosed (Connection c)) o → leaves (session_of c s.sessions) ≡ true
-    → Answered s (event.Close c) r → Leads s (event.Close c) r s' → Served first o' s' []
-closed_left first o o' s s' c r served more left answer leads =
+pub closed_left : {U : Type 0} (first : Configuration) (o o' : Option (List Entry)) (late late' : Peer → Bool) (s s' : Content) (c : ℕ) (r : Result U Refused)
+    → Serving first o late s [] → o' ≡ tells (WasClosed (Connection c)) o → ((q : Peer) → late' q ≡ late q) → leaves (session_of c s.sessions) ≡ true
+    → Answered s (event.Close c) r → Leads s (event.Close c) r s' → Serving first o' late' s' []
+closed_left first o o' late late' s s' c r serving more still left answer leads =
+    let served = serving.served in
     let h : List Event = history_of served.steps in
     let holds = holds_on first h s s' (event.Close c) r served.holds (may_close s c left) (no_memory_close c) answer leads in
-    goes_on first o o' s s' [] [] (WasClosed (Connection c)) served (event.Close c ∷ []) more
+    goes_on first o o' late' s s' [] [] (WasClosed (Connection c)) served (event.Close c ∷ []) more
     (inr (subst (λ (t : Content). leaves (session_of c t.sessions) ≡ true) served.holds.1 left, refl, refl))
     holds
     (λ q. sent_on first h (event.Close c) q (taken first q served.steps) refl holds.0 (served.sent_is q))
+    (λ q is. serving.late_is q (sym (still q) ∙ is))

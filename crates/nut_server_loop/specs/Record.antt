@@ -1,5 +1,5 @@
 -- The record of a world: a list of entries, the newest first.
-use Rattle.std.specs.Prelude.{◌≡◌, ◌≢◌, ◌<◌, ◌+◌, ℕ, Bool, true, false, ◌==◌, ◌||◌, List, ◌∷◌, length, take, Option, Some, None, option_map, Result, IfOk, OnErr, is_ok, if◌then◌else◌}
+use Rattle.std.specs.Prelude.{◌≡◌, ◌≢◌, ◌<◌, ◌+◌, ℕ, Bool, true, false, ◌==◌, ◌||◌, List, [], ◌∷◌, length, take, Option, Some, None, option_map, Result, IfOk, OnErr, is_ok, if◌then◌else◌}
 use Rattle.nut_server_spec.specs.Event.{Event}
 use Rattle.nut_server_spec.specs.Event as event
 use Rattle.nut_server_spec.specs.Content.{Content}
@@ -78,6 +78,13 @@ is_peer p q = false
 abbrev pub late_after : Written → Peer → (Peer → Bool) → Peer → Bool
 late_after Later p late q = late q || is_peer q p
 late_after w p late q = late q
+
+-- whether a write to this peer was to come later, by these entries, the newest first, and since the last arrival
+abbrev pub late_in : List Entry → Peer → Bool
+late_in [] q = false
+late_in (Gave e ∷ r) q = false
+late_in (WasLate p ∷ r) q = late_in r q || is_peer q p
+late_in (entry ∷ r) q = late_in r q
 
 -- What `next` leads to: the world waits for the answer to the arrival that it gave, if it gave one.
 abbrev pub LeadsTo : Option Event → Type 0 → Type 0 → Type 0

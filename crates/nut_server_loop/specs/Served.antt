@@ -1,5 +1,5 @@
 -- How the history of a server follows from the record of the world.
-use Rattle.std.specs.Prelude.{◌≡◌, ◌⊎◌, ℕ, ◌==◌, Bool, true, false, if◌then◌else◌, List, [], ◌∷◌, ◌++◌, length, map, Option, Some, None, Result, Ok, Err, IfSome}
+use Rattle.std.specs.Prelude.{◌≡◌, ◌⊎◌, ℕ, ◌==◌, Bool, true, false, if◌then◌else◌, List, [], ◌∷◌, ◌++◌, length, map, Option, None, Result, Ok, Err, IfSome}
 use Rattle.nut_server_spec.specs.declared.Refused.{Refused}
 use Rattle.nut_server_spec.specs.declared.Refused.TheVariants.{Memory}
 use Rattle.nut_server_spec.specs.declared.Place.{Place}
@@ -12,8 +12,7 @@ use Rattle.nut_server_spec.specs.Content.{Content, content, past, sent}
 use Rattle.nut_server_spec.specs.Acceptance.{refusal, Tells}
 use Rattle.nut_server_spec.specs.Outcome.{IsAnswer, after}
 use Rattle.nut_server_spec.specs.Reloading.{drivers_ended, connections_ended}
-use Rattle.nut_server_loop.specs.Record.{Entry, Gave, TookBytes, WasLate, WriteBroke, WasClosed, tells_next, is_peer, leaves_at}
-use Rattle.nut_server_loop.specs.declared.types.Next.{Next}
+use Rattle.nut_server_loop.specs.Record.{Entry, Gave, TookBytes, WasLate, WriteBroke, WasClosed, is_peer, late_in, NothingIsWithheld, leaves_at}
 use Rattle.nut_server_loop.specs.declared.types.Peer.{Peer}
 use Rattle.nut_server_loop.specs.declared.types.Peer.TheVariants.{Connection, Driver}
 
@@ -55,25 +54,25 @@ abbrev pub closed : Peer → Event
 closed (Connection c) = Close c
 closed (Driver u) = DriverDown u
 
--- The server was made with `first`. Before the entry it has the events h, and the world still has to close what
--- `owed` lists; after the entry these are h' and owed'.
-abbrev pub Stands : Configuration → List Event → List Peer → Entry → List Event → List Peer → Type 0
--- An arrival comes only when nothing is left to close. The history continues by the server's answer: with the arrival;
--- without it if it is refused; or, if memory ran out in a piece, with the lines that were done and the end of the
--- connection or the driver. This has then to be closed, and so has what a reload ended.
-Stands first h owed (Gave e) h' owed' =
-    (answer : Result (Unit {0}) Refused) × (owed ≡ []) × IsAnswer first h e answer × (h' ≡ after answer e h) ×
-    (owed' ≡ ended_by (content first h) e answer)
+-- The server was made with `first`. Before the entry it has the events h, writes to those who are late are to come later,
+-- and the world still has to close what `owed` lists. After the entry the events are h', and owed' has to be closed.
+abbrev pub Stands : Configuration → List Event → (Peer → Bool) → List Peer → Entry → List Event → List Peer → Type 0
+-- An arrival comes only when all that waits was offered and nothing is left to close. The history continues by the
+-- server's answer: with the arrival; without it if it is refused; or, if memory ran out in a piece, with the lines that
+-- were done and the end of the connection or the driver. This has then to be closed, and so has what a reload ended.
+Stands first h late owed (Gave e) h' owed' =
+    (answer : Result (Unit {0}) Refused) × NothingIsWithheld late (content first h) × (owed ≡ []) × IsAnswer first h e answer ×
+    (h' ≡ after answer e h) × (owed' ≡ ended_by (content first h) e answer)
 -- Bytes that were taken are an event. A write that is to come later is none. A failed write is one, and its peer has then
 -- to be closed.
-Stands first h owed (TookBytes p bytes) h' owed' =
+Stands first h late owed (TookBytes p bytes) h' owed' =
     (refusal (content first h) (took p (length bytes)) ≡ None) × (h' ≡ took p (length bytes) ∷ h) × (owed' ≡ owed)
-Stands first h owed (WasLate p) h' owed' = (h' ≡ h) × (owed' ≡ owed)
-Stands first h owed (WriteBroke p) h' owed' =
+Stands first h late owed (WasLate p) h' owed' = (h' ≡ h) × (owed' ≡ owed)
+Stands first h late owed (WriteBroke p) h' owed' =
     (refusal (content first h) (failed p) ≡ None) × (h' ≡ failed p ∷ h) × (owed' ≡ p ∷ owed)
 -- The world closes the peer that is the next to be closed, or a connection that has logged out and for which nothing
 -- waits, and no other.
-Stands first h owed (WasClosed p) h' owed' =
+Stands first h late owed (WasClosed p) h' owed' =
     ((owed ≡ p ∷ owed') × (h' ≡ h)) ⊎ ((leaves_at p (content first h) ≡ true) × (h' ≡ closed p ∷ h) × (owed' ≡ owed))
 
 -- An entry of the world's record, and the events of the server's history that stand for it, the newest first.
@@ -92,7 +91,8 @@ history_of (step ∷ steps) = step.events ++ history_of steps
 abbrev pub Told : Configuration → List Step → List Peer → Type 0
 Told first [] owed = owed ≡ []
 Told first (step ∷ steps) owed =
-    (before : List Peer) × Told first steps before × Stands first (history_of steps) before step.entry (history_of (step ∷ steps)) owed
+    (before : List Peer) × Told first steps before ×
+    Stands first (history_of steps) (late_in (entries_of steps)) before step.entry (history_of (step ∷ steps)) owed
 
 -- whether an event after the history h begins a peer anew: it connects the driver of u, or clears u
 abbrev pub begins_anew : Configuration → List Event → Event → Peer → Bool
@@ -129,7 +129,3 @@ pub record Served (first : Configuration) (log : Option (List Entry)) (s : Conte
   pub told : Told first steps owed
   pub holds : Tells first (history_of steps) s
   pub sent_is : (p : Peer) → taken first p steps ≡ sent_to first p (history_of steps)
-
--- `Served` held, with nothing to close, before the world gave this, with these bytes in the piece.
-abbrev pub ServedBefore : Configuration → Option (List Entry) → Content → Next → List ℕ → Type 0
-ServedBefore first log s n piece = (before : Option (List Entry)) × Served first before s [] × (log ≡ tells_next n piece before)

@@ -2,6 +2,7 @@
 //! memory and one over standard streams.
 #![tactic(auto)]
 
+mod laws;
 mod memory;
 mod peer;
 mod replay;
@@ -11,6 +12,7 @@ mod streams;
 mod types;
 mod world;
 
+pub use laws::answers_are_offered;
 pub use memory::MemoryWorld;
 pub use replay::serve_memory;
 pub use serving::serve;

@@ -6,8 +6,8 @@ ghost use Rattle.nut_server_spec.specs.Content.{Content, content};
 ghost use Rattle.nut_server.specs.Arrival.{event_of};
 ghost use Rattle.nut_server_loop.specs.Record.{is_reload, LeadsTo, NothingIsWithheld, NobodyLeaves};
 ghost use Rattle.nut_server_loop.specs.Record as entry;
-ghost use Rattle.nut_server_loop.specs.inside.Going.{Since, Ready, Goes, ended_by_lack, listed};
-ghost use Rattle.nut_server_loop.specs.Served.{to_close, Served, ServedBefore};
+ghost use Rattle.nut_server_loop.specs.inside.Going.{Since, Offered, OfferedBefore, Ready, Goes, ended_by_lack, listed};
+ghost use Rattle.nut_server_loop.specs.Served.{to_close, Served};
 ghost use Rattle.nut_server_loop.specs.declared.types.Peer.{Peer};
 
 use crate::settling::{settle, settle_all};
@@ -45,47 +45,38 @@ pub fn serve<W: World>(rt: &impl Wait, server: &mut Server, world: &mut W) -> Re
     go_on(rt, server, world)
 }
 
-/// Serves until the world ends, from any point of a history at which nothing is left to close.
+/// Serves until the world ends, from any point of a history at which all that waits was offered and nobody is to be closed.
 fn go_on<W: World>(rt: &impl Wait, server: &mut Server, world: &mut W) -> Result<(), ServeFault>
     ghost since: { Since W }
-    requires ready { Ready W.fault_count W.log W.reached since world.old server.old [] }
-    ensures goes { Goes W.fault_count W.log W.reached since world.old result world.new server.new }
+    requires few { W.fault_count world.old < 2 ^ 64 - 1 }
+    requires offered { Offered since.first (W.log world.old) server.old }
+    requires reached { W.reached since.start world.old }
+    requires withheld { NothingIsWithheld (W.late world.old) server.old }
+    requires left { NobodyLeaves server.old }
+    ensures goes { Goes W.fault_count W.log W.late W.reached since world.old result world.new server.new }
     ensures left { OnOk result (NobodyLeaves server.new) }
     ensures ended { OnOk result (W.has_ended world.new server.new) }
 {
     let mut piece = Piece::new();
     for _ in rt.forever() {
-        if !settle_and_turn(server, world, &mut piece)? {
+        if !turn(server, world, &mut piece)? {
             return Ok(());
         }
+        settle_all(server, world)?;
     }
     unreachable!()
-}
-
-/// Settles all connections and drivers, then takes the next arrival. Returns false at the end of the world.
-fn settle_and_turn<W: World>(
-    server: &mut Server,
-    world: &mut W,
-    piece: &mut Piece,
-) -> Result<bool, Fault>
-    ghost since: { Since W }
-    requires ready { Ready W.fault_count W.log W.reached since world.old server.old [] }
-    ensures goes { Goes W.fault_count W.log W.reached since world.old result world.new server.new }
-    ensures left { result ≡ Ok false → NobodyLeaves server.new }
-    ensures ended { result ≡ Ok false → W.has_ended world.new server.new }
-{
-    settle_all(server, world)?;
-    turn(server, world, piece)
 }
 
 /// Asks for the next arrival, passes it to the server, and closes what that ended. Returns false at the end of
 /// the world.
 fn turn<W: World>(server: &mut Server, world: &mut W, piece: &mut Piece) -> Result<bool, Fault>
     ghost since: { Since W }
-    requires ready { Ready W.fault_count W.log W.reached since world.old server.old [] }
+    requires few { W.fault_count world.old < 2 ^ 64 - 1 }
+    requires offered { Offered since.first (W.log world.old) server.old }
+    requires reached { W.reached since.start world.old }
     requires withheld { NothingIsWithheld (W.late world.old) server.old }
     requires left { NobodyLeaves server.old }
-    ensures goes { Goes W.fault_count W.log W.reached since world.old result world.new server.new }
+    ensures goes { Goes W.fault_count W.log W.late W.reached since world.old result world.new server.new }
     ensures left { result ≡ Ok false → NobodyLeaves server.new }
     ensures ended { result ≡ Ok false → W.has_ended world.new server.new }
 {
@@ -106,9 +97,10 @@ fn turn<W: World>(server: &mut Server, world: &mut W, piece: &mut Piece) -> Resu
 /// configuration that it has, and all stays open.
 fn reload<W: World>(server: &mut Server, world: &mut W, config: Box<Config>) -> Result<(), Fault>
     requires few { W.fault_count world.old < 2 ^ 64 - 1 }
-    ensures goes { (since : Since W) → ServedBefore since.first (W.log world.old) server.old (Next.Reload config) []
+    requires none_late { (p : Peer) → W.late world.old p ≡ false }
+    ensures goes { (since : Since W) → OfferedBefore since.first (W.log world.old) server.old (Next.Reload config) []
         → W.awaits since.start world.old
-        → Goes W.fault_count W.log W.reached since world.old result world.new server.new }
+        → Goes W.fault_count W.log W.late W.reached since world.old result world.new server.new }
 {
     let ended = server.ended_by(&config);
     let reloaded = server.arrive(Arrival::Reload(config));
@@ -125,8 +117,8 @@ fn reload<W: World>(server: &mut Server, world: &mut W, config: Box<Config>) -> 
 fn close_ended<W: World>(world: &mut W, ended: &nut_server::Ended) -> Result<(), Fault>
     requires few { W.fault_count world.old < 2 ^ 64 - 1 }
     ensures goes { (since : Since W) (s : Content)
-        → Ready W.fault_count W.log W.reached since world.old s (to_close ended.now.drivers.items ended.now.connections.items)
-        → Goes W.fault_count W.log W.reached since world.old result world.new s }
+        → Ready W.fault_count W.log W.late W.reached since world.old s (to_close ended.now.drivers.items ended.now.connections.items)
+        → Goes W.fault_count W.log W.late W.reached since world.old result world.new s }
 {
     for u in ended.drivers.as_slice() {
         world.close_driver(*u)?;
@@ -148,9 +140,10 @@ fn hand_on<W: World>(
     ghost first: { Configuration }
     requires few { W.fault_count world.old < 2 ^ 64 - 1 }
     requires plain { is_reload next.now ≡ false }
-    requires served { ServedBefore first (W.log world.old) server.old next.now piece.now.items }
+    requires none_late { (p : Peer) → W.late world.old p ≡ false }
+    requires served { OfferedBefore first (W.log world.old) server.old next.now piece.now.items }
     ensures goes { (start : W) → LeadsTo (entry.arrival_of next.now piece.now.items) (W.awaits start world.old) (W.reached start world.old)
-        → Goes W.fault_count W.log W.reached (record { first = first; start = start }) world.old result world.new server.new }
+        → Goes W.fault_count W.log W.late W.reached (record { first = first; start = start }) world.old result world.new server.new }
 {
     let Some(arrival) = arrival_of(next, piece) else {
         return Ok(());
@@ -166,8 +159,8 @@ fn hand_on<W: World>(
 /// Settles the connection whose bytes were handled. In most cases no other is unsettled, which saves a search.
 fn settle_heard<W: World>(server: &mut Server, world: &mut W, next: &Next) -> Result<(), Fault>
     ghost since: { Since W }
-    requires ready { Ready W.fault_count W.log W.reached since world.old server.old [] }
-    ensures goes { Goes W.fault_count W.log W.reached since world.old result world.new server.new }
+    requires ready { Ready W.fault_count W.log W.late W.reached since world.old server.old [] }
+    ensures goes { Goes W.fault_count W.log W.late W.reached since world.old result world.new server.new }
 {
     match next {
         Next::Bytes(c) => settle(server, world, *c),

@@ -12,8 +12,8 @@ use nut_server::{Arrival, Server};
 /// Writes all that waits, as far as the world takes it, and closes each connection that is to be closed.
 pub(crate) fn settle_all<W: World>(server: &mut Server, world: &mut W) -> Result<(), Fault>
     ghost since: { Since W }
-    requires ready { Ready W.fault_count W.log W.reached since world.old server.old [] }
-    ensures goes { Goes W.fault_count W.log W.reached since world.old result world.new server.new }
+    requires ready { Ready W.fault_count W.log W.late W.reached since world.old server.old [] }
+    ensures goes { Goes W.fault_count W.log W.late W.reached since world.old result world.new server.new }
     ensures withheld { OnOk result (NothingIsWithheld (W.late world.new) server.new) }
     ensures left { OnOk result (NobodyLeaves server.new) }
 {
@@ -33,8 +33,8 @@ pub(crate) fn settle_all<W: World>(server: &mut Server, world: &mut W) -> Result
 /// Writes to a connection what waits for it, as far as the world takes it, and closes it if it is to be closed.
 pub(crate) fn settle<W: World>(server: &mut Server, world: &mut W, c: u64) -> Result<(), Fault>
     ghost since: { Since W }
-    requires ready { Ready W.fault_count W.log W.reached since world.old server.old [] }
-    ensures goes { Goes W.fault_count W.log W.reached since world.old result world.new server.new }
+    requires ready { Ready W.fault_count W.log W.late W.reached since world.old server.old [] }
+    ensures goes { Goes W.fault_count W.log W.late W.reached since world.old result world.new server.new }
     ensures settled { OnOk result (IsSettled (W.late world.new) server.new (Connection c)) }
     ensures left { OnOk result (leaves_at (Connection c) server.new ≡ false) }
     ensures only { OnOk result (OnlyAt (Connection c) (W.late world.old) (W.late world.new) server.old server.new) }
@@ -51,8 +51,8 @@ pub(crate) fn settle<W: World>(server: &mut Server, world: &mut W, c: u64) -> Re
 #[inline(always)]
 fn flush<W: World>(server: &mut Server, world: &mut W, peer: Peer) -> Result<(), Fault>
     ghost since: { Since W }
-    requires ready { Ready W.fault_count W.log W.reached since world.old server.old [] }
-    ensures goes { Goes W.fault_count W.log W.reached since world.old result world.new server.new }
+    requires ready { Ready W.fault_count W.log W.late W.reached since world.old server.old [] }
+    ensures goes { Goes W.fault_count W.log W.late W.reached since world.old result world.new server.new }
     ensures settled { OnOk result (IsSettled (W.late world.new) server.new peer) }
     ensures only { OnOk result (OnlyAt peer (W.late world.old) (W.late world.new) server.old server.new) }
 {
@@ -65,8 +65,8 @@ fn flush<W: World>(server: &mut Server, world: &mut W, peer: Peer) -> Result<(),
 #[inline(always)]
 fn write_once<W: World>(server: &mut Server, world: &mut W, peer: Peer) -> Result<bool, Fault>
     ghost since: { Since W }
-    requires ready { Ready W.fault_count W.log W.reached since world.old server.old [] }
-    ensures goes { Goes W.fault_count W.log W.reached since world.old result world.new server.new }
+    requires ready { Ready W.fault_count W.log W.late W.reached since world.old server.old [] }
+    ensures goes { Goes W.fault_count W.log W.late W.reached since world.old result world.new server.new }
     ensures less { result ≡ Ok true → length (waits_of peer server.new) < length (waits_of peer server.old) }
     ensures settled { result ≡ Ok false → IsSettled (W.late world.new) server.new peer }
     ensures only { OnOk result (OnlyAt peer (W.late world.old) (W.late world.new) server.old server.new) }

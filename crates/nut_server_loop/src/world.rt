@@ -70,6 +70,7 @@ pub trait World {
     fn told(&mut self, server: &Server, answer: &Result<(), Refused>)
         ensures log { log self.new ≡ log self.old }
         ensures counted { fault_count self.new ≡ fault_count self.old }
+        ensures late { (p : Peer) → late self.new p ≡ late self.old p }
         ensures reached { (w : Self) → awaits w self.old → reached w self.new };
 
     /// Offers at least one byte to connection `c`, and returns the outcome.

@@ -1,4 +1,4 @@
-use Rattle.nut_server_loop.proofs.Settles.{only_none, only_twice}
+use Rattle.nut_server_loop.proofs.Settles.{only_twice}
 use Rattle.nut_server_loop.proofs.settling.flush.Goals as goal
 
 pub returns-clause-only : goal.returns-clause-only

@@ -1,7 +1,6 @@
 use Rattle.std.proofs.Common.{◌≡◌, [], length}
 use Rattle.nut_server_loop.specs.Record.{waits_of}
-use Rattle.nut_server_loop.specs.Served.{Served}
-use Rattle.nut_server_loop.specs.inside.Going.{OnlyAt}
+use Rattle.nut_server_loop.specs.inside.Going.{Serving, OnlyAt}
 use Rattle.nut_server_loop.proofs.settling.flush.Given as goal
 
 abbrev pub ghost-write_once : goal.ghost-write_once
@@ -11,7 +10,7 @@ abbrev pub invariant-loop : goal.invariant-loop
 invariant-loop g l =
     record {
       same_count : g.W.World.fault_count l.world ≡ g.W.World.fault_count l.fn.world;
-      served : Served g.since.first (g.W.World.log l.world) l.server [];
+      served : Serving g.since.first (g.W.World.log l.world) (g.W.World.late l.world) l.server [];
       reached : g.W.World.reached g.since.start l.world;
       only : OnlyAt l.peer (g.W.World.late l.fn.world) (g.W.World.late l.world) l.fn.server l.server;
     }

@@ -1,6 +1,6 @@
 use Rattle.std.proofs.Common.{◌≡◌, ◌<◌, ◌-◌, ◌^◌, ℕ, [], false}
 use Rattle.nut_server_loop.specs.Record.{IsSettled, NobodyLeaves, leaves_at}
-use Rattle.nut_server_loop.specs.Served.{Served}
+use Rattle.nut_server_loop.specs.inside.Going.{Serving}
 use Rattle.nut_server_loop.specs.declared.types.Peer.TheVariants.{Connection, Driver}
 use Rattle.nut_server_loop.proofs.settling.settle_all.Given as goal
 
@@ -14,7 +14,7 @@ abbrev pub invariant-loop-c : goal.invariant-loop-c
 invariant-loop-c g l =
     record {
       same_count : g.W.World.fault_count l.world ≡ g.W.World.fault_count l.fn.world;
-      served : Served g.since.first (g.W.World.log l.world) l.server [];
+      served : Serving g.since.first (g.W.World.log l.world) (g.W.World.late l.world) l.server [];
       reached : g.W.World.reached g.since.start l.world;
       settled : (d : ℕ) → d < l.«from» → IsSettled (g.W.World.late l.world) l.server (Connection d);
       left : (d : ℕ) → d < l.«from» → leaves_at (Connection d) l.server ≡ false;
@@ -27,7 +27,7 @@ abbrev pub invariant-loop-u : goal.invariant-loop-u
 invariant-loop-u g l =
     record {
       same_count : g.W.World.fault_count l.world ≡ g.W.World.fault_count l.fn.world;
-      served : Served g.since.first (g.W.World.log l.world) l.server [];
+      served : Serving g.since.first (g.W.World.log l.world) (g.W.World.late l.world) l.server [];
       reached : g.W.World.reached g.since.start l.world;
       settled : (d : ℕ) → IsSettled (g.W.World.late l.world) l.server (Connection d);
       left : NobodyLeaves l.server;
