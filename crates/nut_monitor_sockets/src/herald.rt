@@ -1,6 +1,6 @@
 //! Where a monitor's notices go.
 
-ghost use Rattle.std.specs.Prelude.{List, [], ◌∷◌, ◌++◌};
+ghost use Rattle.std.specs.Prelude.{◌≡◌, true, List, [], ◌∷◌, ◌++◌};
 ghost use Rattle.nut_conf.specs.declared.upsmon.MonConfig.{MonConfig};
 ghost use Rattle.nut_monitor_spec.specs.declared.Notice.{Notice};
 
@@ -12,6 +12,9 @@ pub trait Herald: Drop {
     /// oldest first, are those that it receives by them.
     ghost told: { MonConfig → Self → Self → List Notice → Type 0 };
 
+    /// It wants the watch to end.
+    ghost wants_end: { Self → Type 0 };
+
     /// Receives a notice of this monitor.
     fn announce(&mut self, monitor: &Monitor, notice: Notice)
         ensures { told monitor.now.config self.old self.new (notice ∷ []) };
@@ -20,7 +23,8 @@ pub trait Herald: Drop {
     /// was started for a notice may have ended. Returns whether the watch is to end: then this monitor is told nothing
     /// more.
     fn second(&mut self, monitor: &Monitor) -> bool
-        ensures { told monitor.now.config self.old self.new [] };
+        ensures told { told monitor.now.config self.old self.new [] }
+        ensures end { result ≡ true → wants_end self.new };
 
     /// Without a call none is received.
     ghost told_self: { (config : MonConfig) (h : Self) → told config h h [] };

@@ -1,6 +1,6 @@
 //! The world of a monitor over sockets.
 
-ghost use Rattle.std.specs.Prelude.{◌≡◌, ◌<◌, ℕ, [], ◌∷◌, length, refl, IsOk, IfOk, OnOk, OnErr};
+ghost use Rattle.std.specs.Prelude.{◌≡◌, ◌<◌, ℕ, [], ◌∷◌, ◌+◌, ◌-◌, ◌^◌, length, refl, IsOk, is_ok, if◌then◌else◌, IfOk, OnOk, OnErr};
 ghost use Rattle.nut_io.specs.Writes.{IsWithin, late_after};
 ghost use Rattle.nut_monitor_loop.specs.Record.{written_by};
 ghost use Rattle.nut_monitor_loop.specs.Watched.{handed};
@@ -41,8 +41,8 @@ use std::time::Clock;
 ///
 /// Notices go to a herald. In the first seconds of the world, while the machine may be booting, it isn't told that a UPS is
 /// lost which had no status yet. The herald is also told that a second has passed: once for several missed seconds that
-/// follow one another at once. The world ends when the herald says so, and may then begin anew for another monitor. Only `next`
-/// returns a fault, that of the wait for the sockets or of the clock: a failure of one link concerns no other. The
+/// follow one another at once. The world ends when the herald says so, and may then begin anew for another monitor. Of the calls of
+/// `watch` only `next` returns a fault, that of the wait for the sockets or of the clock: a failure of one link concerns no other. The
 /// world keeps no record.
 pub struct MioMonWorld<'r, 'e, R: Processes, H> {
     links: Links,
@@ -52,7 +52,6 @@ pub struct MioMonWorld<'r, 'e, R: Processes, H> {
     held_losses: HeldLosses,
     late: ArrayVec<u64, MONITORS_MAX>,
     faults: u64,
-    has_ended: bool,
 }
 
 // A derived drop would be proved again in each crate that drops a value, with those of its parts.
@@ -65,7 +64,6 @@ impl<'r, 'e, R: Processes, H: Drop> Drop for MioMonWorld<'r, 'e, R, H> {
             held_losses: _held_losses,
             late: _late,
             faults: _,
-            has_ended: _,
         } = self;
     }
 }
@@ -97,7 +95,6 @@ impl<'r, 'e, R: Net + Clock + Processes, H: Herald> MioMonWorld<'r, 'e, R, H> {
             held_losses: HeldLosses::new(),
             late: ArrayVec::new(),
             faults: 0,
-            has_ended: false,
         })
     }
 
@@ -106,22 +103,25 @@ impl<'r, 'e, R: Net + Clock + Processes, H: Herald> MioMonWorld<'r, 'e, R, H> {
     ///
     /// # Errors
     ///
-    /// If there is no clock. Nothing has changed then.
-    pub fn begin(&mut self, links: NewLinks) -> io::Result<()>
-        ensures faults { OnOk result (self.new.faults ≡ 0) }
+    /// If there is no clock. The fault is counted then, and nothing else has changed.
+    pub fn begin(&mut self, links: NewLinks) -> Result<(), Fault>
+        requires few { self.old.faults < 2 ^ 64 - 1 }
+        ensures counted { self.new.faults ≡ (if is_ok result then self.old.faults else self.old.faults + 1) }
         ensures herald { self.new.herald ≡ self.old.herald }
     {
-        self.links.begin(&mut self.services, links)?;
+        if self.links.begin(&mut self.services, links).is_err() {
+            self.faults += 1;
+            return Err(Fault);
+        }
         self.held_losses.clear();
         self.late.clear();
-        self.faults = 0;
-        self.has_ended = false;
         Ok(())
     }
 
     /// Closes all links, and ends the look-ups: nothing more is watched. Nothing is reported.
     pub fn leave(&mut self)
-        ensures { self.new.herald ≡ self.old.herald }
+        ensures herald { self.new.herald ≡ self.old.herald }
+        ensures faults { self.new.faults ≡ self.old.faults }
     {
         self.links.leave(&mut self.services.look_ups);
     }
@@ -138,7 +138,9 @@ impl<'r, 'e, R: Net + Clock + Processes, H: Herald> MonWorld for MioMonWorld<'r,
 
     ghost fault_count = { λ w. w.faults };
 
-    ghost has_ended = { λ w. w.has_ended ≡ true };
+    ghost failed_at_next = { λ w. Unit {0} };
+
+    ghost has_ended = { λ w. H.wants_end w.herald };
 
     ghost did_self = { λ config w. ([], H.told_self config w.herald, refl) };
 
@@ -159,13 +161,11 @@ impl<'r, 'e, R: Net + Clock + Processes, H: Herald> MonWorld for MioMonWorld<'r,
             Ok(Next::Moment(moment)) => {
                 if self.links.has_moved_on() {
                     self.held_losses.second(&mut self.herald, monitor);
-                    self.has_ended = self.herald.second(monitor);
+                    if self.herald.second(monitor) {
+                        return Ok(Next::End);
+                    }
                 }
-                Ok(if self.has_ended {
-                    Next::End
-                } else {
-                    Next::Moment(moment)
-                })
+                Ok(Next::Moment(moment))
             }
             Ok(next) => Ok(next),
             Err(_) => {
@@ -184,6 +184,7 @@ impl<'r, 'e, R: Net + Clock + Processes, H: Herald> MonWorld for MioMonWorld<'r,
     fn write(&mut self, _monitor: &Monitor, i: usize, bytes: &[u8]) -> Result<Written, Fault>
         requires { 0 < length bytes.now }
         ensures no_fault { IsOk result }
+        ensures elsewhere { OnErr result (Unit {0} → ⊥) }
         ensures count { self.new.faults ≡ self.old.faults }
         ensures ok { IfOk result (λ w. HandsOn (H.told _monitor.now.config self.old.herald self.new.herald)
             (handed (written_by w i bytes.now ∷ []))) }
@@ -198,6 +199,7 @@ impl<'r, 'e, R: Net + Clock + Processes, H: Herald> MonWorld for MioMonWorld<'r,
 
     fn close(&mut self, _monitor: &Monitor, i: usize) -> Result<(), Fault>
         ensures no_fault { IsOk result }
+        ensures elsewhere { OnErr result (Unit {0} → ⊥) }
         ensures count { self.new.faults ≡ self.old.faults }
         ensures ok { OnOk result (HandsOn (H.told _monitor.now.config self.old.herald self.new.herald) []) }
         ensures err { OnErr result (HandsOn (H.told _monitor.now.config self.old.herald self.new.herald) []) }
@@ -209,6 +211,7 @@ impl<'r, 'e, R: Net + Clock + Processes, H: Herald> MonWorld for MioMonWorld<'r,
 
     fn notice(&mut self, monitor: &Monitor, notice: Notice) -> Result<(), Fault>
         ensures no_fault { IsOk result }
+        ensures elsewhere { OnErr result (Unit {0} → ⊥) }
         ensures count { self.new.faults ≡ self.old.faults }
         ensures ok { OnOk result (HandsOn (H.told monitor.now.config self.old.herald self.new.herald) (notice ∷ [])) }
         ensures err { OnErr result (HandsOn (H.told monitor.now.config self.old.herald self.new.herald) []) }

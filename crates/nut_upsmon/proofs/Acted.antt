@@ -6,34 +6,38 @@ use Rattle.nut_conf.specs.declared.notice.NoticeFlags.{NoticeFlags}
 use Rattle.nut_conf.specs.Upsmon.{flags_of}
 use Rattle.nut_monitor.specs.Texts.{text_of}
 use Rattle.nut_monitor_spec.specs.declared.Notice.{Notice}
-use Rattle.nut_monitor_spec.specs.declared.Phase.TheVariants.{Halted}
 use Rattle.nut_upsmon.specs.declared.beginning.Beginning.{Beginning}
-use Rattle.nut_upsmon.specs.Acts.{Act, ClearedFlag, Readied, Changed, Printed, Called, TriedFlag, RanShutdown, ClearsFirst, IsQuiet, readied, does, printed, called, is_to_call, is_to_print, told_by, told, IsHalted, Says}
+use Rattle.nut_upsmon.specs.Acts.{Act, ClearedFlag, Readied, Changed, Printed, Called, TriedFlag, RanShutdown, ClearsFirst, IsQuiet, halt_of, readied, does, printed, called, is_to_call, is_to_print, told_by, told, IsHalted}
 use Rattle.nut_upsmon.specs.inside.Ready.{IsReady}
 
 -- one more act
 pub clears_first : (act : Act) (acts : List Act) → ClearsFirst acts → ClearsFirst (act ∷ acts)
 clears_first act acts is = (is.0, act ∷ is.1, ap (λ l. act ∷ l) is.2)
 
+-- what is done before the first watch
+pub begun : (log log' : Option (List Act)) (config : MonConfig) → IfSome log (λ acts. acts ≡ ClearedFlag (halt_of config).flag ∷ [])
+    → log' ≡ does Changed (does (Readied (halt_of config)) log)
+    → IfSome log' (λ acts. acts ≡ Changed ∷ Readied (halt_of config) ∷ ClearedFlag (halt_of config).flag ∷ [])
+begun None log' config cleared readied =
+    subst (λ o. IfSome o (λ acts. acts ≡ Changed ∷ Readied (halt_of config) ∷ ClearedFlag (halt_of config).flag ∷ [])) (sym readied) tt
+begun (Some acts) log' config cleared readied =
+    subst (λ o. IfSome o (λ acts. acts ≡ Changed ∷ Readied (halt_of config) ∷ ClearedFlag (halt_of config).flag ∷ [])) (sym readied)
+    (ap (λ l. Changed ∷ Readied (halt_of config) ∷ l) cleared)
+
 -- after the first acts this configuration is in force
-pub ready_first : (log log' : Option (List Act)) (next : Option Beginning) (config : MonConfig) → IfSome log (λ acts. acts ≡ ClearedFlag config ∷ []) → next ≡ None
-    → log' ≡ does Changed (does (Readied config) log) → IsReady log' next config
-ready_first None log' next config blank none same = subst (λ o. IsReady o next config) (sym same) tt
-ready_first (Some acts) log' next config blank none same =
-    subst (λ o. IsReady o next config) (sym same)
-    (subst (λ n. IsReady (Some (Changed ∷ Readied config ∷ acts)) n config) (sym none) (
-      subst (λ l. AllByRecursion IsQuiet (Changed ∷ Readied config ∷ l)) (sym blank) (tt, (tt, (tt, tt))),
-      refl,
-      tt,
-      (config, Changed ∷ [], ap (λ l. Changed ∷ Readied config ∷ l) blank),
-    ))
+pub ready_first : (log : Option (List Act)) (next : Option Beginning) (config : MonConfig)
+    → IfSome log (λ acts. acts ≡ Changed ∷ Readied (halt_of config) ∷ ClearedFlag (halt_of config).flag ∷ []) → next ≡ None → IsReady log next config
+ready_first None next config begun none = tt
+ready_first (Some acts) next config begun none =
+    subst (λ n. IsReady (Some acts) n config) (sym none)
+    (subst (λ l. IsReady (Some l) None config) (sym begun) ((tt, (tt, (tt, tt))), refl, tt, (halt_of config, Changed ∷ [], refl)))
 
 -- that of the next watch was readied
-pub ready_next : (log log' : Option (List Act)) (next : Option Beginning) (b : Beginning) (config : MonConfig) → log' ≡ does (Readied b.monitor.config) log
+pub ready_next : (log log' : Option (List Act)) (next : Option Beginning) (b : Beginning) (config : MonConfig) → log' ≡ does (Readied (halt_of b.monitor.config)) log
     → IsReady log next config → IsReady log' (Some b) config
 ready_next None log' next b config same ready = subst (λ o. IsReady o (Some b) config) (sym same) tt
 ready_next (Some acts) log' next b config same ready =
-    subst (λ o. IsReady o (Some b) config) (sym same) ((tt, ready.0), ready.1, refl, clears_first (Readied b.monitor.config) acts ready.3)
+    subst (λ o. IsReady o (Some b) config) (sym same) ((tt, ready.0), ready.1, refl, clears_first (Readied (halt_of b.monitor.config)) acts ready.3)
 
 -- and is in force
 pub ready_changed : (log log' : Option (List Act)) (next next' : Option Beginning) (b : Beginning) (config : MonConfig) → next ≡ Some b → next' ≡ None → log' ≡ does Changed log
@@ -42,17 +46,17 @@ ready_changed None log' next next' b config some none same ready = subst (λ o. 
 ready_changed (Some acts) log' next next' b config some none same ready =
     subst (λ o. IsReady o next' b.monitor.config) (sym same)
     (subst (λ n. IsReady (Some (Changed ∷ acts)) n b.monitor.config) (sym none)
-    ((tt, ready.0), subst (λ (n : Option Beginning). IfSome n (λ b. readied acts ≡ Some b.monitor.config)) some ready.2, tt, clears_first Changed acts ready.3))
+    ((tt, ready.0), subst (λ (n : Option Beginning). IfSome n (λ b. readied acts ≡ Some (halt_of b.monitor.config))) some ready.2, tt, clears_first Changed acts ready.3))
 
 -- the halt of the configuration in force
 pub halted : (log log' : Option (List Act)) (next : Option Beginning) (config : MonConfig) (flag : Bool)
-    → IsReady log next config → Says config (Halted flag) → log' ≡ does RanShutdown (if flag then does TriedFlag log else log) → IfSome log' IsHalted
-halted None log' next config true ready says same = subst (λ o. IfSome o IsHalted) (sym same) tt
-halted None log' next config false ready says same = subst (λ o. IfSome o IsHalted) (sym same) tt
-halted (Some acts) log' next config true ready says same =
-    subst (λ o. IfSome o IsHalted) (sym same) (record { config = config; flag = true; before = acts; done = refl; quiet = ready.0; first = ready.3; force = ready.1; says = says })
-halted (Some acts) log' next config false ready says same =
-    subst (λ o. IfSome o IsHalted) (sym same) (record { config = config; flag = false; before = acts; done = refl; quiet = ready.0; first = ready.3; force = ready.1; says = says })
+    → IsReady log next config → log' ≡ does RanShutdown (if flag then does TriedFlag log else log) → IfSome log' (IsHalted config flag)
+halted None log' next config true ready same = subst (λ o. IfSome o (IsHalted config true)) (sym same) tt
+halted None log' next config false ready same = subst (λ o. IfSome o (IsHalted config false)) (sym same) tt
+halted (Some acts) log' next config true ready same =
+    subst (λ o. IfSome o (IsHalted config true)) (sym same) (record { before = acts; done = refl; quiet = ready.0; first = ready.3; force = ready.1 })
+halted (Some acts) log' next config false ready same =
+    subst (λ o. IfSome o (IsHalted config false)) (sym same) (record { before = acts; done = refl; quiet = ready.0; first = ready.3; force = ready.1 })
 
 -- ---- a notice
 

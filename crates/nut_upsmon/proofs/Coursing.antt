@@ -1,84 +1,170 @@
--- What upsmon told over a whole run, watch by watch.
-use Rattle.std.proofs.Common.{◌≡◌, Bool, List, [], ◌∷◌, ◌++◌, Option, Some, None, IfSome, sym, ◌∙◌, ap, append-nil, subst, refl}
+-- What upsmon did over a whole run, watch by watch.
+use Rattle.std.proofs.Common.{◌≡◌, ℕ, Bool, true, false, List, [], ◌∷◌, ◌++◌, Option, Some, None, Result, Ok, Err, IfSome, IfOk, OnOk, OnErr, if◌then◌else◌, sym, ◌∙◌, ap, append-nil, subst, refl}
 use Rattle.std.specs.Prelude.{option_map}
+use Rattle.std.specs.List.{AllByRecursion}
 use Rattle.nut_conf.specs.declared.upsmon.MonConfig.{MonConfig}
 use Rattle.nut_monitor_spec.specs.declared.Phase.{Phase}
 use Rattle.nut_monitor_spec.specs.declared.Phase.TheVariants.{Halted}
 use Rattle.nut_monitor_spec.specs.Configuration.{Configuration, configuration_of}
 use Rattle.nut_monitor_spec.specs.Content.{Content, phase_of}
+use Rattle.nut_monitor_spec.specs.Decision.{is_halted}
 use Rattle.nut_monitor_loop.specs.Record.{Entry}
-use Rattle.nut_monitor_loop.specs.Watched.{Watched, entries_of, handed, history_of}
+use Rattle.nut_monitor_loop.specs.Watched.{Watched, entries_of, handed}
 use Rattle.nut_monitor_sockets.specs.Handing.{HandsOn, lasting}
 use Rattle.nut_upsmon.specs.declared.beginning.Beginning.{Beginning}
-use Rattle.nut_upsmon.specs.Acts.{Act, Changed, ClearedFlag, Readied, Says, does}
-use Rattle.nut_upsmon.specs.Course.{IsCourse, IsCourseToHalt, tellings, told_all}
-use Rattle.nut_upsmon.specs.inside.Telling.{IsWhole, Tells, TellsWatch, untold_by}
+use Rattle.nut_upsmon.specs.Acts.{Act, Changed, ClearedFlag, IsQuiet, RanShutdown, Readied, TriedFlag, does}
+use Rattle.nut_upsmon.specs.Course.{EndsInFault, EndsInHalt, Ran, Watch, tellings, told_all}
+use Rattle.nut_upsmon.specs.inside.Ready.{IsReady}
+use Rattle.nut_upsmon.specs.inside.Running.{Broken, Fails, Leads, Running, Whole, watch_of}
+use Rattle.nut_upsmon.specs.inside.Telling.{Tells, untold_by, untold_halt}
+use Rattle.nut_upsmon.proofs.Acted.{halted, ready_changed}
+
+-- what holds at each error
+pub on_err : {A E X : Type 0} (result : Result A E) → X → OnErr result X
+on_err (Ok a) x = tt
+on_err (Err e) x = x
 
 -- ---- a watch
 
 -- what the loop says at its end
-pub whole : (first : Configuration) (config : MonConfig) (Did : List Entry → Type 0) (s : Content) (phase : Phase) → first ≡ configuration_of config
-    → Watched first Did s None → s.notices ≡ [] → phase ≡ phase_of s → IsWhole config Did phase
-whole first config Did s phase same watched told says =
+whole_at : (first : Configuration) (config : MonConfig) (Did : List Entry → Type 0) (s : Content) (phase : Phase) → first ≡ configuration_of config
+    → Watched first Did s None → s.notices ≡ [] → phase ≡ phase_of s → Whole config Did phase
+whole_at first config Did s phase same watched told says =
     let P : Configuration → Type 0 = λ c. Watched c Did s None in
-    let w : Watched (configuration_of config) Did s None = subst P same watched in (
-      history_of w.steps,
-      entries_of w.steps,
-      w.did,
-      w.holds.0,
-      sym (append-nil (handed (entries_of w.steps))) ∙ ap (λ ns. handed (entries_of w.steps) ++ ns) (sym told) ∙ w.notices_are,
-      says ∙ ap phase_of w.holds.1,
-    )
+    let w : Watched (configuration_of config) Did s None = subst P same watched in
+    record {
+      steps = w.steps;
+      did = w.did;
+      is = (w.holds.0, (None, w.told));
+      says = sym (says ∙ ap phase_of w.holds.1);
+      handed_all = sym (append-nil (handed (entries_of w.steps))) ∙ ap (λ ns. handed (entries_of w.steps) ++ ns) (sym told) ∙ w.notices_are;
+    }
 
-pub says_whole : (config : MonConfig) (Did : List Entry → Type 0) (phase : Phase) → IsWhole config Did phase → Says config phase
-says_whole config Did phase it = (it.0, it.3, it.5)
+pub whole : {E : Type 0} (first : Configuration) (config : MonConfig) (Did : List Entry → Type 0) (s : Content) (result : Result Phase E) → first ≡ configuration_of config
+    → OnOk result (Watched first Did s None) → OnOk result (s.notices ≡ []) → IfOk result (λ phase. phase ≡ phase_of s) → IfOk result (Whole config Did)
+whole first config Did s (Ok phase) same watched told says = whole_at first config Did s phase same watched told says
+whole first config Did s (Err e) same watched told says = tt
+
+pub broken : {E : Type 0} (first : Configuration) (config : MonConfig) (Did : List Entry → Type 0) (s : Content) (result : Result Phase E) (Sure : Type 0) → first ≡ configuration_of config
+    → OnErr result ((owed : Option ℕ) × Watched first Did s owed) → OnErr result (Sure → is_halted (phase_of s) ≡ false) → OnErr result (Sure → Broken config Did)
+broken first config Did s (Ok phase) Sure same watched going = tt
+broken first config Did s (Err e) Sure same watched going = λ sure.
+    let P : Configuration → Type 0 = λ c. Watched c Did s watched.0 in
+    let w : Watched (configuration_of config) Did s watched.0 = subst P same watched.1 in
+    record {
+      steps = w.steps;
+      did = w.did;
+      is = (w.holds.0, (watched.0, w.told));
+      going = ap (λ s. is_halted (phase_of s)) (sym w.holds.1) ∙ going sure;
+    }
+
+pub some_did : {E : Type 0} (first : Configuration) (Did : List Entry → Type 0) (s : Content) (result : Result Phase E)
+    → OnOk result (Watched first Did s None) → OnErr result ((owed : Option ℕ) × Watched first Did s owed) → (entries : List Entry) × Did entries
+some_did first Did s (Ok phase) ok err = (entries_of ok.steps, ok.did)
+some_did first Did s (Err e) ok err = (entries_of err.1.steps, err.1.did)
 
 -- what was handed on was told
-pub tells_whole : (config : MonConfig) (before after : Option (List Act)) (next next' : Option Beginning) (phase : Phase)
-    → IsWhole config (λ entries. HandsOn (Tells config before next after next') (handed entries)) phase → TellsWatch phase before after
-tells_whole config before after next next' phase it = (
-  record { config = config; events = it.0; given = it.2.0 },
-  (it.3, it.2.2 ∙ ap lasting it.4),
-  it.2.1.1,
-  it.5,
-)
-
--- ---- the course
-
-pub first_course : (before after : Option (List Act)) (config : MonConfig) → IfSome before (λ acts. acts ≡ ClearedFlag config ∷ [])
-    → after ≡ does Changed (does (Readied config) before) → IsCourse after
-first_course before after config blank same =
+pub leads : {W E : Type 0} (Did : MonConfig → W → W → List Entry → Type 0) (Turns : W → W → Type 0) (acts : W → Option (List Act)) (upcoming : W → Option Beginning)
+    (config : MonConfig) (first begun last : W) (result : Result Phase E)
+    → Turns first begun → acts begun ≡ acts first
+    → ((entries : List Entry) → Did config begun last entries → HandsOn (Tells config (acts begun) (upcoming begun) (acts last) (upcoming last)) (handed entries))
+    → IfOk result (Whole config (Did config begun last)) → IfOk result (Leads Did Turns acts config first last)
+leads Did Turns acts upcoming config first begun last (Ok phase) begins same tells it =
+    let on = tells (entries_of it.steps) it.did in
     record {
-      watches = [];
-      start = option_map tellings before;
-      blank = none before blank;
-      each = tt;
-      same =
-          ap (option_map tellings) same ∙ untold_by (does (Readied config) before) Changed (λ acts. refl)
-          ∙ untold_by before (Readied config) (λ acts. refl);
+      steps = it.steps;
+      given = on.0;
+      begun = begun;
+      begins = begins;
+      did = it.did;
+      is = it.is;
+      says = it.says;
+      tells = on.2 ∙ ap lasting it.handed_all;
+      told = on.1.1 ∙ ap (λ a. told_all config on.0 (option_map tellings a)) same;
     }
-  where
-    none : (o : Option (List Act)) → IfSome o (λ acts. acts ≡ ClearedFlag config ∷ []) → IfSome (option_map tellings o) (λ acts. acts ≡ [])
-    none None is = tt
-    none (Some acts) is = ap tellings is
+leads Did Turns acts upcoming config first begun last (Err e) begins same tells it = tt
 
-pub same_course : (before after : Option (List Act)) → option_map tellings after ≡ option_map tellings before → IsCourse before → IsCourse after
-same_course before after same course =
-    record { watches = course.watches; start = course.start; blank = course.blank; each = course.each; same = same ∙ course.same }
+pub fails : {W E : Type 0} (Did : MonConfig → W → W → List Entry → Type 0) (Turns : W → W → Type 0) (config : MonConfig) (first begun last : W) (result : Result Phase E) (Sure : Type 0)
+    → Turns first begun → OnErr result (Sure → Broken config (Did config begun last)) → OnErr result (Sure → Fails Did Turns config first last)
+fails Did Turns config first begun last (Ok phase) Sure begins it = tt
+fails Did Turns config first begun last (Err e) Sure begins it = λ sure.
+    let b = it sure in record { steps = b.steps; begun = begun; begins = begins; did = b.did; is = b.is; going = b.going }
 
-pub next_course : (phase : Phase) (before after : Option (List Act)) → TellsWatch phase before after → IsCourse before → IsCourse after
-next_course phase before after told course =
+-- its links couldn't be made
+pub fails_at_once : {W : Type 0} (Did : MonConfig → W → W → List Entry → Type 0) (Turns : W → W → Type 0) (config : MonConfig) (first last : W)
+    → Turns first last → Did config last last [] → Fails Did Turns config first last
+fails_at_once Did Turns config first last begins none =
+    record { steps = []; begun = last; begins = begins; did = none; is = (tt, (None, refl)); going = refl }
+
+pub same_ready : (log log' : Option (List Act)) (next next' : Option Beginning) (config : MonConfig) → log' ≡ log → next' ≡ next → IsReady log next config → IsReady log' next' config
+same_ready log log' next next' config same also ready =
+    subst (λ l. IsReady l next' config) (sym same) (subst (λ n. IsReady log n config) (sym also) ready)
+
+-- ---- one watch after the other
+
+ran_turns : {W : Type 0} (Did : MonConfig → W → W → List Entry → Type 0) (Turns : W → W → Type 0) (on : (a b c : W) → Turns a b → Turns b c → Turns a c)
+    (watches : List Watch) (a b c : W) → Ran Did Turns watches a b → Turns b c → Ran Did Turns watches a c
+ran_turns Did Turns on [] a b c ran turns = on a b c ran turns
+ran_turns Did Turns on (w ∷ ws) a b c ran turns = (ran.0, ran.1, ran.2, ran.3, on ran.1 b c ran.4 turns)
+
+pub none_ran : {W : Type 0} (Did : MonConfig → W → W → List Entry → Type 0) (Turns : W → W → Type 0) (acts : W → Option (List Act)) (upcoming : W → Option Beginning)
+    (old : W) (config : MonConfig) → Turns old old → IsReady (acts old) (upcoming old) config → Running Did Turns acts upcoming old old config
+none_ran Did Turns acts upcoming old config self ready =
+    record { watches = []; ran = self; each = tt; going = tt; given = tt; told = refl; ready = ready }
+
+-- another watch, and then another configuration
+pub goes_on : {W : Type 0} (Did : MonConfig → W → W → List Entry → Type 0) (Turns : W → W → Type 0) (on : (a b c : W) → Turns a b → Turns b c → Turns a c)
+    (acts : W → Option (List Act)) (upcoming : W → Option Beginning) (old before ended after : W) (config : MonConfig) (b : Beginning) (phase : Phase)
+    → Running Did Turns acts upcoming old before config → Leads Did Turns acts config before ended phase
+    → (IsReady (acts before) (upcoming before) config → IsReady (acts ended) (upcoming ended) config) → is_halted phase ≡ false
+    → Turns ended after → acts after ≡ does Changed (acts ended) → upcoming ended ≡ Some b → upcoming after ≡ None
+    → Running Did Turns acts upcoming old after b.monitor.config
+goes_on Did Turns on acts upcoming old before ended after config b phase run led ready going turns changed was none =
     record {
-      watches = told.0 ∷ course.watches;
-      start = course.start;
-      blank = course.blank;
-      each = (told.1, course.each);
-      same = told.2 ∙ ap (told_all told.0.config told.0.given) course.same;
+      watches = watch_of config led.steps led.given ∷ run.watches;
+      ran = (led.begun, ended, ran_turns Did Turns on run.watches old before led.begun run.ran led.begins, led.did, turns);
+      each = (led.is, run.each);
+      going = (ap is_halted led.says ∙ going, run.going);
+      given = (led.tells, run.given);
+      told =
+          ap (option_map tellings) changed ∙ untold_by (acts ended) Changed (λ acts. refl) ∙ led.told
+          ∙ ap (told_all config led.given) run.told;
+      ready = ready_changed (acts ended) (acts after) (upcoming ended) (upcoming after) b config was none changed (ready run.ready);
     }
 
--- the last watch, and then a halt, as its monitor said
-pub last_course : (phase : Phase) (before after halted : Option (List Act)) (as_said : (flag : Bool) × (phase ≡ Halted flag))
-    → option_map tellings halted ≡ option_map tellings after → TellsWatch phase before after → IsCourse before → IsCourseToHalt halted
-unfolding same_course next_course
-last_course phase before after halted as_said same told course =
-    (same_course after halted same (next_course phase before after told course), (as_said.0, sym told.3 ∙ as_said.1))
+-- another watch, and then the halt
+pub halts : {W : Type 0} (Did : MonConfig → W → W → List Entry → Type 0) (Turns : W → W → Type 0) (on : (a b c : W) → Turns a b → Turns b c → Turns a c)
+    (acts : W → Option (List Act)) (upcoming : W → Option Beginning) (old before ended after : W) (config : MonConfig) (flag : Bool) (phase : Phase)
+    → Running Did Turns acts upcoming old before config → Leads Did Turns acts config before ended phase
+    → (IsReady (acts before) (upcoming before) config → IsReady (acts ended) (upcoming ended) config) → phase ≡ Halted flag
+    → Turns ended after → acts after ≡ does RanShutdown (if flag then does TriedFlag (acts ended) else acts ended)
+    → EndsInHalt Did Turns acts old after
+halts Did Turns on acts upcoming old before ended after config flag phase run led ready is turns done =
+    record {
+      last = watch_of config led.steps led.given;
+      earlier = run.watches;
+      flag = flag;
+      ran = (led.begun, ended, ran_turns Did Turns on run.watches old before led.begun run.ran led.begins, led.did, turns);
+      each = (led.is, run.each);
+      says = led.says ∙ is;
+      others = run.going;
+      halted = halted (acts ended) (acts after) (upcoming ended) config flag (ready run.ready) done;
+      given = (led.tells, run.given);
+      told = untold_halt (acts ended) (acts after) flag done ∙ led.told ∙ ap (told_all config led.given) run.told;
+    }
+
+-- another watch, which failed
+pub faults : {W : Type 0} (Did : MonConfig → W → W → List Entry → Type 0) (Turns : W → W → Type 0) (on : (a b c : W) → Turns a b → Turns b c → Turns a c) (self : (a : W) → Turns a a)
+    (acts : W → Option (List Act)) (upcoming : W → Option Beginning) (old before after : W) (config : MonConfig)
+    → Running Did Turns acts upcoming old before config → Fails Did Turns config before after → EndsInFault Did Turns old after
+faults Did Turns on self acts upcoming old before after config run failed =
+    record {
+      watches = watch_of config failed.steps [] ∷ run.watches;
+      ran = (failed.begun, after, ran_turns Did Turns on run.watches old before failed.begun run.ran failed.begins, failed.did, self after);
+      each = (failed.is, run.each);
+      going = (failed.going, run.going);
+    }
+
+pub quiet : (log : Option (List Act)) (next : Option Beginning) (config : MonConfig) → IsReady log next config → IfSome log (AllByRecursion IsQuiet)
+quiet None next config ready = tt
+quiet (Some acts) next config ready = ready.0

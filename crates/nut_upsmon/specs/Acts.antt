@@ -2,23 +2,30 @@
 use Rattle.std.specs.Prelude.{◌≡◌, ℕ, Bool, ◌||◌, ◌&&◌, not, List, [], ◌∷◌, ◌++◌, if◌then◌else◌, Option, Some, None, option_map}
 use Rattle.std.specs.List.{AllByRecursion}
 use Rattle.nut_conf.specs.declared.notice.NoticeFlags.{NoticeFlags}
+use Rattle.nut_conf.specs.declared.text.Text.{Text}
 use Rattle.nut_conf.specs.declared.upsmon.MonConfig.{MonConfig}
 use Rattle.nut_conf.specs.Upsmon.{flags_of}
 use Rattle.nut_monitor.specs.Texts.{text_of}
 use Rattle.nut_monitor_spec.specs.declared.Notice.{Notice}
-use Rattle.nut_monitor_spec.specs.declared.Phase.{Phase}
-use Rattle.nut_monitor_spec.specs.declared.Phase.TheVariants.{Halted}
-use Rattle.nut_monitor_spec.specs.Configuration.{configuration_of}
-use Rattle.nut_monitor_spec.specs.Event.{Event}
-use Rattle.nut_monitor_spec.specs.Content.{content, phase_of}
-use Rattle.nut_monitor_spec.specs.Acceptance.{IsAccepted}
+
+-- how a machine is halted: SHUTDOWNCMD and POWERDOWNFLAG, of those that are set
+pub record Halt : Type 0 where
+  pub command : Option (List ℕ)
+  pub flag : Option (List ℕ)
+
+abbrev pub text_in : {least most : ℕ} → Option (Text least most) → Option (List ℕ)
+text_in text = option_map (λ t. t.bytes.items) text
+
+-- how a machine of this configuration is halted
+abbrev pub halt_of : MonConfig → Halt
+halt_of config = record { command = text_in config.shutdown_cmd; flag = text_in config.power_down_flag }
 
 pub data Act : Type 0 where
-  -- it tried to remove the POWERDOWNFLAG that this configuration names, which an earlier shutdown may have left
-  ClearedFlag : (config : MonConfig) → Act
-  -- it made ready to halt by this configuration
-  Readied : (config : MonConfig) → Act
-  -- it halts by the configuration that was readied last, from now on
+  -- it tried to remove the POWERDOWNFLAG of this name, which an earlier shutdown may have left
+  ClearedFlag : (flag : Option (List ℕ)) → Act
+  -- it made ready to halt so
+  Readied : (halt : Halt) → Act
+  -- it halts as was readied last, from now on
   Changed : Act
   -- it printed this text as a line, or tried to
   Printed : (text : List ℕ) → Act
@@ -55,14 +62,14 @@ told_by flags notice text acts = called (is_to_call flags) notice text (printed 
 abbrev pub told : MonConfig → Notice → Option (List Act) → Option (List Act)
 told config notice acts = told_by (flags_of notice.kind config) notice (text_of config notice) acts
 
--- the configuration that was readied last
-abbrev pub readied : List Act → Option MonConfig
+-- the halt that was readied last
+abbrev pub readied : List Act → Option Halt
 readied [] = None
-readied (Readied config ∷ acts) = Some config
+readied (Readied halt ∷ acts) = Some halt
 readied (act ∷ acts) = readied acts
 
--- the configuration by which the machine is halted: the one that was readied when it was changed last
-abbrev pub in_force : List Act → Option MonConfig
+-- how the machine is halted: as was readied when that was changed last
+abbrev pub in_force : List Act → Option Halt
 in_force [] = None
 in_force (Changed ∷ acts) = readied acts
 in_force (act ∷ acts) = in_force acts
@@ -73,27 +80,18 @@ IsQuiet TriedFlag = ⊥
 IsQuiet RanShutdown = ⊥
 IsQuiet act = Unit {0}
 
--- A monitor of this configuration says this phase after some events.
-abbrev pub Says : MonConfig → Phase → Type 0
-Says config phase =
-    (events : List Event) × IsAccepted (configuration_of config) events × (phase ≡ phase_of (content (configuration_of config) events))
-
 -- the acts of a halt, the newest first
 abbrev pub halting : Bool → List Act
 halting flag = RanShutdown ∷ (if flag then TriedFlag ∷ [] else [])
 
--- Its first acts: it tried to remove a flag that was left, and made ready by the same configuration.
+-- Its first acts: it tried to remove the flag if that was left, and made ready to halt with it.
 abbrev pub ClearsFirst : List Act → Type 0
-ClearsFirst acts = (config : MonConfig) × (later : List Act) × (acts ≡ later ++ Readied config ∷ ClearedFlag config ∷ [])
+ClearsFirst acts = (halt : Halt) × (later : List Act) × (acts ≡ later ++ Readied halt ∷ ClearedFlag halt.flag ∷ [])
 
--- The last acts are those of a halt, and no earlier act is: the monitor of the configuration in force said that the
--- machine has to be halted, and whether POWERDOWNFLAG has to be set.
-pub record IsHalted (acts : List Act) : Type 0 where
-  pub config : MonConfig
-  pub flag : Bool
+-- The last acts are those of a halt by this configuration, which sets POWERDOWNFLAG if `flag`. No earlier act is.
+pub record IsHalted (config : MonConfig) (flag : Bool) (acts : List Act) : Type 0 where
   pub before : List Act
   pub done : acts ≡ halting flag ++ before
   pub quiet : AllByRecursion IsQuiet before
   pub first : ClearsFirst before
-  pub force : in_force before ≡ Some config
-  pub says : Says config (Halted flag)
+  pub force : in_force before ≡ Some (halt_of config)

@@ -1,16 +1,19 @@
--- What upsmon told over a whole run: the notices of one watch after the other.
-use Rattle.std.specs.Prelude.{◌≡◌, Bool, List, [], ◌∷◌, Option, IfSome, option_map}
+-- What upsmon did over a whole run: one watch after the other, and the halt.
+use Rattle.std.specs.Prelude.{◌≡◌, ℕ, Bool, false, List, [], ◌∷◌, ◌++◌, Option, Some, IfSome, option_map}
 use Rattle.std.specs.List.{AllByRecursion}
 use Rattle.nut_conf.specs.declared.upsmon.MonConfig.{MonConfig}
 use Rattle.nut_monitor_spec.specs.declared.Notice.{Notice}
+use Rattle.nut_monitor_spec.specs.declared.Phase.{Phase}
 use Rattle.nut_monitor_spec.specs.declared.Phase.TheVariants.{Halted}
 use Rattle.nut_monitor_spec.specs.Configuration.{configuration_of}
-use Rattle.nut_monitor_spec.specs.Event.{Event}
 use Rattle.nut_monitor_spec.specs.Trace.{notices, trace}
 use Rattle.nut_monitor_spec.specs.Acceptance.{IsAccepted}
 use Rattle.nut_monitor_spec.specs.Content.{content, phase_of}
+use Rattle.nut_monitor_spec.specs.Decision.{is_halted}
+use Rattle.nut_monitor_loop.specs.Record.{Entry}
+use Rattle.nut_monitor_loop.specs.Watched.{Step, Told, entries_of, history_of}
 use Rattle.nut_monitor_sockets.specs.Handing.{lasting}
-use Rattle.nut_upsmon.specs.Acts.{Act, Printed, Called, told}
+use Rattle.nut_upsmon.specs.Acts.{Act, Printed, Called, IsHalted, told}
 
 -- the acts that tell a notice, of a history
 abbrev pub tellings : List Act → List Act
@@ -24,38 +27,60 @@ abbrev pub told_all : MonConfig → List Notice → Option (List Act) → Option
 told_all config [] acts = acts
 told_all config (notice ∷ notices) acts = told_all config notices (told config notice acts)
 
--- A watch that has ended: its configuration, what its monitor was told, and the notices that were handed on to be told.
+-- A watch: its configuration; what its world did, with the events of its monitor that stand for that; and the notices that
+-- were handed on to be told.
 pub record Watch : Type 0 where
   pub config : MonConfig
-  pub events : List Event
+  pub steps : List Step
   pub given : List Notice
 
--- The notices are those of the monitor, in order and each once. Of those that a UPS is lost or there again some may be left
--- out or come later, as the first seconds of upsmon hold them back.
+-- The events of its monitor follow from what its world did.
 abbrev pub IsWatch : Watch → Type 0
 IsWatch w =
-    IsAccepted (configuration_of w.config) w.events
-    × (lasting w.given ≡ lasting (notices (trace (configuration_of w.config) w.events)))
+    IsAccepted (configuration_of w.config) (history_of w.steps)
+    × ((owed : Option ℕ) × Told (configuration_of w.config) w.steps owed)
+
+-- The notices handed on are those of its monitor, in order and each once. Of those that a UPS is lost or there again some may
+-- be left out or come later, as the first seconds of upsmon hold them back.
+abbrev pub IsTold : Watch → Type 0
+IsTold w = lasting w.given ≡ lasting (notices (trace (configuration_of w.config) (history_of w.steps)))
+
+-- what its monitor said at last
+abbrev pub last_phase : Watch → Phase
+last_phase w = phase_of (content (configuration_of w.config) (history_of w.steps))
+
+abbrev pub GoesOn : Watch → Type 0
+GoesOn w = is_halted (last_phase w) ≡ false
 
 -- a history after these watches, the newest first
 abbrev pub told_in_turn : List Watch → Option (List Act) → Option (List Act)
 told_in_turn [] acts = acts
 told_in_turn (w ∷ ws) acts = told_all w.config w.given (told_in_turn ws acts)
 
--- What was told, from nothing on, are the notices of one watch after the other, each as the configuration of its watch says,
--- and no more. Who tells nothing of its acts has told nothing here.
-pub record IsCourse (acts : Option (List Act)) : Type 0 where
+-- By these watches, the newest first, and what is done between them, the first state became the second.
+abbrev pub Ran : {W : Type 0} → (MonConfig → W → W → List Entry → Type 0) → (W → W → Type 0) → List Watch → W → W → Type 0
+Ran {W} Did Turns [] first last = Turns first last
+Ran {W} Did Turns (w ∷ ws) first last =
+    (begun : W) × (ended : W) × Ran Did Turns ws first begun × Did w.config begun ended (entries_of w.steps) × Turns ended last
+
+-- The machine was halted after these watches, as the monitor of the last one said, by its configuration. No earlier monitor
+-- said so. All notices were told, each as the configuration of its watch says, and no more.
+pub record EndsInHalt {W : Type 0} (Did : MonConfig → W → W → List Entry → Type 0) (Turns : W → W → Type 0)
+    (acts : W → Option (List Act)) (old new : W) : Type 0 where
+  pub last : Watch
+  pub earlier : List Watch
+  pub flag : Bool
+  pub ran : Ran Did Turns (last ∷ earlier) old new
+  pub each : AllByRecursion IsWatch (last ∷ earlier)
+  pub says : last_phase last ≡ Halted flag
+  pub others : AllByRecursion GoesOn earlier
+  pub halted : IfSome (acts new) (IsHalted last.config flag)
+  pub given : AllByRecursion IsTold (last ∷ earlier)
+  pub told : option_map tellings (acts new) ≡ told_in_turn (last ∷ earlier) (option_map tellings (acts old))
+
+-- These watches ended, the last one by a fault, and no monitor said that the machine has to be halted.
+pub record EndsInFault {W : Type 0} (Did : MonConfig → W → W → List Entry → Type 0) (Turns : W → W → Type 0) (old new : W) : Type 0 where
   pub watches : List Watch
-  pub start : Option (List Act)
-  pub blank : IfSome start (λ all. all ≡ [])
+  pub ran : Ran Did Turns watches old new
   pub each : AllByRecursion IsWatch watches
-  pub same : option_map tellings acts ≡ told_in_turn watches start
-
--- The monitor of the last of these watches, the newest first, said that the machine has to be halted.
-abbrev pub EndsInHalt : List Watch → Type 0
-EndsInHalt [] = ⊥
-EndsInHalt (w ∷ ws) = (flag : Bool) × (phase_of (content (configuration_of w.config) w.events) ≡ Halted flag)
-
--- what was told until the machine was halted
-abbrev pub IsCourseToHalt : Option (List Act) → Type 0
-IsCourseToHalt acts = (course : IsCourse acts) × EndsInHalt course.watches
+  pub going : AllByRecursion GoesOn watches

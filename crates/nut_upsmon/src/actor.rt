@@ -2,7 +2,7 @@
 
 ghost use Rattle.std.specs.Prelude.{◌≡◌, List, Option, IfSome, IfNone, OnOk, OnErr};
 ghost use Rattle.nut_monitor.specs.Texts.{text_of};
-ghost use Rattle.nut_upsmon.specs.Acts.{Act, ClearedFlag, Readied, Changed, Printed, Called, TriedFlag, RanShutdown, does};
+ghost use Rattle.nut_upsmon.specs.Acts.{Act, ClearedFlag, Readied, Changed, Printed, Called, TriedFlag, RanShutdown, does, halt_of};
 
 use crate::beginning::Beginning;
 use crate::halt::HaltFault;
@@ -23,7 +23,7 @@ pub trait Actor: Drop {
     ///
     /// [`AllocError`] if memory cannot be allocated. Then nothing is removed.
     fn clear_flag(&mut self, config: &MonConfig) -> Result<(), AllocError>
-        ensures { OnOk result (log self.new ≡ does (ClearedFlag config.now) (log self.old)) };
+        ensures { OnOk result (log self.new ≡ does (ClearedFlag (halt_of config.now).flag) (log self.old)) };
 
     /// Makes ready to halt and to tell by this configuration, the first one.
     ///
@@ -31,7 +31,7 @@ pub trait Actor: Drop {
     ///
     /// [`AllocError`] if memory cannot be allocated.
     fn ready(&mut self, config: &MonConfig) -> Result<(), AllocError>
-        ensures ok { OnOk result (log self.new ≡ does (Readied config.now) (log self.old)) }
+        ensures ok { OnOk result (log self.new ≡ does (Readied (halt_of config.now)) (log self.old)) }
         ensures err { OnErr result (log self.new ≡ log self.old) };
 
     /// Is shown a notice of this monitor before anybody is told of it.
@@ -49,7 +49,7 @@ pub trait Actor: Drop {
     /// Is told that a second has passed. If another configuration can be taken up, returns what its watch begins with,
     /// and has made ready to halt by it.
     fn second(&mut self, monitor: &Monitor) -> Option<Beginning>
-        ensures next { IfSome result (λ next. log self.new ≡ does (Readied next.monitor.config) (log self.old)) }
+        ensures next { IfSome result (λ next. log self.new ≡ does (Readied (halt_of next.monitor.config)) (log self.old)) }
         ensures none { IfNone result (log self.new ≡ log self.old) };
 
     /// Halts by the configuration that was readied last, from now on.

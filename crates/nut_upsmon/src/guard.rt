@@ -1,21 +1,17 @@
 //! Has an actor do what a monitor decides.
 
-ghost use Rattle.std.specs.Prelude.{◌≡◌, Some, None, option_map, IfOk, OnOk, OnErr, if◌then◌else◌};
+ghost use Rattle.std.specs.Prelude.{◌≡◌, Some, None, true, is_some, OnOk, OnErr, if◌then◌else◌};
 ghost use Rattle.nut_conf.specs.declared.upsmon.MonConfig.{MonConfig};
-ghost use Rattle.nut_upsmon.specs.Acts.{does, is_to_call, is_to_print, told, Readied, Changed, Says, TriedFlag, RanShutdown};
-ghost use Rattle.nut_upsmon.specs.Course.{tellings};
-ghost use Rattle.nut_upsmon.specs.inside.Ready.{Follows, HaltsAsSaid, IsReady};
+ghost use Rattle.nut_upsmon.specs.Acts.{does, is_to_call, is_to_print, told, Readied, Changed, TriedFlag, RanShutdown, halt_of};
 ghost use Rattle.nut_upsmon.specs.inside.Telling.{Tells, tells_on, tells_self};
 
 use crate::actor::Actor;
 use crate::beginning::Beginning;
 use crate::halt::HaltFault;
 use nut_conf::{MonConfig, NoticeFlags};
-use nut_monitor::{Monitor, Notice, Phase};
+use nut_monitor::{Monitor, Notice};
 use nut_monitor_sockets::Herald;
 use std::alloc::AllocError;
-use std::io;
-use std::io::ErrorKind;
 
 /// Has an actor tell what monitors give, one monitor after the other, and halt the machine in the end.
 #[derive(Drop)]
@@ -23,15 +19,6 @@ pub struct Guard<A> {
     pub actor: A,
     /// What the next watch begins with, if the actor is ready for it: then this one ends.
     pub next: Option<Beginning>,
-}
-
-/// What follows a watch.
-#[derive(Drop)]
-pub enum After {
-    /// The machine was halted, or why it wasn't.
-    Halt(Result<(), HaltFault>),
-    /// Another watch, which begins with this.
-    Watch(Beginning),
 }
 
 impl<A: Actor> Guard<A> {
@@ -49,7 +36,7 @@ impl<A: Actor> Guard<A> {
     ///
     /// [`AllocError`] if memory cannot be allocated.
     pub fn begin(&mut self, config: &MonConfig) -> Result<(), AllocError>
-        ensures ok { OnOk result (A.log self.new.actor ≡ does Changed (does (Readied config.now) (A.log self.old.actor))) }
+        ensures ok { OnOk result (A.log self.new.actor ≡ does Changed (does (Readied (halt_of config.now)) (A.log self.old.actor))) }
         ensures err { OnErr result (A.log self.new.actor ≡ A.log self.old.actor) }
         ensures next { self.new.next ≡ self.old.next }
     {
@@ -58,42 +45,19 @@ impl<A: Actor> Guard<A> {
         Ok(())
     }
 
-    /// Does what a watch asks for that ended in this phase: has the actor halt the machine, or halt and tell by the next
-    /// configuration.
-    ///
-    /// # Errors
-    ///
-    /// `Other` if the machine hasn't to be halted, and there is no next configuration.
-    pub fn follow(&mut self, phase: Phase) -> io::Result<After>
-        ensures ok { (config : MonConfig) → IsReady (A.log self.old.actor) self.old.next config → Says config phase
-            → IfOk result (Follows (A.log self.new.actor) self.new.next) }
-        ensures halts { IfOk result (HaltsAsSaid phase) }
-        ensures told { option_map tellings (A.log self.new.actor) ≡ option_map tellings (A.log self.old.actor) }
-        ensures err { OnErr result (A.log self.new.actor ≡ A.log self.old.actor) }
-    {
-        match phase {
-            Phase::Halted { flag } => Ok(After::Halt(self.halt(flag))),
-            // The watch has ended for another one.
-            Phase::Watching | Phase::Forcing | Phase::Final => Ok(After::Watch(self.change()?)),
-        }
-    }
-
     /// Has the actor halt and tell by the next configuration. Returns what its watch begins with.
-    ///
-    /// # Errors
-    ///
-    /// `Other` if there is none.
-    fn change(&mut self) -> io::Result<Beginning>
-        ensures ok { IfOk result (λ next. (self.old.next ≡ Some next) × (A.log self.new.actor ≡ does Changed (A.log self.old.actor))) }
-        ensures err { OnErr result (A.log self.new.actor ≡ A.log self.old.actor) }
+    pub fn change(&mut self) -> Beginning
+        requires next { is_some self.old.next ≡ true }
+        ensures was { self.old.next ≡ Some result }
+        ensures actor { A.log self.new.actor ≡ does Changed (A.log self.old.actor) }
         ensures next { self.new.next ≡ None }
     {
         match self.next.take() {
             Some(next) => {
                 self.actor.change();
-                Ok(next)
+                next
             }
-            None => Err(io::Error::from(ErrorKind::Other)),
+            None => unreachable!(),
         }
     }
 
@@ -102,7 +66,7 @@ impl<A: Actor> Guard<A> {
     /// # Errors
     ///
     /// Why the machine wasn't halted.
-    fn halt(&mut self, is_flagged: bool) -> Result<(), HaltFault>
+    pub fn halt(&mut self, is_flagged: bool) -> Result<(), HaltFault>
         ensures { A.log self.new.actor
             ≡ does RanShutdown (if is_flagged then does TriedFlag (A.log self.old.actor) else A.log self.old.actor) }
     {
@@ -115,6 +79,8 @@ impl<A: Actor> Guard<A> {
 
 impl<A: Actor> Herald for Guard<A> {
     ghost told = { λ config a b given. Tells config (A.log a.actor) a.next (A.log b.actor) b.next given };
+
+    ghost wants_end = { λ g. is_some g.next ≡ true };
 
     ghost told_self = { λ config g. tells_self config (A.log g.actor) g.next };
 

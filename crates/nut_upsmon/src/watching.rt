@@ -1,19 +1,22 @@
 //! Watches one configuration after the other.
 
-ghost use Rattle.std.specs.Prelude.{◌≡◌, ◌<◌, ◌-◌, ◌^◌, ◌∷◌, List, [], None, IfOk, IfSome, OnOk, OnErr};
+ghost use Rattle.std.specs.Prelude.{◌≡◌, ◌⊎◌, ◌+◌, ◌-◌, ◌^◌, ◌<◌, ◌∷◌, List, [], true, None, is_ok, if◌then◌else◌, IfOk, IfSome, OnOk, OnErr};
 ghost use Rattle.std.specs.List.{AllByRecursion};
 ghost use Rattle.nut_monitor_spec.specs.Configuration.{configuration_of};
 ghost use Rattle.nut_monitor_spec.specs.Content.{content};
+ghost use Rattle.nut_monitor_spec.specs.Decision.{is_halted};
 ghost use Rattle.nut_monitor_loop.specs.Record.{Entry};
-ghost use Rattle.nut_upsmon.specs.Acts.{ClearedFlag, IsQuiet, IsHalted, Says};
-ghost use Rattle.nut_upsmon.specs.Course.{IsCourse, IsCourseToHalt};
+ghost use Rattle.nut_upsmon.specs.Acts.{Changed, ClearedFlag, IsQuiet, Readied, halt_of};
+ghost use Rattle.nut_upsmon.specs.Course.{EndsInFault, EndsInHalt};
 ghost use Rattle.nut_upsmon.specs.inside.Ready.{IsReady};
-ghost use Rattle.nut_upsmon.specs.inside.Telling.{IsWhole, TellsWatch};
+ghost use Rattle.nut_upsmon.specs.inside.Running.{Broken, Fails, Leads, Whole};
 
 use crate::actor::Actor;
 use crate::beginning::Beginning;
-use crate::guard::{After, Guard};
+use crate::guard::Guard;
+use crate::guarded_world::GuardedWorld;
 use crate::halt::HaltFault;
+use nut_io::ServeFault;
 use nut_monitor::{Monitor, Phase};
 use nut_monitor_loop::{MonWorld, watch};
 use nut_monitor_sockets::MioMonWorld;
@@ -67,20 +70,15 @@ where
     let _held = hold_closed_streams(rt, alloc)?;
     let reports = Reports::new(err.lines(), !is_quiet);
     let mut world = MioMonWorld::new(rt, alloc, Guard::new(actor), reports)?;
-    watch_in_turn(rt, &mut world, first)
+    begin_and_watch(rt, &mut world, first)
 }
 
-/// Watches the UPSes of one configuration after the other, until the machine has to be halted, and halts it. Returns what
-/// came of that. All that the actor did before is that it tried to remove a flag that was left.
-///
-/// SHUTDOWNCMD is run if and only if the monitor of the configuration in force said that the machine has to be halted:
-/// once, as the last act, and it is that of this configuration. POWERDOWNFLAG is tried before, if and only if the
-/// monitor said so, and whatever becomes of it. What is told are the notices of one watch after the other.
+/// Has the actor of a world of sockets make ready for the first configuration, and then watches as [`watch_in_turn`] does.
 ///
 /// # Errors
 ///
-/// If memory isn't available, or waiting for the sockets or reading the clock fails. No part of a halt was done then.
-pub fn watch_in_turn<'r, 'e, R, A>(
+/// If memory isn't available, or waiting for the sockets or reading the clock fails.
+fn begin_and_watch<'r, 'e, R, A>(
     rt: &'r R,
     world: &mut MioMonWorld<'r, 'e, R, Guard<A>>,
     first: Beginning,
@@ -88,84 +86,86 @@ pub fn watch_in_turn<'r, 'e, R, A>(
 where
     R: Wait + Net + Clock + Processes,
     A: Actor,
-    requires cleared { IfSome (A.log world.old.herald.actor) (λ acts. acts ≡ ClearedFlag first.monitor.config ∷ []) }
+    requires cleared { IfSome (A.log world.old.herald.actor) (λ acts. acts ≡ ClearedFlag (halt_of first.monitor.config).flag ∷ []) }
     requires next { world.old.herald.next ≡ None }
-    ensures halted { OnOk result (IfSome (A.log world.new.herald.actor) IsHalted) }
-    ensures failed { OnErr result (IfSome (A.log world.new.herald.actor) (AllByRecursion IsQuiet)) }
-    ensures told { OnOk result (IsCourseToHalt (A.log world.new.herald.actor)) }
+    requires faults { world.old.faults ≡ 0 }
 {
     world.herald.begin(first.config())?;
-    watch_all(rt, world, first)
+    match watch_in_turn(rt, world, first) {
+        Ok(halted) => Ok(halted),
+        Err(_) => Err(io::Error::from(ErrorKind::Other)),
+    }
 }
 
-/// Watches from a configuration on that is in force.
-fn watch_all<'r, 'e, R, A>(
-    rt: &'r R,
-    world: &mut MioMonWorld<'r, 'e, R, Guard<A>>,
+/// Watches the UPSes of one configuration after the other, until the machine has to be halted, and halts it. Returns what
+/// came of that. All that the actor did before is that it tried to remove a flag that was left, and made ready to halt and to
+/// tell by the first configuration.
+///
+/// SHUTDOWNCMD is run if and only if the monitor of the configuration in force says that the machine has to be halted:
+/// once, as the last act, and it is that of this configuration. POWERDOWNFLAG is tried before, if and only if the
+/// monitor says so, and whatever becomes of it. What is told are the notices of one watch after the other.
+///
+/// # Errors
+///
+/// If a call of the world returned a fault. No part of a halt was done then. If it was `begin` or `next`, no monitor said that
+/// the machine has to be halted.
+pub fn watch_in_turn<W: GuardedWorld>(
+    rt: &impl Wait,
+    world: &mut W,
     first: Beginning,
-) -> io::Result<Result<(), HaltFault>>
-where
-    R: Wait + Net + Clock + Processes,
-    A: Actor,
-    requires ready { IsReady (A.log world.old.herald.actor) world.old.herald.next first.monitor.config }
-    requires course { IsCourse (A.log world.old.herald.actor) }
-    ensures halted { OnOk result (IfSome (A.log world.new.herald.actor) IsHalted) }
-    ensures failed { OnErr result (IfSome (A.log world.new.herald.actor) (AllByRecursion IsQuiet)) }
-    ensures told { OnOk result (IsCourseToHalt (A.log world.new.herald.actor)) }
+) -> Result<Result<(), HaltFault>, ServeFault>
+    requires begun { IfSome (W.acts world.old) (λ acts. acts
+        ≡ Changed ∷ Readied (halt_of first.monitor.config) ∷ ClearedFlag (halt_of first.monitor.config).flag ∷ []) }
+    requires upcoming { W.upcoming world.old ≡ None }
+    requires few { W.fault_count world.old < 2 ^ 64 - 1 }
+    ensures halted { OnOk result (EndsInHalt W.did W.turns W.acts world.old world.new) }
+    ensures failed { OnErr result (W.failed_at_next world.new → EndsInFault W.did W.turns world.old world.new) }
+    ensures quiet { OnErr result (IfSome (W.acts world.new) (AllByRecursion IsQuiet)) }
+    ensures fault { OnErr result (W.fault_count world.new ≡ W.fault_count world.old + 1) }
 {
     let mut beginning = first;
     for _ in rt.forever() {
-        let phase = watch_once(rt, world, beginning)?;
-        match world.herald.follow(phase)? {
-            After::Halt(halted) => return Ok(halted),
-            After::Watch(next) => beginning = next,
+        match watch_once(rt, world, beginning)? {
+            Phase::Halted { flag } => return Ok(world.halt(flag)),
+            Phase::Watching | Phase::Forcing | Phase::Final => beginning = world.change(),
         }
     }
     unreachable!()
 }
 
 /// Makes the links of a watch, and watches until the machine has to be halted, or until another watch has its beginning.
-/// Returns what the monitor says then. A machine that has to be halted is logged out before, so that no primary waits for
-/// it.
-///
-/// # Errors
-///
-/// That of the clock; `Other` if waiting for the sockets or reading the clock fails.
-fn watch_once<'r, 'e, R, A>(
-    rt: &'r R,
-    world: &mut MioMonWorld<'r, 'e, R, Guard<A>>,
+/// Returns what the monitor says then.
+fn watch_once<W: GuardedWorld>(
+    rt: &impl Wait,
+    world: &mut W,
     beginning: Beginning,
-) -> io::Result<Phase>
-where
-    R: Wait + Net + Clock + Processes,
-    A: Actor,
-    ensures says { IfOk result (λ phase. Says beginning.monitor.config phase) }
-    ensures ready { IsReady (A.log world.old.herald.actor) world.old.herald.next beginning.monitor.config
-        → IsReady (A.log world.new.herald.actor) world.new.herald.next beginning.monitor.config }
-    ensures told { IfOk result (λ phase. TellsWatch phase (A.log world.old.herald.actor) (A.log world.new.herald.actor)) }
+) -> Result<Phase, ServeFault>
+    requires few { W.fault_count world.old < 2 ^ 64 - 1 }
+    ensures ok { IfOk result (λ phase. Leads W.did W.turns W.acts beginning.monitor.config world.old world.new phase) }
+    ensures err { OnErr result (W.failed_at_next world.new → Fails W.did W.turns beginning.monitor.config world.old world.new) }
+    ensures ready { IsReady (W.acts world.old) (W.upcoming world.old) beginning.monitor.config
+        → IsReady (W.acts world.new) (W.upcoming world.new) beginning.monitor.config }
+    ensures ended { IfOk result (λ phase. (is_halted phase ≡ true) ⊎ W.has_ended world.new) }
+    ensures counted { W.fault_count world.new ≡ (if is_ok result then W.fault_count world.old else W.fault_count world.old + 1) }
 {
     let Beginning { monitor, links } = beginning;
     world.begin(links)?;
-    let phase = watch_from(rt, monitor, world)?;
-    if let Phase::Halted { .. } = phase {
-        world.leave();
-    }
-    Ok(phase)
+    watch_from(rt, monitor, world)
 }
 
 /// Watches with a monitor that has heard nothing yet. Returns what it says in the end.
-///
-/// # Errors
-///
-/// `Other` if a call of the world failed.
-fn watch_from<W: MonWorld>(rt: &impl Wait, mut monitor: Monitor, world: &mut W) -> io::Result<Phase>
+fn watch_from<W: MonWorld>(
+    rt: &impl Wait,
+    mut monitor: Monitor,
+    world: &mut W,
+) -> Result<Phase, ServeFault>
     requires untold { monitor.content ≡ content (configuration_of monitor.config) [] }
     requires few { W.fault_count world.old < 2 ^ 64 - 1 }
-    ensures whole { IfOk result (IsWhole monitor.config (W.did monitor.config world.old world.new)) }
+    ensures ok { IfOk result (Whole monitor.config (W.did monitor.config world.old world.new)) }
+    ensures err { OnErr result (W.failed_at_next world.new → Broken monitor.config (W.did monitor.config world.old world.new)) }
     ensures did { (entries : List Entry) × W.did monitor.config world.old world.new entries }
+    ensures ended { IfOk result (λ phase. (is_halted phase ≡ true) ⊎ W.has_ended world.new) }
+    ensures counted { W.fault_count world.new ≡ (if is_ok result then W.fault_count world.old else W.fault_count world.old + 1) }
 {
-    match watch(rt, &mut monitor, world) {
-        Ok(phase) => Ok(phase),
-        Err(_) => Err(io::Error::from(ErrorKind::Other)),
-    }
+    watch(rt, &mut monitor, world)
 }

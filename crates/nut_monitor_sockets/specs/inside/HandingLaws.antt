@@ -19,7 +19,7 @@ lasting-append (x ∷ xs) ys =
     out true = refl
     out false = refl
 
-handed-append : (xs ys : List Entry) → handed (ys ++ xs) ≡ handed xs ++ handed ys
+pub handed-append : (xs ys : List Entry) → handed (ys ++ xs) ≡ handed xs ++ handed ys
 handed-append xs [] = sym (append-nil (handed xs))
 handed-append xs (WasTold notice ∷ ys) =
     ap (λ l. l ++ notice ∷ []) (handed-append xs ys) ∙ append_assoc (handed xs) (handed ys) (notice ∷ [])

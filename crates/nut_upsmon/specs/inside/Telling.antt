@@ -5,17 +5,9 @@ use Rattle.nut_conf.specs.declared.upsmon.MonConfig.{MonConfig}
 use Rattle.nut_conf.specs.Upsmon.{flags_of}
 use Rattle.nut_monitor.specs.Texts.{text_of}
 use Rattle.nut_monitor_spec.specs.declared.Notice.{Notice}
-use Rattle.nut_monitor_spec.specs.declared.Phase.{Phase}
-use Rattle.nut_monitor_spec.specs.Configuration.{configuration_of}
-use Rattle.nut_monitor_spec.specs.Event.{Event}
-use Rattle.nut_monitor_spec.specs.Trace.{notices, trace}
-use Rattle.nut_monitor_spec.specs.Content.{content, phase_of}
-use Rattle.nut_monitor_spec.specs.Acceptance.{IsAccepted}
-use Rattle.nut_monitor_loop.specs.Record.{Entry}
-use Rattle.nut_monitor_loop.specs.Watched.{handed}
 use Rattle.nut_upsmon.specs.declared.beginning.Beginning.{Beginning}
 use Rattle.nut_upsmon.specs.Acts.{Act, TriedFlag, RanShutdown, called, does, is_to_call, is_to_print, printed, told}
-use Rattle.nut_upsmon.specs.Course.{IsWatch, Watch, tellings, told_all}
+use Rattle.nut_upsmon.specs.Course.{tellings, told_all}
 use Rattle.nut_upsmon.specs.inside.Ready.{IsReady}
 
 told_all-append : (config : MonConfig) (xs ys : List Notice) (acts : Option (List Act))
@@ -38,19 +30,6 @@ tells_on config a b c n n' n'' xs ys first second = (
   λ ready. second.0 (first.0 ready),
   second.1 ∙ ap (λ acts. told_all config ys acts) first.1 ∙ sym (told_all-append config xs ys (option_map tellings a)),
 )
-
--- A monitor of this configuration was told some events, and said this phase at last. What its world did meanwhile has all
--- notices of these events.
-abbrev pub IsWhole : MonConfig → (List Entry → Type 0) → Phase → Type 0
-IsWhole config Did phase =
-    (events : List Event) × (entries : List Entry) × Did entries × IsAccepted (configuration_of config) events
-    × (handed entries ≡ notices (trace (configuration_of config) events)) × (phase ≡ phase_of (content (configuration_of config) events))
-
--- The notices of a watch, in which its monitor said this phase at last, were told between two histories.
-abbrev pub TellsWatch : Phase → Option (List Act) → Option (List Act) → Type 0
-TellsWatch phase before after =
-    (w : Watch) × IsWatch w × (option_map tellings after ≡ told_all w.config w.given (option_map tellings before))
-    × (phase ≡ phase_of (content (configuration_of w.config) w.events))
 
 -- acts that tell nothing
 pub untold_by : (acts : Option (List Act)) (act : Act) → ((before : List Act) → tellings (act ∷ before) ≡ tellings before)

@@ -1,12 +1,15 @@
 use Rattle.std.proofs.Common.{ap}
 use Rattle.nut_monitor_spec.specs.Content.{Content}
-use Rattle.nut_monitor_loop.specs.Watched.{entries_of}
-use Rattle.nut_upsmon.proofs.Coursing.{whole}
+use Rattle.nut_upsmon.proofs.Coursing.{broken, some_did, whole}
 use Rattle.nut_upsmon.proofs.watching.watch_from.Goals as goal
 
-pub returns-in-Ok-clause-whole : goal.returns-in-Ok-clause-whole
-returns-in-Ok-clause-whole g c =
-    whole _ c.args.monitor.config _ _ _ (ap (λ (s : Content). s.configuration) c.requires.untold) c.in-Ok.ensures.ok c.in-Ok.ensures.told c.in-Ok.ensures.phase
+pub returns-clause-ok : goal.returns-clause-ok
+returns-clause-ok g c =
+    whole _ c.args.monitor.config _ _ c.watch.result (ap (λ (s : Content). s.configuration) c.requires.untold) c.watch.ensures.ok c.watch.ensures.told c.watch.ensures.phase
 
-pub returns-in-Ok-clause-did : goal.returns-in-Ok-clause-did
-returns-in-Ok-clause-did g c = (entries_of c.in-Ok.ensures.ok.steps, c.in-Ok.ensures.ok.did)
+pub returns-clause-err : goal.returns-clause-err
+returns-clause-err g c =
+    broken _ c.args.monitor.config _ _ c.watch.result _ (ap (λ (s : Content). s.configuration) c.requires.untold) c.watch.ensures.err c.watch.ensures.going
+
+pub returns-clause-did : goal.returns-clause-did
+returns-clause-did g c = some_did _ _ _ c.watch.result c.watch.ensures.ok c.watch.ensures.err

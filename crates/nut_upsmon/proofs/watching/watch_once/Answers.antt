@@ -1,20 +1,27 @@
-use Rattle.nut_upsmon.proofs.Coursing.{says_whole, tells_whole}
+use Rattle.nut_upsmon.proofs.Coursing.{fails, fails_at_once, leads, on_err, same_ready}
 use Rattle.nut_upsmon.proofs.watching.watch_once.Goals as goal
 
-pub returns-in-Halted-clause-told : goal.returns-in-Halted-clause-told
-returns-in-Halted-clause-told g c =
-    rw (c.leave.ensures)
-    (rw (← c.begin.ensures.herald)
-    (tells_whole c.args.beginning.monitor.config (g.A.Actor.log c.begin.new.self.herald.actor) (g.A.Actor.log c.watch_from.new.world.herald.actor)
-    c.begin.new.self.herald.next c.watch_from.new.world.herald.next c.in_ok-phase.phase c.in_ok-phase.ensures.whole))
+pub returns-clause-ok : goal.returns-clause-ok
+returns-clause-ok g c =
+    leads g.W.MonWorld.did g.W.GuardedWorld.turns g.W.GuardedWorld.acts g.W.GuardedWorld.upcoming c.args.beginning.monitor.config c.args.world.now
+    c.begin.new.self c.watch_from.new.world c.watch_from.result c.begin.ensures.turns c.begin.ensures.acts
+    (λ entries did. g.met.W.GuardedWorld.tells _ _ _ entries did) c.watch_from.ensures.ok
 
-pub returns-in_default : goal.returns-in_default
-returns-in_default g c =
-    record {
-      says = says_whole c.args.beginning.monitor.config _ c.in_ok-phase.phase c.in_ok-phase.ensures.whole;
-      ready = rw (← c.begin.ensures.herald) c.in_ok-phase.ensures.whole.2.1.0;
-      told =
-          rw (← c.begin.ensures.herald)
-          (tells_whole c.args.beginning.monitor.config (g.A.Actor.log c.begin.new.self.herald.actor) (g.A.Actor.log c.watch_from.new.world.herald.actor)
-          c.begin.new.self.herald.next c.watch_from.new.world.herald.next c.in_ok-phase.phase c.in_ok-phase.ensures.whole);
-    }
+pub returns-clause-err : goal.returns-clause-err
+returns-clause-err g c =
+    fails g.W.MonWorld.did g.W.GuardedWorld.turns c.args.beginning.monitor.config c.args.world.now c.begin.new.self c.watch_from.new.world
+    c.watch_from.result _ c.begin.ensures.turns c.watch_from.ensures.err
+
+pub returns-clause-ready : goal.returns-clause-ready
+returns-clause-ready g c = λ ready.
+    let did = c.watch_from.ensures.did in
+    (g.met.W.GuardedWorld.tells c.args.beginning.monitor.config c.begin.new.self c.watch_from.new.world did.0 did.1).1.0
+    (same_ready _ _ _ _ c.args.beginning.monitor.config c.begin.ensures.acts c.begin.ensures.upcoming ready)
+
+pub returns-in_err-begin-clause-err : goal.returns-in_err-begin-clause-err
+returns-in_err-begin-clause-err g c = on_err _ (λ at_next.
+    fails_at_once g.W.MonWorld.did g.W.GuardedWorld.turns c.args.beginning.monitor.config c.args.world.now c.begin.new.self c.begin.ensures.turns
+    (g.met.W.MonWorld.did_self c.args.beginning.monitor.config c.begin.new.self))
+
+pub returns-in_err-begin-clause-ready : goal.returns-in_err-begin-clause-ready
+returns-in_err-begin-clause-ready g c = λ ready. same_ready _ _ _ _ c.args.beginning.monitor.config c.begin.ensures.acts c.begin.ensures.upcoming ready

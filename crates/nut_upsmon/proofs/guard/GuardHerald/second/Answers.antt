@@ -1,6 +1,6 @@
 use Rattle.std.proofs.Common.{◌≡◌, Some, sym, ap, subst, refl, ◌∙◌}
 use Rattle.std.specs.Prelude.{option_map}
-use Rattle.nut_upsmon.specs.Acts.{Readied, does}
+use Rattle.nut_upsmon.specs.Acts.{Readied, does, halt_of}
 use Rattle.nut_upsmon.specs.Course.{tellings}
 use Rattle.nut_upsmon.specs.inside.Ready.{IsReady}
 use Rattle.nut_upsmon.specs.inside.Telling.{untold_by}
@@ -8,8 +8,8 @@ use Rattle.nut_upsmon.proofs.Acted.{ready_next}
 use Rattle.nut_upsmon.proofs.guard.GuardHerald.second.Goals.{in-Some, in_default}
 use Rattle.nut_upsmon.proofs.guard.GuardHerald.second.Goals as goal
 
-pub returns : goal.returns
-returns g c =
+pub returns-clause-told : goal.returns-clause-told
+returns-clause-told g c =
     let log = g.A.Actor.log c.args.self.now.actor in
     let log' = g.A.Actor.log c.match-second.self.actor in
     let next = c.args.self.now.next in
@@ -17,10 +17,10 @@ returns g c =
     elim c.match-second.branch [
       | in-Some w ↦
           let b = w.in-Some.next in
-          let same : log' ≡ does (Readied b.monitor.config) log = ap (λ s. g.A.Actor.log s.actor) w.self-is ∙ w.in-Some.ensures.next in
+          let same : log' ≡ does (Readied (halt_of b.monitor.config)) log = ap (λ s. g.A.Actor.log s.actor) w.self-is ∙ w.in-Some.ensures.next in
           let some : c.match-second.self.next ≡ Some b = ap (λ s. s.next) w.self-is ∙ w.replace.ensures.after in (
             λ ready. subst (λ n. IsReady log' n config) (sym some) (ready_next log log' next b config same ready),
-            ap (option_map tellings) same ∙ untold_by log (Readied b.monitor.config) (λ acts. refl),
+            ap (option_map tellings) same ∙ untold_by log (Readied (halt_of b.monitor.config)) (λ acts. refl),
           )
       | in_default w ↦
           let same : log' ≡ log = ap (λ s. g.A.Actor.log s.actor) w.self-is ∙ w.in_default.ensures.none in
