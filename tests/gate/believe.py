@@ -5,7 +5,6 @@ usage: python3 -m tests.gate.believe [--write | TITLE]
 Without an argument it tests that docs/believe.md is that list, and that no promise and no definition is missing. `--write` writes
 that page. A title, such as 'A monitor', prints all that this section leads to."""
 
-import collections
 import os
 import re
 import sys
@@ -109,8 +108,11 @@ def owners(text):
     return found
 
 
-# A function of the code: its name, with its type in front if it has one; what its clauses may name; and the clauses.
-Function = collections.namedtuple("Function", "name is_public is_law names said")
+class Function:
+    """A function of the code: its name, with its type in front if it has one, and what its clauses may name."""
+
+    def __init__(self, name, is_public, is_law, names, said):
+        self.name, self.is_public, self.is_law, self.names, self.said = name, is_public, is_law, names, said
 
 
 class Source:
@@ -181,8 +183,12 @@ class Promises:
 
     @staticmethod
     def wanted_by(crate, function, wanted):
-        of_type = function.is_public and function.name not in LEFT_OUT.get(crate, ()) and function.name.split(".")[0] + ".*"
-        return next((it for it in wanted if it == of_type or it.rstrip("?") == function.name), None)
+        is_shown = function.is_public and function.name not in LEFT_OUT.get(crate, ())
+        for pattern in wanted:
+            is_of_type = pattern.endswith(".*") and is_shown and function.name.split(".")[0] == pattern[:-2]
+            if is_of_type or function.name == pattern.rstrip("?"):
+                return pattern
+        return None
 
     def cited(self, crate, source, said, names, name):
         """Returns the definitions, types and constants that clauses name."""

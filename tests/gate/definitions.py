@@ -424,7 +424,8 @@ class Library:
         return self.citing[it]
 
     def closure(self, first, opaque=()):
-        """Returns all definitions that these lead to, but not through opaque ones, and the types and constants that they name."""
+        """Returns all definitions that these lead to, not through those that are opaque, and the types and constants of the code
+        that they name."""
         found, todo = set(), list(first)
         while todo:
             it = todo.pop()

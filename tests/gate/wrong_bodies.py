@@ -4,8 +4,11 @@
 usage: python3 -m tests.gate.wrong_bodies [--look | --one-by-one | --anew] [--after-gate] [CRATE ..]
 
 The edits are crates/NAME/wrong-bodies/*.edit, and crates/NAME/must-fail/*.edit, which the toolchain's own gate tries.
-CONTRIBUTING.md says how to write one, and how they are tried. The functions have been proved as they are. Copies without edits,
-and a method of a trait without one, have to pass in the same check: so a function doesn't fail because others have empty bodies.
+CONTRIBUTING.md says how to write one. Most are tried in one check of their crate: one edit of each function in its place, and
+others in copies of the function beside it. All other functions have empty bodies and open proofs there. What is left is tried
+in rounds: edits of different functions together, and most edits of a definition alone. The functions have been proved as they
+are. Copies without edits, and a method of a trait without one, have to pass in the same check: so a function doesn't fail
+because others have empty bodies. Edits of definitions share a round if each names another goal that has to stay open.
 
 An edit that an earlier run on this machine saw refused isn't tried again while all that decides about it is the same, if the
 toolchain keeps its own edits like that. --anew and --one-by-one try all. What no run asked for in 30 days is forgotten.
@@ -39,14 +42,12 @@ KEPT_FOR, KEPT_MOST = 30 * 24 * 3600, 20_000
 # This tool's own files.
 TOOL = [f"{ROOT}/tests/{it}" for it in ("gate/wrong_bodies.py", "gate/functions.py", "support/harness.py")]
 # A goal of a function that is open, on a line above the function's own.
-GOAL, GOAL_NAME = re.compile(r"note: (src/\S+: .*\(`\S+`\).*)"), re.compile(r"\(`(\S+)`\)")
+GOAL = re.compile(r"note: (src/\S+: .*\(`\S+`\).*)")
 # The beginnings of what a check says of a function whose proof passes, and of one that those which it calls may make fail.
 PASSED = ("no holes", "depends on a hole", "proved")
 FAILED_BELOW = ("no proof: it calls", "not proved; it calls", "not proved; it stands on")
 # The message of antt about a proof file that names what an edit removed.
 NAMES = re.compile(r"has no field|is not in scope|has no `|was not admitted")
-# The answer that such a message is about, and the branch in the name of a goal.
-OF_ANSWER, BRANCH = re.compile(r": error: `([^`]+)`"), re.compile(r".*-(?=clause-)|(?<=^returns).*|(?<=-requires).*|(?<=-preserved).*")
 # A declaration that antt refuses, and how its message begins. A check prints a file to begin with for a function that has open
 # goals, which takes a fifth of its time, but prints none if the function's answers have an error.
 REFUSED_ANSWER, OF_REFUSED_ANSWER = "\nno_file_is_printed : no_file_is_printed\n", "error: `no_file_is_printed`"
@@ -167,23 +168,20 @@ class Report:
 
     def refusal(self, path, is_of_body, goal):
         """Returns why a function is refused in its own goals, or at this goal if one is named, or None; and which missing name a
-        proof file uses. If an edit isn't of a body, the lemmas that the function uses count, too. An open goal says
-        nothing if an answer to the same goal of another branch was lost: nobody has tried to prove it in its new branch."""
+        proof file uses. If an edit isn't of a body, the lemmas that the function uses count, too."""
         gone = None
         for symbol in self.of(path):
             if not self.status[symbol].startswith(("no proof", "not proved")):
                 continue
             left = [it for it in self.goals[symbol] if not goal or f"(`{goal}`)" in it]
-            if goal and left:
+            if left:
                 return left[0], None
             if goal:
                 continue
             told = self.errors(symbol, is_of_body)
-            lost = {BRANCH.sub("", name) for it in told if NAMES.search(it) for name in OF_ANSWER.findall(it)}
             first = next((it for it in told if not NAMES.search(it)), None)
-            left = [it for it in left if first or BRANCH.sub("", GOAL_NAME.search(it)[1]) not in lost]
-            if left or first or "`search` did not prove" in self.status[symbol]:
-                return (left or [first or self.status[symbol]])[0], None
+            if first or "`search` did not prove" in self.status[symbol]:
+                return first or self.status[symbol], None
             gone = gone or next(iter(told), None)
         return None, gone
 
@@ -473,7 +471,7 @@ class Rounds:
         if refusal(edit, report):
             return True, refusal(edit, report)
         if gone:
-            return False, f"BAD EDIT: refused by the names of its proof alone: {gone[0][:200]}"
+            return False, f"BAD EDIT: refused only because a name is gone: {gone[0][:200]}"
         said = "; ".join(f"{path}: {report.status.get(path)}" for path in sorted(edit.wanted))
         return False, f"not refused in its own function, of which the prover says: {said[:300]}"
 

@@ -1,7 +1,7 @@
 """Tests wrong_bodies.py on crates of five functions that are written here: a wrong body is refused, and wrong constants together,
 each at its own goal; and a right body is reported, a body that its contract allows, an edit that only another function refuses,
 one that nothing follows from, and one of a function that isn't proved. Of two more crates, one above the other, it tests which
-edits are known from earlier runs; and of what a check says, which goals refuse an edit whose function has lost an answer."""
+edits are known from earlier runs."""
 
 import contextlib
 import io
@@ -9,7 +9,6 @@ import os
 import re
 import sys
 import tempfile
-import types
 
 from tests.gate import wrong_bodies
 from tests.gate.functions import toolchain
@@ -34,7 +33,7 @@ EDITS = {
     "contract-too-weak": ("{ count } else { MOST }\nnew: { 0 } else { MOST }", f"{LET_THROUGH}few: "),
     "wrong-beside-its-callee": ("    second(count)\nnew:     second(count) + 1", "refused, as it must be: ./proofs/as_second_edited_"),
     "unreadable": ("    count + 1\nnew:     counted + 1", "BAD EDIT: the prover cannot read"),
-    "name-gone": ("    second(count)\nnew:     count + 2", "BAD EDIT: refused by the names of its proof alone"),
+    "name-gone": ("    second(count)\nnew:     count + 2", "BAD EDIT: refused only because a name is gone"),
     "constant": ("const MOST: usize = 8;\nnew: const MOST: usize = 9;\nrefused by: few", "refused, as it must be by few, in a round of its own"),
     "constant-of-another": ("const MOST: usize = 8;\nnew: const MOST: usize = 9;\nrefused by: next", f"{LET_THROUGH}next: "),
     "least": ("LEAST: usize = 2;\nnew: LEAST: usize = 3;\nrefused by: limits at returns-clause-least", "refused, as it must be by limits, at returns-clause-least"),
@@ -55,16 +54,6 @@ CRATES = {
     "constants": (["least", "most"], 0, 1),
     "unproved": (["unproved"], 0, 0),
 }
-
-# What a check says of an answer whose branch is gone, and of another fault. Beside these, an open goal, the goal that the edit names,
-# and whether the edit is refused: not if nobody has tried to prove that goal.
-LOST = "./proofs/few/Answers.antt:4:9: error: `returns-in-Some-clause-ok`: module `G` has no `returns-in-Some-clause-ok`"
-FAULT = "./proofs/few/Answers.antt:9:9: error: `returns-in-None-clause-ok`: expected another type"
-OPEN = (
-    ([LOST], "", "", False), ([LOST], "returns-then-few-clause-ok", "", False), ([LOST], "returns-then-few-clause-err", "", True),
-    ([LOST, FAULT], "returns-then-few-clause-ok", "", True), ([], "returns-then-few-clause-ok", "", True),
-    ([LOST], "returns-then-few-clause-ok", "returns-then-few-clause-ok", True), ([LOST], "returns-then-few-clause-err", "returns", False),
-)
 
 # The files of two crates, of a tool and of a page, by their paths. Two edits of `high` name goals, and the third is in must-fail/.
 FILES = {
@@ -172,17 +161,6 @@ def faults_of_known(root):
     return [f"after {what}: found {found}, wanted {wanted}" for what, found, wanted in steps if found != wanted], len(steps)
 
 
-def faults_of_answers():
-    """Returns the rows of OPEN that come out otherwise."""
-    found = []
-    for lines, open_goal, named, _ in OPEN:
-        goals = [f"note: src/lib.rt:1:1: it is not proved (`{open_goal}`)"] if open_goal else []
-        said = "\n".join([*lines, *goals, "fn one::few: not proved; it stands on an answer", "only=1 holes=1"])
-        refused, gone = wrong_bodies.Report(types.SimpleNamespace(name="one"), said, set()).refusal("few", True, named)
-        found.append((lines, open_goal, named, bool(refused) and not gone))
-    return [f"{it}: found {it[-1]}" for it in found if it not in OPEN]
-
-
 def main():
     with tempfile.TemporaryDirectory(prefix="edited-") as root:
         said, counts = said_of_edits(root)
@@ -191,9 +169,9 @@ def main():
     wanted = {f"{name}/{edit}": EDITS[edit][1] for name, (edits, *_) in CRATES.items() for edit in edits}
     failed = [f"{it}: found {said.get(it)!r}, wanted {wanted[it]!r}" for it in wanted if not said.get(it, "").startswith(wanted[it])]
     failed += [f"{name}: in the first check and in rounds {counts[name]}, wanted {of_crate[1:]}" for name, of_crate in CRATES.items() if counts[name] != of_crate[1:]]
-    failed += faults + faults_of_answers()
+    failed += faults
     print(*failed, sep="\n", end="\n" if failed else "")
-    print(f"{len(wanted) + len(CRATES) + len(OPEN) + steps - len(failed)} passed, {len(failed)} failed")
+    print(f"{len(wanted) + len(CRATES) + steps - len(failed)} passed, {len(failed)} failed")
     return 1 if failed else 0
 
 
