@@ -1,3 +1,4 @@
 mod BatchLemmas
 mod TurnLemmas
 mod LateLemmas
+mod SeatLemmas

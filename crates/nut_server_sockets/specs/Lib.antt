@@ -1,3 +1,5 @@
 pub mod Batches
+pub mod Seats
 pub mod Turns
 pub mod Untold
+pub mod inside

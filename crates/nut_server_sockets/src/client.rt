@@ -1,6 +1,6 @@
 //! The socket of a client.
 
-ghost use Rattle.std.specs.Prelude.{length};
+ghost use Rattle.std.specs.Prelude.{◌≡◌, length};
 ghost use Rattle.nut_io.specs.Writes.{IsWithin};
 
 use crate::batches::Batches;
@@ -40,7 +40,9 @@ pub struct Client {
 
 impl Client {
     /// Returns a client that connects in this second, counted from 1.
-    pub fn new(number: u64, address: IpAddr, stream: TcpStream, second: u64) -> Client {
+    pub fn new(number: u64, address: IpAddr, stream: TcpStream, second: u64) -> Client
+        ensures { result.number ≡ number }
+    {
         Client {
             number,
             address,
@@ -55,7 +57,9 @@ impl Client {
     }
 
     /// Returns the number of its connection.
-    pub fn number(&self) -> u64 {
+    pub fn number(&self) -> u64
+        ensures { result ≡ self.now.number }
+    {
         self.number
     }
 
@@ -65,18 +69,24 @@ impl Client {
     }
 
     /// Notes that it is logged in: its login has this key.
-    pub fn note_login(&mut self, key: usize) {
+    pub fn note_login(&mut self, key: usize)
+        ensures { self.new.number ≡ self.old.number }
+    {
         self.login = Some(key);
     }
 
     /// Returns the key of its login, if it had one, which has ended.
-    pub fn end_login(&mut self) -> Option<usize> {
+    pub fn end_login(&mut self) -> Option<usize>
+        ensures { self.new.number ≡ self.old.number }
+    {
         self.login.take()
     }
 
     /// Reads up to a piece, and returns as much of it as the server is given at once. The rest is held, and returned
     /// before anything more is read. If there is no room to hold it, that is the end of the connection.
-    pub fn hear(&mut self, piece: &mut Piece, held: &mut Slab<Piece>, second: u64) -> Heard {
+    pub fn hear(&mut self, piece: &mut Piece, held: &mut Slab<Piece>, second: u64) -> Heard
+        ensures { self.new.number ≡ self.old.number }
+    {
         let heard = match self.held.take() {
             Some(key) => take_held(held, key, piece),
             None => self.link.hear(piece),
@@ -102,18 +112,23 @@ impl Client {
     }
 
     /// Returns the key of what was read from it and won't be given to the server, if there is any.
-    pub fn end_held(&mut self) -> Option<usize> {
+    pub fn end_held(&mut self) -> Option<usize>
+        ensures { self.new.number ≡ self.old.number }
+    {
         self.held.take()
     }
 
     /// Puts off reading until a write to the client succeeds.
-    pub fn park(&mut self) {
+    pub fn park(&mut self)
+        ensures { self.new.number ≡ self.old.number }
+    {
         self.is_parked = true;
     }
 
     /// Offers bytes. Returns the outcome, and whether the client is then to be read again.
     pub fn offer(&mut self, bytes: &[u8], second: u64) -> (Written, bool)
-        ensures { IsWithin result.0 (length bytes.now) }
+        ensures within { IsWithin result.0 (length bytes.now) }
+        ensures number { self.new.number ≡ self.old.number }
     {
         let written = self.link.offer(bytes);
         let Written::Took(_) = written else {
@@ -126,7 +141,9 @@ impl Client {
     }
 
     /// Notes an event of the socket.
-    pub fn note(&mut self, event: &Event) {
+    pub fn note(&mut self, event: &Event)
+        ensures { self.new.number ≡ self.old.number }
+    {
         self.link.note(event);
     }
 

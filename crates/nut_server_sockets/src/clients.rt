@@ -1,8 +1,10 @@
 //! The sockets of clients.
 
-ghost use Rattle.std.specs.Prelude.{◌≡◌, ◌<◌, true, length, IfSome};
+ghost use Rattle.std.specs.Prelude.{◌≡◌, ◌<◌, true, length, slice_index_or, Some, None, IfSome, OnErr};
 ghost use Rattle.nut_io.specs.Writes.{IsWithin};
 ghost use Rattle.nut_server_spec.specs.Acceptance.{may_read, session_of};
+ghost use Rattle.nut_server_sockets.specs.Seats.{HasBesides, TouchesOnly, number_at};
+ghost use Rattle.nut_server_sockets.specs.inside.Keys.{AreApart, AreNamed};
 
 use crate::client::{Client, PATIENCE};
 use crate::door::Guest;
@@ -55,6 +57,8 @@ pub struct Clients {
     second: u64,
     /// The last second in which no client can have been silent for too long.
     patient: u64,
+    ghost named: { AreNamed keys.items sockets },
+    ghost apart: { AreApart keys.items },
 }
 
 impl Clients {
@@ -82,7 +86,10 @@ impl Clients {
     ///
     /// The error of the registration. The socket is closed then. Memory isn't lacking: there is room for as many sockets as
     /// connections may be open.
-    pub fn add(&mut self, registry: &Registry, number: u64, guest: Guest) -> io::Result<()> {
+    pub fn add(&mut self, registry: &Registry, number: u64, guest: Guest) -> io::Result<()>
+        ensures seats { HasBesides (Some number) self.new.sockets self.old.sockets }
+        ensures err { OnErr result (HasBesides None self.new.sockets self.old.sockets) }
+    {
         let Guest {
             mut stream,
             address,
@@ -104,7 +111,8 @@ impl Clients {
 
     /// Returns the place of a connection in the list of keys.
     fn place(&self, number: u64) -> Option<usize>
-        ensures { IfSome result (λ place. place < length self.now.keys.items) }
+        ensures within { IfSome result (λ place. place < length self.now.keys.items) }
+        ensures number { IfSome result (λ place. (slice_index_or self.now.keys.items place (0, 0)).0 ≡ number) }
     {
         self.keys
             .as_slice()
@@ -113,7 +121,9 @@ impl Clients {
     }
 
     /// Returns the key of the socket of a connection. That of the socket that was read last is found without a search.
-    fn key(&self, number: u64) -> Option<usize> {
+    fn key(&self, number: u64) -> Option<usize>
+        ensures { IfSome result (λ key. number_at self.now.sockets key ≡ Some number) }
+    {
         if let Some(client) = self.sockets.get(self.last_heard)
             && client.number() == number
         {
@@ -125,7 +135,9 @@ impl Clients {
     /// Reads from a socket, if the server may read its connection. If not, that is put off until a write to it succeeds.
     /// Returns the number of the connection and what was heard, or `None` if it wasn't read.
     pub fn hear(&mut self, key: usize, server: &Server, piece: &mut Piece) -> Option<(u64, Heard)>
-        ensures { IfSome result (λ heard. may_read (session_of heard.0 server.now.sessions) ≡ true) }
+        ensures may { IfSome result (λ heard. may_read (session_of heard.0 server.now.sessions) ≡ true) }
+        ensures seat { IfSome result (λ heard. number_at self.new.sockets key ≡ Some heard.0) }
+        ensures seats { HasBesides None self.old.sockets self.new.sockets }
     {
         let client = self.sockets.get_mut(key)?;
         let number = client.number();
@@ -138,7 +150,9 @@ impl Clients {
     }
 
     /// Notes an event of a socket.
-    pub fn note(&mut self, key: usize, event: &Event) {
+    pub fn note(&mut self, key: usize, event: &Event)
+        ensures { HasBesides None self.old.sockets self.new.sockets }
+    {
         if let Some(client) = self.sockets.get_mut(key) {
             client.note(event);
         }
@@ -146,7 +160,8 @@ impl Clients {
 
     /// Offers bytes to a connection. Returns the outcome, and the key of its socket if it is then to be read again.
     pub fn offer(&mut self, number: u64, bytes: &[u8]) -> (Written, Option<usize>)
-        ensures { IsWithin result.0 (length bytes.now) }
+        ensures within { IsWithin result.0 (length bytes.now) }
+        ensures others { TouchesOnly number self.old.sockets self.new.sockets }
     {
         let Some(key) = self.key(number) else {
             return (Written::Failed, None);
@@ -161,7 +176,9 @@ impl Clients {
     }
 
     /// Counts a second that has passed.
-    pub fn second(&mut self) {
+    pub fn second(&mut self)
+        ensures { HasBesides None self.old.sockets self.new.sockets }
+    {
         self.second = self.second.saturating_add(1);
     }
 
@@ -171,7 +188,9 @@ impl Clients {
     }
 
     /// Returns a client that has been silent for longer than it may, if there is one.
-    pub fn find_silent(&mut self, server: &Server) -> Option<Silent> {
+    pub fn find_silent(&mut self, server: &Server) -> Option<Silent>
+        ensures { HasBesides None self.old.sockets self.new.sockets }
+    {
         let mut patient = u64::MAX;
         for (_, client) in self.sockets.iter() {
             let seconds = client.patience(server, self.second);
@@ -215,7 +234,9 @@ impl Clients {
     }
 
     /// Notes that the client of a connection is logged in.
-    pub fn note_login(&mut self, number: u64, login: Login) {
+    pub fn note_login(&mut self, number: u64, login: Login)
+        ensures { HasBesides None self.old.sockets self.new.sockets }
+    {
         if let Some(key) = self.key(number)
             && let Some(client) = self.sockets.get_mut(key)
             && let Ok(key) = self.logins.insert(login)
@@ -225,14 +246,18 @@ impl Clients {
     }
 
     /// Returns the login of the client of a connection, if it had one, which has ended.
-    pub fn end_login(&mut self, number: u64) -> Option<Login> {
+    pub fn end_login(&mut self, number: u64) -> Option<Login>
+        ensures { HasBesides None self.old.sockets self.new.sockets }
+    {
         let key = self.key(number)?;
         let login = self.sockets.get_mut(key)?.end_login()?;
         self.logins.try_remove(login)
     }
 
     /// Closes the socket of a connection, and forgets what is held of its client. Returns the login of that, if it has one.
-    pub fn close(&mut self, number: u64) -> Option<Login> {
+    pub fn close(&mut self, number: u64) -> Option<Login>
+        ensures { HasBesides (Some number) self.old.sockets self.new.sockets }
+    {
         let place = self.place(number)?;
         let (_, key) = self.keys.remove(place);
         let mut client = self.sockets.try_remove(key)?;

@@ -9,6 +9,7 @@ ghost use Rattle.nut_poll.specs.Queue.{Looks, TakesTurns, all_joined, reported};
 ghost use Rattle.nut_server_loop.specs.Record.{MayCome};
 ghost use Rattle.nut_server_loop.specs.declared.types.Next.TheVariants as next;
 ghost use Rattle.nut_server_sockets.specs.declared.source.Source.TheVariants as source;
+ghost use Rattle.nut_server_sockets.specs.Seats.{TouchesOnly};
 ghost use Rattle.nut_server_sockets.specs.Turns.{Comes, ComesInTurn, IsGivenBy, token_of};
 ghost use Rattle.nut_server_spec.specs.Content.{Content};
 
@@ -118,7 +119,7 @@ impl Sockets {
     ) -> io::Result<Next>
         ensures may { IfOk result (λ n. MayCome n server.now) }
         ensures goes_on { IfOk result (λ n. n ≢ next.End) }
-        ensures turns { IfOk result (λ n. ComesInTurn n self.old.rounds self.new.rounds) }
+        ensures turns { IfOk result (λ n. ComesInTurn self.new.clients.sockets n self.old.rounds self.new.rounds) }
         ensures kept { OnErr result (TakesTurns self.old.rounds.ready self.new.rounds.ready) }
     {
         if let Some(number) = self.unkept.take() {
@@ -221,6 +222,7 @@ impl Sockets {
     pub fn offer(&mut self, number: u64, bytes: &[u8]) -> Written
         ensures within { IsWithin result (length bytes.now) }
         ensures turns { Comes self.old.rounds self.new.rounds }
+        ensures others { TouchesOnly number self.old.clients.sockets self.new.clients.sockets }
     {
         let (written, resumed) = self.clients.offer(number, bytes);
         if let Some(key) = resumed {
@@ -267,7 +269,7 @@ impl Sockets {
     ) -> Option<Next>
         ensures may { IfSome result (λ n. MayCome n server.now) }
         ensures goes_on { IfSome result (λ n. n ≢ next.End) }
-        ensures turns { ComesInTurn (unwrap_or result next.Again) self.old.rounds self.new.rounds }
+        ensures turns { ComesInTurn self.new.clients.sockets (unwrap_or result next.Again) self.old.rounds self.new.rounds }
     {
         if self.rounds.ready.is_round_over() && !self.stall.is_on() {
             return None;
@@ -286,7 +288,7 @@ impl Sockets {
     ) -> Option<Next>
         ensures may { IfSome result (λ n. MayCome n server.now) }
         ensures goes_on { IfSome result (λ n. n ≢ next.End) }
-        ensures turns { ComesInTurn (unwrap_or result next.Again) self.old.rounds self.new.rounds }
+        ensures turns { ComesInTurn self.new.clients.sockets (unwrap_or result next.Again) self.old.rounds self.new.rounds }
     {
         self.end_stall();
         for _ in 0..SOCKETS_MAX {
@@ -309,7 +311,7 @@ impl Sockets {
     ) -> Option<Next>
         ensures may { IfSome result (λ n. MayCome n server.now) }
         ensures goes_on { IfSome result (λ n. n ≢ next.End) }
-        ensures given { IfSome result (λ n. IsGivenBy token.0 n) }
+        ensures given { IfSome result (λ n. IsGivenBy self.new.clients.sockets token.0 n) }
         ensures turns { Comes self.old.rounds self.new.rounds }
     {
         match Source::of(token) {
@@ -330,7 +332,7 @@ impl Sockets {
     ) -> Option<Next>
         ensures may { (s : Content) → IfSome result (λ n. MayCome n s) }
         ensures goes_on { IfSome result (λ n. n ≢ next.End) }
-        ensures given { IfSome result (λ n. IsGivenBy (token_of (source.Driver u)) n) }
+        ensures given { IfSome result (λ n. IsGivenBy self.new.clients.sockets (token_of (source.Driver u)) n) }
         ensures turns { Comes self.old.rounds self.new.rounds }
     {
         let driver = self.drivers.get_mut(u)?;
@@ -370,7 +372,7 @@ impl Sockets {
     ) -> Option<Next>
         ensures may { IfSome result (λ n. MayCome n server.now) }
         ensures goes_on { IfSome result (λ n. n ≢ next.End) }
-        ensures given { IfSome result (λ n. IsGivenBy (token_of (source.Client key)) n) }
+        ensures given { IfSome result (λ n. IsGivenBy self.new.clients.sockets (token_of (source.Client key)) n) }
         ensures turns { Comes self.old.rounds self.new.rounds }
     {
         let token = Source::Client(key).token();

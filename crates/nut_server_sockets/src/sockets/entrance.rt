@@ -74,7 +74,7 @@ impl Sockets {
         ensures may { IfSome result (λ n. MayCome n server.now) }
         ensures goes_on { IfSome result (λ n. n ≢ next.End) }
         ensures none { IfSome result (λ n. (is_piece n ≡ false) × (moment_of n ≡ None)) }
-        ensures given { IfSome result (λ n. (token : ℕ) → IsGivenBy token n) }
+        ensures given { IfSome result (λ n. (token : ℕ) → IsGivenBy self.new.clients.sockets token n) }
         ensures turns { self.new.rounds ≡ self.old.rounds }
     {
         if !self.door.has_guest() {
@@ -95,7 +95,7 @@ impl Sockets {
         ensures may { IfSome result (λ n. MayCome n server.now) }
         ensures goes_on { IfSome result (λ n. n ≢ next.End) }
         ensures none { IfSome result (λ n. (is_piece n ≡ false) × (moment_of n ≡ None)) }
-        ensures given { IfSome result (λ n. (token : ℕ) → IsGivenBy token n) }
+        ensures given { IfSome result (λ n. (token : ℕ) → IsGivenBy self.new.clients.sockets token n) }
         ensures turns { self.new.rounds ≡ self.old.rounds }
     {
         if let Some(number) = self.clients.makes_way(server) {
@@ -132,7 +132,7 @@ impl Sockets {
     ) -> Option<Next>
         ensures may { IfSome result (λ n. MayCome n server.now) }
         ensures goes_on { IfSome result (λ n. n ≢ next.End) }
-        ensures given { IfSome result (λ n. (token : ℕ) → IsGivenBy token n) }
+        ensures given { IfSome result (λ n. (token : ℕ) → IsGivenBy self.new.clients.sockets token n) }
         ensures turns { Comes self.old.rounds self.new.rounds }
     {
         match self.door.let_in(i) {

@@ -7,7 +7,7 @@ returns-in-Some-clause-turns g c =
     let before = c.loop.invariant.0 in
     let token = c.in_ok-token.token in
     let came = c.look_at.ensures.turns in
-    found_last c.in-Some.next before.0 token.0 c.args.self.now.rounds c.look_at.new.self.rounds
+    found_last c.look_at.new.self.clients.sockets c.in-Some.next before.0 token.0 c.args.self.now.rounds c.look_at.new.self.rounds
     (look_more before.0 token c.args.self.now.rounds.ready c.loop.self.rounds.ready c.take.new.self c.look_at.new.self.rounds.ready
     before.1 c.in_ok-token.ensures.taken came.0)
     (came.1 ∙ c.loop.invariant.1) c.in-Some.ensures.given
