@@ -1,3 +1,4 @@
 mod Lines
+mod Bounds
 pub mod Acted
 pub mod Coursing

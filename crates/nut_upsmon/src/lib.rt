@@ -38,5 +38,5 @@ pub use guarded_world::GuardedWorld;
 pub use halt::HaltFault;
 pub use monitor::run_upsmon;
 pub use power_down_flag::FlagFault;
-pub use stopping::{Stopping, stops_within};
+pub use stopping::{Stopping, machines_stop_within, stops_within};
 pub use watching::watch_in_turn;

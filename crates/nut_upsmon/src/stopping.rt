@@ -4,9 +4,10 @@ ghost use Rattle.std.specs.Prelude.{◌≡◌, ◌<◌, ◌^◌};
 ghost use Rattle.std.specs.List.{list_any};
 ghost use Rattle.nut_monitor_spec.specs.Configuration.{configuration_of, line_of};
 ghost use Rattle.nut_in_time.specs.InTime.{seen_by, to_halted};
-ghost use Rattle.nut_upsmon.specs.Stopping.{begins_within, bound, is_led, prompt, stops_within as seconds_of};
+ghost use Rattle.nut_upsmon.specs.Stopping.{StopsWithin, begins_within, bound, is_led, prompt, stops_within as seconds_of};
 
 use nut_conf::{MonConfig, Monitored, Role};
+use nut_in_time::machines_stop_as_told;
 use nut_log::{Level, Lines};
 use nut_monitor::has_primary;
 use nut_monitor_sockets::ANSWER_ON_BATTERY;
@@ -81,6 +82,16 @@ pub fn stops_within(config: &MonConfig, delay: u32) -> Option<u64>
         return None;
     }
     Some(seconds_within(config, delay))
+}
+
+/// States a law and does nothing when called: a machine is halted within the seconds of [`stops_within`]. Suppose each
+/// answer comes within that delay, and the clock skips no second. Each status of some UPSes has OB and LB, until the
+/// shutdown has begun. These UPSes feed the machine, and it has too little without them. Then it is in Halted once those
+/// seconds have passed since the first such status could be asked for.
+pub fn machines_stop_within()
+    ensures { StopsWithin }
+{
+    machines_stop_as_told();
 }
 
 /// Returns the seconds of [`stops_within`] for a delay that upsmon waits for.
