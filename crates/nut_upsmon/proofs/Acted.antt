@@ -14,6 +14,16 @@ use Rattle.nut_upsmon.specs.inside.Ready.{IsReady}
 pub clears_first : (act : Act) (acts : List Act) → ClearsFirst acts → ClearsFirst (act ∷ acts)
 clears_first act acts is = (is.0, act ∷ is.1, ap (λ l. act ∷ l) is.2)
 
+-- a flag that was left was removed, before all else
+pub cleared : (log log' log'' : Option (List Act)) (config : MonConfig) → IfSome log (λ acts. acts ≡ []) → log' ≡ does (ClearedFlag (halt_of config).flag) log
+    → log'' ≡ log' → IfSome log'' (λ acts. acts ≡ ClearedFlag (halt_of config).flag ∷ [])
+cleared None log' log'' config none clears same =
+    subst (λ o. IfSome o (λ acts. acts ≡ ClearedFlag (halt_of config).flag ∷ [])) (sym same)
+    (subst (λ o. IfSome o (λ acts. acts ≡ ClearedFlag (halt_of config).flag ∷ [])) (sym clears) tt)
+cleared (Some acts) log' log'' config none clears same =
+    subst (λ o. IfSome o (λ acts. acts ≡ ClearedFlag (halt_of config).flag ∷ [])) (sym same)
+    (subst (λ o. IfSome o (λ acts. acts ≡ ClearedFlag (halt_of config).flag ∷ [])) (sym clears) (ap (λ l. ClearedFlag (halt_of config).flag ∷ l) none))
+
 -- what is done before the first watch
 pub begun : (log log' : Option (List Act)) (config : MonConfig) → IfSome log (λ acts. acts ≡ ClearedFlag (halt_of config).flag ∷ [])
     → log' ≡ does Changed (does (Readied (halt_of config)) log)

@@ -1,3 +1,4 @@
+use Rattle.nut_upsmon.specs.inside.Running.{Fails}
 use Rattle.nut_upsmon.proofs.Coursing.{fails, fails_at_once, leads, on_err, same_ready}
 use Rattle.nut_upsmon.proofs.watching.watch_once.Goals as goal
 
@@ -19,9 +20,11 @@ returns-clause-ready g c = λ ready.
     (same_ready _ _ _ _ c.args.beginning.monitor.config c.begin.ensures.acts c.begin.ensures.upcoming ready)
 
 pub returns-in_err-begin-clause-err : goal.returns-in_err-begin-clause-err
-returns-in_err-begin-clause-err g c = on_err _ (λ at_next.
-    fails_at_once g.W.MonWorld.did g.W.GuardedWorld.turns c.args.beginning.monitor.config c.args.world.now c.begin.new.self c.begin.ensures.turns
-    (g.met.W.MonWorld.did_self c.args.beginning.monitor.config c.begin.new.self))
+returns-in_err-begin-clause-err g c =
+    let config = c.args.beginning.monitor.config in
+    let failed : g.W.MonWorld.failed_at_next c.begin.new.self → Fails g.W.MonWorld.did g.W.GuardedWorld.turns config c.args.world.now c.begin.new.self = λ at_next.
+        fails_at_once g.W.MonWorld.did g.W.GuardedWorld.turns config c.args.world.now c.begin.new.self c.begin.ensures.turns (g.met.W.MonWorld.did_self config c.begin.new.self) in
+    on_err _ failed
 
 pub returns-in_err-begin-clause-ready : goal.returns-in_err-begin-clause-ready
 returns-in_err-begin-clause-ready g c = λ ready. same_ready _ _ _ _ c.args.beginning.monitor.config c.begin.ensures.acts c.begin.ensures.upcoming ready
