@@ -21,7 +21,7 @@ REPORTS = {
         "nut_server_sockets/report", "nut_server_sockets/deed_report", "nut_upsd/report", "nut_upsd/upsd_fault", "nut_program/reload_report",
         "nut_program/warning",
     ),
-    "dummy-ups": ("nut_dummy_ups/dummy", "nut_dummy_ups/dummy_driver", "nut_dummy_ups/listen_fault"),
+    "dummy-ups": ("nut_dummy_ups/dummy", "nut_dummy_ups/dummy_driver", "nut_dummy_ups/listen_fault", "nut_program/conf_file"),
 }
 
 # The list of texts with numbers, and of the constants that these are.

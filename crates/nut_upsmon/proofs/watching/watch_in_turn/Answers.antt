@@ -16,8 +16,8 @@ loop-init g c =
 pub returns-in_err-flag-clause-failed : goal.returns-in_err-flag-clause-failed
 returns-in_err-flag-clause-failed g c =
     let failed : g.W.MonWorld.failed_at_next c.watch_once.new.world → EndsInFault g.W.MonWorld.did g.W.GuardedWorld.turns c.args.world.now c.watch_once.new.world = λ at_next.
-        faults g.W.MonWorld.did g.W.GuardedWorld.turns g.met.W.GuardedWorld.turns_on g.met.W.GuardedWorld.turns_self g.W.GuardedWorld.acts g.W.GuardedWorld.upcoming
-        c.args.world.now c.loop.world c.watch_once.new.world c.loop.beginning.monitor.config c.loop.invariant.running (c.in_err-flag.ensures.err at_next) in
+    faults g.W.MonWorld.did g.W.GuardedWorld.turns g.met.W.GuardedWorld.turns_on g.met.W.GuardedWorld.turns_self g.W.GuardedWorld.acts g.W.GuardedWorld.upcoming
+    c.args.world.now c.loop.world c.watch_once.new.world c.loop.beginning.monitor.config c.loop.invariant.running (c.in_err-flag.ensures.err at_next) in
     on_err _ failed
 
 pub returns-in-Halted-clause-halted : goal.returns-in-Halted-clause-halted

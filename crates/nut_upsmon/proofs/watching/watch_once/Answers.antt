@@ -23,7 +23,7 @@ pub returns-in_err-begin-clause-err : goal.returns-in_err-begin-clause-err
 returns-in_err-begin-clause-err g c =
     let config = c.args.beginning.monitor.config in
     let failed : g.W.MonWorld.failed_at_next c.begin.new.self → Fails g.W.MonWorld.did g.W.GuardedWorld.turns config c.args.world.now c.begin.new.self = λ at_next.
-        fails_at_once g.W.MonWorld.did g.W.GuardedWorld.turns config c.args.world.now c.begin.new.self c.begin.ensures.turns (g.met.W.MonWorld.did_self config c.begin.new.self) in
+    fails_at_once g.W.MonWorld.did g.W.GuardedWorld.turns config c.args.world.now c.begin.new.self c.begin.ensures.turns (g.met.W.MonWorld.did_self config c.begin.new.self) in
     on_err _ failed
 
 pub returns-in_err-begin-clause-ready : goal.returns-in_err-begin-clause-ready
