@@ -119,11 +119,11 @@ fn play<'a, E: Lines>(
     socket: &'a str,
     err: &mut E,
 ) -> Result<(), Failure<DummyUpsFault<'a>>> {
-    // no socket takes the place of a standard stream that is closed
-    let _held = hold_closed_streams(rt, alloc)?;
     let Ok(dummy) = Dummy::new(alloc, read_script(rt, alloc, file)?, 0) else {
         return Err(Failure::Memory);
     };
+    // no socket takes the place of a standard stream that is closed
+    let (_held, dummy) = paired(hold_closed_streams(rt, alloc), dummy)?;
     let (listener, dummy) = paired(listen(rt, alloc, socket), dummy)?;
     Ok(tell(rt, alloc, listener, dummy, err)?)
 }
