@@ -38,8 +38,14 @@ fn target(config: &MonConfig, notice: Notice) -> Option<&[u8]>
     if let Kind::Shutdown = notice.kind {
         return None;
     }
+    let Some(line) = notice.line else {
+        return None;
+    };
     let monitors = &config.monitors;
-    Some(monitors.lines.get(notice.line?)?.written.as_slice())
+    match monitors.lines.get(line) {
+        Some(monitor) => Some(monitor.written.as_slice()),
+        None => None,
+    }
 }
 
 /// Appends a text with its first `%s` replaced, if there is a target. On an error a part of it may have been appended.

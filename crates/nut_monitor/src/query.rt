@@ -138,7 +138,9 @@ pub fn next_query(
     if let Some(query) = opening(line, last) {
         return Some(query);
     }
-    let query = wanted(phase, is_primary(line), forced)?;
+    let Some(query) = wanted(phase, is_primary(line), forced) else {
+        return None;
+    };
     if is_early(config, clock, query, last) {
         return None;
     }

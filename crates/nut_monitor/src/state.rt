@@ -1,5 +1,5 @@
 //! What a monitor knows and has decided, and how events change it.
-ghost use Rattle.std.specs.Prelude.{◌≡◌, ◌≤◌, ◌<◌, ◌+◌, ◌++◌, [], Some, IfOk, MatchResult, is_none, length, map};
+ghost use Rattle.std.specs.Prelude.{◌≡◌, ◌≤◌, ◌<◌, ◌+◌, ◌++◌, [], Some, IfOk, OnOk, MatchResult, is_none, length, map};
 ghost use Rattle.std.specs.Option.{option_map};
 ghost use Rattle.nut_monitor_spec.specs.Acceptance.{answer_on, is_linked, waiting_on, watch_at};
 ghost use Rattle.nut_monitor_spec.specs.Configuration.{Configuration, configuration_of};
@@ -37,7 +37,25 @@ pub struct State {
 fn unlinked(alloc: Global, lines: &[Monitored]) -> Result<Vec<MonitorLine>, AllocError>
     ensures { IfOk result (λ ws. ws.items ≡ map (λ line. unwatched) lines.now) }
 {
-    lines.iter().map(|_| MonitorLine::new()).collect(alloc)
+    let mut watches = Vec::new(alloc);
+    match put_unlinked(lines, &mut watches) {
+        Ok(()) => Ok(watches),
+        Err(error) => {
+            // dropped by a call, which keeps the proof of this function short
+            drop(watches);
+            Err(error)
+        }
+    }
+}
+
+/// Appends a line without a link for each MONITOR line.
+fn put_unlinked(lines: &[Monitored], watches: &mut Vec<MonitorLine>) -> Result<(), AllocError>
+    ensures { OnOk result (watches.new.items ≡ watches.old.items ++ map (λ line. unwatched) lines.now) }
+{
+    for _ in lines {
+        watches.push(MonitorLine::new())?;
+    }
+    Ok(())
 }
 
 /// Whether a link failed because memory could not be allocated.
