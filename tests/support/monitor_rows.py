@@ -343,9 +343,9 @@ link 0 takes PRIMARY su700
 > bytes 0 OK
 link 0 takes GET VAR su700 ups.status
 > bytes 0 VAR su700 ups.status "OB LB"
-link 0 takes FSD su700
 told Onbatt 0 UPS su700@localhost on battery
 told Lowbatt 0 UPS su700@localhost battery is low
+link 0 takes FSD su700
 > bytes 0 OK FSD-SET
 link 0 takes GET NUMLOGINS su700
 > bytes 0 NUMLOGINS su700 1
