@@ -29,7 +29,7 @@ LEFT_OUT = {
 # What stands for some relation: a call says that it holds, another that it goes on, and what follows from it stands beside it.
 OPAQUE = {("nut_play", "Room", "HasPlayed")}
 # The beginning of a law's comment; laws of the values of constants, which the last section has, don't count.
-STATES = re.compile(r"/// States (a law|laws) and(?!.* values? of the limits? )")
+STATES = re.compile(r"States? (?:a law|laws) and does nothing when called(?!.* values? of the limits? )[:,.]? ?")
 # The crates each of whose laws has to be in a section or above.
 CRATES_OF_LAWS = "nut_server_spec nut_monitor_spec nut_conf nut_client nut_dummy nut_fleet nut_running nut_in_time nut_play nut_server_loop".split()
 

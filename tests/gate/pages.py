@@ -14,7 +14,7 @@ import re
 import subprocess
 import sys
 
-from tests.gate.believe import LEFT_OUT
+from tests.gate.believe import LEFT_OUT, STATES
 from tests.gate.definitions import Library, crates, files_of, read
 from tests.support.harness import ROOT, ensure, expect, run_tests, write
 from tests.support.manual import numbers
@@ -51,12 +51,10 @@ class Law:
     """A law of a crate: its name, and what its comment says."""
 
     HEAD = re.compile(r"((?:^[ ]*///.*\n)+)^[ ]*pub fn (\w+)", re.M)
-    # what each comment begins with
-    STATES = re.compile(r"States? (?:a law|laws) and does nothing when called(?!.* values? of the limits? )[:,.]? ?")
 
     def __init__(self, name, text):
         self.name = name
-        text = self.STATES.sub("", text, count=1)
+        text = STATES.sub("", text, count=1)
         text = re.sub(r"\[(`[^`]*`)\](?:\([^)]*\))?", r"\1", text)
         self.text = text[0].upper() + text[1:]
 
@@ -67,7 +65,7 @@ class Law:
         for path in files_of(os.path.join(ROOT, "crates", crate, "src"), ".rt"):
             for comment, name in cls.HEAD.findall(read(path)):
                 text = " ".join(" ".join(line.strip()[3:] for line in comment.splitlines()).split())
-                if cls.STATES.match(text) and name not in LEFT_OUT.get(crate, ()):
+                if STATES.match(text) and name not in LEFT_OUT.get(crate, ()):
                     found.append(cls(name, text))
         return found
 
