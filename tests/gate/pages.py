@@ -38,8 +38,8 @@ LAWS = re.compile(r"(?<=<!-- laws -->\n).*?(?=<!-- end of laws -->)", re.S)
 
 # Where code that pages name is: folders, and the endings of files there.
 SOURCES = (
-    ("crates/*/src", ".rt"), ("crates/*/specs", ".antt"), ("tests", ".py"), ("tests", ".c"), ("bench", ".py"), ("packaging", ""),
-    ("tools", ""), ("man", ""), ("examples", ""),
+    ("crates/*/src", ".rt"), ("crates/*/specs", ".antt"), ("tests", ".py"), ("tests", ".c"), ("tests/support", ".txt"),
+    ("bench", ".py"), ("packaging", ""), ("tools", ""), ("man", ""), ("examples", ""),
 )
 COMMENT = re.compile(r"^\s*(//|--).*$", re.M)
 

@@ -9,8 +9,8 @@ had been lost instead of the rest of the piece. That the loop does so in every w
 import re
 import sys
 
-from tests.support.harness import ensure, expect, play
-from tests.support.monitor_rows import LOOP, MEMORY_RUNS, PRIMARY, RUNS, Starved, check_run, steps_of
+from tests.support.harness import ensure, expect, play, table
+from tests.support.monitor_rows import MEMORY_RUNS, PRIMARY, RUNS, Starved, check_run, steps_of
 from tests.support.player import places
 from tests.support.stage import StageTests
 
@@ -103,7 +103,7 @@ class Tests(StageTests):
 
     def test_the_loop(self):
         # the bytes of a link and of its server end a line
-        lines = [line + "%0A" if TAKES.match(line) else line for line in LOOP.splitlines()]
+        lines = [line + "%0A" if TAKES.match(line) else line for line in table("monitor_loop.txt")]
         steps = [*((f"watch {line[2:]}",) for line in lines if line[:2] in ("> ", "- ")), ("watch run", PRIMARY)]
         found = self.stage.play(steps)[len(steps) - 1 :]
         expect([line.decode() for line in found], [line for line in lines if line[:2] != "- "], "what happens")

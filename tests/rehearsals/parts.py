@@ -6,53 +6,16 @@ of a client, and the loop of a server over arrivals in memory.
 import random
 import sys
 
-from tests.support.harness import ensure, expect, fewer, play
+from tests.support.harness import ensure, expect, fewer, play, spelled, table
 from tests.support.model import words_of
 from tests.support.player import escaped
 from tests.support.request_rows import FORMS, LINK_ROWS, SHORTER_FORMS
 from tests.support.stage import StageTests
 
-THIRTY_TWO = b" ".join([b"a"] * 32)
-
-# lines, and the words that each spells
+# lines, and the words that each spells, or its fault
 LINES = [
-    (b"", []),
-    (b" \t\r", []),
-    (b"# no word", []),
-    (b'a=b "" # c', [b"a", b"=", b"b", b""]),
-    (b"foo=bar", [b"foo", b"=", b"bar"]),
-    (b"a\\ b", [b"a b"]),
-    (b'"a#b"', [b"a#b"]),
-    (b'"a\\#b"', [b"a#b"]),
-    (b"a#b", [b"a"]),
-    (b"a # tab\tand return\r", [b"a"]),
-    (b" a\tb\r", [b"a", b"b"]),
-    (b'\\"a\\" \\\\', [b'"a"', b"\\"]),
-    (b'"a"="b c"#d', [b"a", b"=", b"b c"]),
-    (b"==", [b"=", b"="]),
-    (THIRTY_TWO, [b"a"] * 32),
-]
-
-# lines that spell no words, and the fault
-FAULTS = [
-    (b"a\x01", "BadByte"),
-    (b"a\x80", "BadByte"),
-    (b'"\xff"', "BadByte"),
-    (b"# \x7f", "BadByte"),
-    (b'"a\tb"', "BadByte"),
-    (b'"a\rb"', "BadByte"),
-    (b"a\\\t", "BadByte"),
-    (b'"a', "OpenQuote"),
-    (b'a="', "OpenQuote"),
-    (b"a\\", "LoneBackslash"),
-    (b'"a\\', "LoneBackslash"),
-    (b'a"b', "QuoteInWord"),
-    (b'"a"b', "AfterQuote"),
-    (b'"a""b"', "AfterQuote"),
-    (b'"a"\\', "AfterQuote"),
-    (THIRTY_TWO + b" a", "TooManyWords"),
-    (b'a"b \x80', "QuoteInWord"),
-    (b'\x80 a"b', "BadByte"),
+    (spelled(line).encode("latin-1"), spelled(what).removeprefix("nothing").encode())
+    for what, line in (row.split(" <= ") for row in table("word_rows.txt"))
 ]
 
 # the queries that begin with two command words
@@ -90,19 +53,19 @@ class Tests(StageTests):
         return [("words split", line) for line in lines]
 
     def test_words_of_lines(self):
-        rows = [(line, shown_words(words)) for line, words in LINES] + [(line, fault.encode()) for line, fault in FAULTS]
-        for (line, wanted), it in zip(rows, self.stage.play(self.split(line for line, _ in rows))):
+        for (line, wanted), it in zip(LINES, self.stage.play(self.split(line for line, _ in LINES))):
             expect(it, wanted, f"the words of {line!r}, or its fault")
 
     def test_copied_words_with_each_allocation_refused(self):
-        steps = self.split(line for line, _ in LINES)
+        lines = [line for line, wanted in LINES if not wanted.isalpha()]
+        steps = self.split(lines)
         whole = self.stage.play(steps)
         seen = set()
-        for at, lines, is_whole in self.stage.refused_in_turn(steps):
-            changed = [place for place, (one, other) in enumerate(zip(lines, whole)) if one != other]
-            ensure(len(changed) <= 1 and all(lines[place] == b"Memory" for place in changed), f"allocation {at}: {lines}")
+        for at, found, is_whole in self.stage.refused_in_turn(steps):
+            changed = [place for place, (one, other) in enumerate(zip(found, whole)) if one != other]
+            ensure(len(changed) <= 1 and all(found[place] == b"Memory" for place in changed), f"allocation {at}: {found}")
             seen.update(changed)
-        expect(seen, {at for at, (line, _) in enumerate(LINES) if b"\\" in line}, "lines for which memory was refused")
+        expect(seen, {at for at, line in enumerate(lines) if b"\\" in line}, "lines for which memory was refused")
 
     def test_10000_lines_without_sense(self):
         chance = random.Random(14)

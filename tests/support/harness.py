@@ -9,6 +9,7 @@ import fcntl
 import functools
 import itertools
 import os
+import re
 import resource
 import shutil
 import subprocess
@@ -38,6 +39,18 @@ def read_bytes(path):
 def read(path):
     """Returns the text of a file."""
     return read_bytes(path).decode(errors="replace")
+
+
+def table(name):
+    """Returns the lines of a table in a file here, without its comments, which begin with '--'."""
+    return [line for line in read(os.path.join(HERE, name)).splitlines() if not line.startswith("--")]
+
+
+def spelled(text):
+    """Returns what a table means by a text. Backslashes are those of Python; {COUNT*PART} repeats a part, in which %d is its number from
+    0 on."""
+    repeated = lambda found: "".join(found[2].replace("%d", str(number)) for number in range(int(found[1])))
+    return re.sub(r"\{(\d+)\*([^}]*)\}", repeated, text.encode().decode("unicode_escape"))
 
 
 def write(path, data, mode=None):

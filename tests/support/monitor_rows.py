@@ -326,32 +326,3 @@ MEMORY_RUNS = [
 
 # all runs but those in which memory is refused
 RUNS = [*REFUSAL_RUNS, *COMMUNICATION_RUNS, *STATUS_RUNS, *LINE_RUNS, *PRIMARY_RUNS, *FORCING_RUNS, *SECONDARY_RUNS]
-
-
-# What happens in a loop of a monitor with the file PRIMARY, a line each. One that begins with '>' is an event that is given; one with
-# '-' an event that isn't asked for any more. The bytes of the link and of its server are followed by a line feed.
-LOOP = """\
-> moment 0
-> linked 0
-link 0 takes USERNAME mon
-> bytes 0 OK
-link 0 takes PASSWORD m1
-> bytes 0 OK
-link 0 takes LOGIN su700
-> bytes 0 OK
-link 0 takes PRIMARY su700
-> bytes 0 OK
-link 0 takes GET VAR su700 ups.status
-> bytes 0 VAR su700 ups.status "OB LB"
-told Onbatt 0 UPS su700@localhost on battery
-told Lowbatt 0 UPS su700@localhost battery is low
-link 0 takes FSD su700
-> bytes 0 OK FSD-SET
-link 0 takes GET NUMLOGINS su700
-> bytes 0 NUMLOGINS su700 1
-told Shutdown - Auto logout and shutdown proceeding
-> moment 4
-> moment 5
-= Halted { flag: true }
-- moment 16
-- moment 21"""
