@@ -53,6 +53,7 @@ TESTS = (
     ("programs.journal", ("upsd", "dummy_ups", "upsc", "upsmon")),
     ("programs.nutsim", ("nutsim",)),
     ("programs.nutroom", ("nutsim",)),
+    ("programs.recorded_room", ("upsd", "dummy_ups", "upsmon", "nutsim")),
     ("programs.install", ("upsd", "dummy_ups", "upsc", "upsrw", "upscmd", "upsmon", "nutsim")),
     ("programs.from_nut", ("upsd", "dummy_ups", "upsc", "upsrw", "upscmd", "upsmon")),
     ("programs.packages", ("upsd", "dummy_ups", "upsc", "upsrw", "upscmd", "upsmon", "nutsim")),
