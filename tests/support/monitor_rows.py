@@ -3,7 +3,7 @@
 import re
 
 from tests.support import manual
-from tests.support.harness import Failed, expect
+from tests.support.harness import Failed, expect, spelled, table
 from tests.support.player import escaped
 
 
@@ -140,189 +140,47 @@ def steps_of(run):
     return [check.step for check in run.checks]
 
 
+def bytes_of(text):
+    return spelled(text).encode("latin-1")
+
+
+def event_of(text):
+    """Returns the verb and the words of an event."""
+    verb, *words = text.split(" ", 2)
+    return verb, *(bytes_of(it) if verb == "bytes" and at else int(it) for at, it in enumerate(words))
+
+
+def step_of(text):
+    """Returns the step of a run that a row spells."""
+    verb, _, rest = text.partition(" ")
+    first, _, line = rest.partition(" ")
+    if verb in ("refused", "starved"):
+        event = event_of(line)
+        return refuse(first[:-1], *event) if verb == "refused" else starved(None if first == "-:" else int(first[:-1]), *event)
+    if verb == "phase":
+        return phase(rest)
+    if verb == "tells":
+        return tells(*(notice(it.partition("@")[0], None if it == "SHUTDOWN" else int(it.partition("@")[2] or 0)) for it in rest.split()))
+    if verb in ("up", "down"):
+        return links(int(first), verb == "up")
+    if verb == "ask":
+        query, answer = (bytes_of(it) + b"\n" for it in line.split(" -> "))
+        return ask(int(first), query, answer)
+    if verb in ("waits", "status"):
+        return (waits if verb == "waits" else status)(int(first), bytes_of(line))
+    return opens(int(first)) if verb == "opens" else tell(*event_of(text))
+
+
+def runs():
+    """Returns the runs of monitor_runs.txt."""
+    rows = "\n".join(table("monitor_runs.txt")).removeprefix("== ").split("\n== ")
+    for heading, steps in (row.split("\n", 1) for row in rows):
+        name, file = heading.split(" | ")
+        yield Run(name, bytes_of(file), *(step_of(step) for line in steps.splitlines() for step in line.split("; ")))
+
+
 PRIMARY = b"MONITOR su700@localhost 1 mon m1 primary\n"
-SECONDARY = b"MONITOR su700@localhost 1 mon m1 secondary\n"
-SECONDARIES = b"MONITOR su700@localhost 1 mon m1 secondary\nMONITOR su900@localhost 1 mon m1 secondary\n"
-STATUS = b"GET VAR su700 ups.status\n"
-FSD = b"FSD su700\n"
-COUNT = b"GET NUMLOGINS su700\n"
-START = tell("moment", 0)
-SILENT = tells()
-FORCED = ask(0, FSD, b"OK FSD-SET\n")
-STALE = ask(0, STATUS, b"ERR DATA-STALE\n")
-ONLINE, ONBATT, LOWBATT, FORCES = map(notice, ("ONLINE", "ONBATT", "LOWBATT", "FSD"))
-COMMOK, COMMBAD, REPLBATT, NOCOMM = map(notice, ("COMMOK", "COMMBAD", "REPLBATT", "NOCOMM"))
-SHUTDOWN = notice("SHUTDOWN", None)
-LONG = b"A" * 513
-WHOLE = b"A" * 512
-WHOLE_LINE = [tell("bytes", 0, WHOLE)] * 4
-PATIENT = b"MONITOR su700@localhost 1 mon m1 secondary\nNOCOMMWARNTIME 1000000\n"
-OTHER_NOCOMM = notice("NOCOMM", 1)
-PRIMARIES = b"MONITOR su700@localhost 1 mon m1 primary\nMONITOR su900@localhost 1 mon m1 primary\n"
-HALTED = phase("Halted { flag: true }")
-COUNTS_1 = ask(0, COUNT, b"NUMLOGINS su700 1\n")
-COUNTS_2 = ask(0, COUNT, b"NUMLOGINS su700 2\n")
-OTHER_LOW = [notice("ONBATT", 1), notice("LOWBATT", 1)]
-
-REFUSAL_RUNS = [
-    Run("no such line", PRIMARY,
-        refuse("NoSuchLink", "linked", 1), refuse("NoSuchLink", "lost", 1), refuse("NoSuchLink", "took", 1, 1),
-        refuse("NoSuchLink", "bytes", 1, LONG), links(1, False), waits(1, b"")),
-    Run("no link", PRIMARY,
-        refuse("WrongLinkState", "lost", 0), refuse("WrongLinkState", "took", 0, 1), refuse("WrongLinkState", "bytes", 0, LONG),
-        tell("linked", 0), refuse("WrongLinkState", "linked", 0), ask(0, b"USERNAME mon\n", b"OK\n"), waits(0, b"PASSWORD m1\n")),
-    Run("too long, and too much", PRIMARY,
-        tell("linked", 0), refuse("TooMuchTaken", "took", 0, 14), refuse("PieceTooLong", "bytes", 0, LONG), waits(0, b"USERNAME mon\n"),
-        tell("took", 0, 12), refuse("TooMuchTaken", "took", 0, 2), waits(0, b"\n"), tell("took", 0, 1), *WHOLE_LINE, links(0, True),
-        tell("bytes", 0, b"\n"), links(0, False)),
-    Run("busy", PRIMARY,
-        START, opens(0), status(0, b"OB CAL"), refuse("Busy", "moment", 16), refuse("Busy", "bytes", 0, b""),
-        refuse("Busy", "bytes", 0, WHOLE), refuse("PieceTooLong", "bytes", 0, LONG), refuse("TooMuchTaken", "took", 0, 1),
-        phase("Watching"), tell("lost", 0), refuse("WrongLinkState", "bytes", 0, LONG), refuse("NoSuchLink", "bytes", 1, LONG),
-        tell("linked", 0), tell("took", 0, 13), tells(ONBATT, COMMBAD), tell("bytes", 0, b"OK\n"), tell("moment", 16), phase("Forcing")),
-]
-
-COMMUNICATION_RUNS = [
-    Run("a refused status", SECONDARY,
-        START, opens(0), status(0, b"OL"), tell("moment", 5), STALE, tells(COMMBAD), tell("moment", 10), status(0, b"OL"), tells(COMMOK)),
-    Run("established and on line in one status", SECONDARY,
-        START, opens(0), status(0, b"OB"), tells(ONBATT), tell("moment", 5), STALE, tells(COMMBAD), tell("moment", 10), status(0, b"OL"),
-        tells(COMMOK, ONLINE)),
-    Run("lost before anything was heard, and once only", SECONDARY,
-        tell("linked", 0), tell("lost", 0), tells(COMMBAD), tell("linked", 0), tell("lost", 0), SILENT, opens(0), status(0, b"OL"),
-        tells(COMMOK)),
-    Run("a link that is never made", SECONDARY,
-        tell("moment", 300), SILENT, tell("moment", 301), tells(NOCOMM), tell("moment", 601), SILENT, tell("moment", 602), tells(NOCOMM),
-        phase("Watching")),
-    Run("two links of which one is made", SECONDARIES,
-        tell("moment", 10), opens(0), status(0, b"OL"), tell("moment", 301), tells(OTHER_NOCOMM), tell("moment", 310), SILENT,
-        tell("moment", 311), tells(NOCOMM), tell("moment", 602), tells(OTHER_NOCOMM), tell("moment", 903), tells(NOCOMM, OTHER_NOCOMM)),
-]
-
-STATUS_RUNS = [
-    Run("what stands is told once", SECONDARY,
-        START, opens(0), status(0, b"OB"), tells(ONBATT), tell("moment", 5), status(0, b"OB"), SILENT, tell("moment", 10), status(0, b"OL"),
-        tells(ONLINE), tell("moment", 15), status(0, b"OB"), tells(ONBATT)),
-    Run("other words, and words within words, say nothing", SECONDARY,
-        START, opens(0), status(0, b"OLX XOB LBFSD ob BOOST"), SILENT, phase("Watching")),
-    Run("a battery to be replaced, up to RBWARNTIME", PATIENT,
-        START, opens(0), status(0, b"OL RB"), tells(REPLBATT), tell("moment", 5), status(0, b"OL RB"), SILENT, tell("moment", 43200),
-        status(0, b"OL RB"), SILENT, tell("moment", 43205), status(0, b"OL"), SILENT, tell("moment", 43210), status(0, b"OL RB"),
-        tells(REPLBATT)),
-    Run("a battery to be replaced, past RBWARNTIME", PATIENT,
-        START, opens(0), status(0, b"OL RB"), tells(REPLBATT), tell("moment", 43201), status(0, b"OL RB"), tells(REPLBATT)),
-]
-
-LINE_RUNS = [
-    Run("an answer in pieces", SECONDARY,
-        START, opens(0), tell("took", 0, 25), tell("bytes", 0, b"VAR su700 ups.sta"), SILENT, tell("bytes", 0, b"tus OB\n"), tells(ONBATT)),
-    Run("two lines in a piece", SECONDARY,
-        START, opens(0), ask(0, STATUS, b'VAR su700 ups.status "OB"\nVAR su700 ups.status OL\n'), tells(ONBATT, COMMBAD), links(0, False)),
-    Run("an answer before its query was taken", SECONDARY,
-        START, tell("linked", 0), tell("took", 0, 12), tell("bytes", 0, b"OK\n"), tells(COMMBAD), links(0, False), waits(0, b"")),
-    Run("the status of another UPS", SECONDARY,
-        START, opens(0), ask(0, STATUS, b"VAR su900 ups.status OB\n"), tells(COMMBAD), links(0, False)),
-    Run("an empty line", SECONDARY,
-        START, opens(0), ask(0, STATUS, b"\n"), tells(COMMBAD), links(0, False)),
-    Run("refused logins are gone on from", SECONDARY,
-        START, tell("linked", 0), ask(0, b"USERNAME mon\n", b"ERR ALREADY-SET-USERNAME\n"),
-        ask(0, b"PASSWORD m1\n", b"ERR ALREADY-SET-PASSWORD\n"), ask(0, b"LOGIN su700\n", b"ERR ACCESS-DENIED\n"), status(0, b"OB"),
-        tells(ONBATT), links(0, True)),
-]
-
-PRIMARY_RUNS = [
-    Run("a primary forces the shutdown", PRIMARY,
-        START, tell("linked", 0), ask(0, b"USERNAME mon\n", b"OK\n"), ask(0, b"PASSWORD m1\n", b"OK\n"), ask(0, b"LOGIN su700\n", b"OK\n"),
-        ask(0, b"PRIMARY su700\n", b"OK\n"), status(0, b"OB LB"), tells(ONBATT, LOWBATT), phase("Forcing"), FORCED, COUNTS_1,
-        tells(SHUTDOWN), phase("Final"), tell("moment", 4), phase("Final"), waits(0, b""), tell("moment", 5), HALTED),
-    Run("a calibration is not critical", PRIMARY,
-        START, opens(0), status(0, b"OB LB CAL"), tells(ONBATT, LOWBATT), phase("Watching"), waits(0, b""), tell("moment", 4),
-        waits(0, b""), tell("moment", 5), waits(0, STATUS)),
-    Run("a calibration is dead past DEADTIME", PRIMARY,
-        START, opens(0), status(0, b"OB CAL"), tells(ONBATT), tell("moment", 15), phase("Watching"), tell("moment", 16), SILENT,
-        phase("Forcing")),
-    Run("without FINALDELAY it is halted at once", b"MONITOR su700@localhost 1 mon m1 primary\nFINALDELAY 0\n",
-        START, opens(0), status(0, b"OB LB"), tells(ONBATT, LOWBATT), FORCED, COUNTS_1, HALTED, tells(SHUTDOWN), HALTED),
-    Run("a silent UPS on line is not critical", PRIMARY,
-        START, opens(0), status(0, b"OL LB"), tells(LOWBATT), tell("moment", 1000000), tells(NOCOMM), phase("Watching")),
-    Run("two primaries of which one never answers", PRIMARIES,
-        START, opens(0), opens(1), status(0, b"OB LB"), tells(ONBATT, LOWBATT), phase("Watching"), status(1, b"OB LB"), tells(*OTHER_LOW),
-        phase("Forcing"), FORCED, COUNTS_1, waits(1, b"FSD su900\n"), tell("moment", 15), phase("Forcing"), tell("moment", 16),
-        tells(SHUTDOWN), phase("Final")),
-]
-
-FORCING_RUNS = [
-    Run("the others go", PRIMARY,
-        START, opens(0), status(0, b"OB LB"), tells(ONBATT, LOWBATT), FORCED, COUNTS_2, phase("Forcing"), waits(0, b""), tell("moment", 1),
-        ask(0, COUNT, b"NUMLOGINS su700 0\n"), tells(SHUTDOWN), phase("Final")),
-    Run("the others stay, up to HOSTSYNC", PRIMARY,
-        START, opens(0), status(0, b"OB LB"), tells(ONBATT, LOWBATT), FORCED, COUNTS_2, tell("moment", 15), COUNTS_2, phase("Forcing"),
-        tell("moment", 16), tells(SHUTDOWN), phase("Final")),
-    Run("a count goes for nothing where it answers FSD", PRIMARY,
-        START, opens(0), status(0, b"OB LB"), tells(ONBATT, LOWBATT), ask(0, FSD, b"NUMLOGINS su700 0\n"), links(0, False), SILENT,
-        tell("moment", 15), phase("Forcing"), tell("moment", 16), phase("Final")),
-    Run("no count takes before FSD is accepted", PRIMARY,
-        START, opens(0), status(0, b"OB LB"), tells(ONBATT, LOWBATT), ask(0, FSD, b"ERR ACCESS-DENIED\n"), waits(0, b""), tell("moment", 1),
-        ask(0, FSD, b"ERR ACCESS-DENIED\n"), tell("moment", 15), waits(0, FSD), phase("Forcing"), tell("moment", 16), phase("Final")),
-    Run("a link is lost in Forcing", PRIMARY,
-        START, opens(0), status(0, b"OB LB"), tells(ONBATT, LOWBATT), tell("lost", 0), SILENT, tell("moment", 15), phase("Forcing"),
-        tell("moment", 16), tells(SHUTDOWN), phase("Final")),
-    Run("a new link asks FSD again", PRIMARY,
-        START, opens(0), status(0, b"OB LB"), tells(ONBATT, LOWBATT), tell("lost", 0), opens(0), FORCED, COUNTS_1, phase("Final")),
-    Run("a new link counts where FSD was accepted", PRIMARY,
-        START, opens(0), status(0, b"OB LB"), tells(ONBATT, LOWBATT), FORCED, tell("lost", 0), opens(0), COUNTS_1, phase("Final")),
-    Run("what has begun is not taken back", PRIMARY,
-        START, opens(0), status(0, b"OB LB"), tells(ONBATT, LOWBATT), ask(0, FSD, b"ERR ACCESS-DENIED\n"), tell("lost", 0),
-        tell("moment", 17), tells(SHUTDOWN), opens(0), waits(0, b""), tell("moment", 22), HALTED),
-]
-
-SECONDARY_RUNS = [
-    Run("a secondary waits up to HOSTSYNC", SECONDARY,
-        START, opens(0), status(0, b"OL"), SILENT, tell("moment", 5), status(0, b"OB LB"), tells(ONBATT, LOWBATT), tell("moment", 10),
-        status(0, b"OB LB"), SILENT, tell("moment", 15), status(0, b"OB LB"), SILENT, phase("Watching"), tell("moment", 16),
-        tells(SHUTDOWN), phase("Final"), tell("moment", 20), phase("Final"), tell("moment", 21), phase("Halted { flag: false }")),
-    Run("a battery that is not low begins HOSTSYNC anew", SECONDARY,
-        START, opens(0), status(0, b"OL"), tell("moment", 5), status(0, b"OB LB"), tells(ONBATT, LOWBATT), tell("moment", 10),
-        status(0, b"OB"), tell("moment", 15), status(0, b"OB LB"), tells(LOWBATT), tell("moment", 20), status(0, b"OB LB"),
-        tell("moment", 25), status(0, b"OB LB"), phase("Watching"), tell("moment", 26), phase("Final")),
-    Run("a forced shutdown is not waited for", SECONDARY,
-        START, opens(0), status(0, b"FSD LB OB"), phase("Final"), tells(ONBATT, LOWBATT, FORCES, SHUTDOWN)),
-    Run("a lost UPS on battery is dead past DEADTIME", SECONDARY,
-        opens(0), status(0, b"OB"), tells(ONBATT), tell("moment", 15), phase("Watching"), tell("lost", 0), tells(COMMBAD),
-        tell("moment", 16), tells(SHUTDOWN), phase("Final")),
-    Run("a refusal is no status", SECONDARY,
-        START, opens(0), status(0, b"OB"), tells(ONBATT), tell("moment", 5), STALE, tells(COMMBAD), tell("moment", 10), STALE, SILENT,
-        tell("moment", 15), STALE, phase("Watching"), tell("moment", 16), tells(SHUTDOWN), phase("Final")),
-    Run("one of two UPSes is enough", SECONDARIES,
-        START, opens(0), opens(1), status(0, b"FSD OB"), tells(ONBATT, FORCES), status(1, b"OL"), SILENT, phase("Watching"),
-        tell("moment", 5), status(1, b"OB LB"), tells(*OTHER_LOW), phase("Watching"), tell("moment", 15), phase("Watching"),
-        tell("moment", 16), tells(SHUTDOWN), phase("Final")),
-    Run("a UPS without a status is not critical", SECONDARIES,
-        START, opens(0), status(0, b"FSD OB"), tells(ONBATT, FORCES), tell("moment", 1000), phase("Watching")),
-    Run("both of two UPSes are needed", b"MONITOR su700@localhost 1 mon m1 secondary\nMONITOR su900@localhost 1 mon m1 secondary\nMINSUPPLIES 2\n",
-        START, opens(0), opens(1), status(1, b"OL"), status(0, b"FSD OB"), tells(ONBATT, FORCES, SHUTDOWN), phase("Final")),
-    Run("a UPS that feeds nothing here does not count", b"MONITOR su700@localhost 1 mon m1 secondary\nMONITOR su900@localhost 0 mon m1 secondary\n",
-        START, opens(0), opens(1), status(1, b"FSD OL"), tells(("Fsd", 1, b"UPS su900@localhost: forced shutdown in progress")),
-        phase("Watching"), status(0, b"FSD OL"), phase("Final")),
-]
-
-MEMORY_RUNS = [
-    Run("what takes no memory", PRIMARY,
-        starved(None, "moment", 0), starved(None, "linked", 0), starved(None, "took", 0, 13), starved(None, "bytes", 0, b"O"),
-        starved(None, "bytes", 0, b"K\n"), waits(0, b"PASSWORD m1\n"), starved(None, "lost", 0), starved(None, "linked", 0), tells(COMMBAD),
-        starved(None, "moment", 301), tells(NOCOMM)),
-    Run("the status at which memory ran out leaves no trace", PRIMARY,
-        START, opens(0), tell("took", 0, 25), starved(0, "bytes", 0, b'VAR su700 ups.status "OB LB"\n'), links(0, False), waits(0, b""),
-        tells(COMMBAD), tell("moment", 16), phase("Watching"), opens(0), status(0, b"OB LB"), tells(COMMOK, ONBATT, LOWBATT),
-        phase("Forcing")),
-    Run("the lines before it stand", PRIMARY,
-        START, opens(0), status(0, b"OB LB"), tells(ONBATT, LOWBATT), tell("took", 0, 10), starved(1, "bytes", 0, b'OK FSD-SET\n"\\\\"\n'),
-        links(0, False), SILENT, opens(0), waits(0, COUNT)),
-    Run("the count at which memory ran out goes for nothing", PRIMARY,
-        START, opens(0), status(0, b"OB LB"), tells(ONBATT, LOWBATT), FORCED, tell("took", 0, 20),
-        starved(0, "bytes", 0, b"NUMLOGINS su700 1\n"), links(0, False), SILENT, phase("Forcing"), tell("moment", 15), phase("Forcing"),
-        tell("moment", 16), phase("Final")),
-]
-
-# all runs but those in which memory is refused
-RUNS = [*REFUSAL_RUNS, *COMMUNICATION_RUNS, *STATUS_RUNS, *LINE_RUNS, *PRIMARY_RUNS, *FORCING_RUNS, *SECONDARY_RUNS]
+ONLINE = notice("ONLINE")
+MEMORY_RUNS = [it for it in runs() if any(isinstance(check, Starved) for check in it.checks)]
+# all but those in which memory is refused
+RUNS = [it for it in runs() if not any(isinstance(check, Starved) for check in it.checks)]
