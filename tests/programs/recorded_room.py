@@ -326,12 +326,13 @@ class Tests(MonitorTests):
         for number, (step, moved) in enumerate(steps, 1):
             if step[0] in ("out", "reach", "back", "land"):
                 expect(moved_by(model, *step), moved, f"step {number}, {step}")
-            due += [shown(number, told) for told in model.play(step)]
+            news = model.play(step)
+            ensure(("skipped",) not in news, f"step {number}, {step}, can't be")
+            due += [shown(number, told) for told in news]
         room = RoomFiles(os.path.join(self.folder, "played"), CONFIG, self.rules)
         words = [self.nutsim, room.folder, "/dev/stdin", *room.monitors]
         status, out, err = ended(words, input=b"".join(line_of(step) for step, _ in steps))
         expect((status, err, out), (0, "", b"".join(due).decode()), "what nutsim tells, and the model")
-        ensure("skipped" not in out, "a step is skipped")
         found = re.findall(r"(\d+): (monitor \d notice .*)", out)
         expect([(int(number), text) for number, text in found], sorted(notices, key=lambda it: it[0]), "notices")
         expect((re.findall(r"monitor (\d) phase Halted", out), sorted(halted)), (halted, ["0", "1", "2"]), "who is halted in turn")
