@@ -1,7 +1,8 @@
 -- Looks at links in turn, one after the other.
-use Rattle.std.proofs.Common.{◌≡◌, ℕ, List, [], ◌∷◌, ◌++◌, ap, sym, ◌∙◌, append_assoc}
+use Rattle.std.proofs.Common.{◌≡◌, ℕ, List, [], ◌∷◌, ◌++◌, Result, Ok, Err, IfOk, OnErr, ap, sym, ◌∙◌, append_assoc}
 use Rattle.std.proofs.lemmas.List.{append-nil}
-use Rattle.nut_poll.specs.Queue.{Queue, Looks, begun}
+use Rattle.nut_poll.specs.Queue.{Queue, Looks, TakesTurns, begun}
+use Rattle.nut_poll.specs.declared.rounds.Rounds.{Rounds}
 use Rattle.nut_poll.proofs.TurnLemmas.{looks_go_on}
 use Rattle.nut_monitor_loop.specs.declared.types.Next.{Next}
 use Rattle.nut_monitor_loop.specs.declared.types.Next.TheVariants.{Moment, Linked, LinkBytes, LinkLost, Again, End}
@@ -11,9 +12,16 @@ use Rattle.nut_monitor_sockets.specs.Turns.{ComesInTurn, IsGivenBy, IsOfLast}
 pub stays : (a b : Queue) → b ≡ a → Looks [] a b
 stays a b same = ([], ap (λ q. q.waiting) same ∙ sym (append-nil a.waiting))
 
+pub still : (a b : Rounds) → b ≡ a → TakesTurns a.ready b.ready
+still a b same = ([], stays a.ready b.ready (ap (λ r. r.ready) same))
+
 -- some came, and then others
 pub comes_on : (a b c : Queue) → Looks [] a b → Looks [] b c → Looks [] a c
 comes_on a b c = looks_go_on [] [] a b c
+
+-- some came, and a round began
+pub turned : (a b c : Queue) → Looks [] a b → c ≡ begun b → Looks [] a c
+turned a b c came is = comes_on a b c came ([], ap (λ q. q.waiting) is ∙ sym (append-nil b.waiting))
 
 -- others were looked at before
 of_last_still : (n : Next) (before looked : List ℕ) → IsOfLast n looked → IsOfLast n (before ++ looked)
@@ -39,8 +47,7 @@ waited n a b c d first came then = in_turn n a c d (in_turn Again a b c first (n
 -- a round began after those that the clock asked for, before and after a wait, and those that were reported came to wait
 pub began : (a b c d e f h : Queue) → Looks [] a b → c ≡ b → Looks [] c d → Looks [] d e → Looks [] e f → h ≡ begun f → Looks [] a h
 began a b c d e f h first same again then more is =
-    comes_on a b h first (comes_on b c h (stays b c same) (comes_on c d h again (comes_on d e h then
-    (comes_on e f h more ([], ap (λ q. q.waiting) is ∙ sym (append-nil f.waiting))))))
+    comes_on a b h first (comes_on b c h (stays b c same) (comes_on c d h again (comes_on d e h then (turned e f h more is))))
 
 -- the link that was looked at last gave this
 of_last : (n : Next) (others : List ℕ) (i : ℕ) → IsGivenBy i n → IsOfLast n (others ++ i ∷ [])
@@ -58,3 +65,17 @@ look_more looked i a b c d before taken came =
 
 pub found_last : (n : Next) (looked : List ℕ) (i : ℕ) (a b : Queue) → Looks (looked ++ i ∷ []) a b → IsGivenBy i n → ComesInTurn n a b
 found_last n looked i a b looks given = (looked ++ i ∷ [], looks, of_last n looked i given)
+
+-- what holds at each error
+pub on_err : {A E X : Type 0} (result : Result A E) → X → OnErr result X
+on_err (Ok a) x = tt
+on_err (Err e) x = x
+
+-- this came or a call failed, and links were looked at in turn
+pub took : {E : Type 0} (result : Result Next E) (a b : Queue) → IfOk result (λ n. ComesInTurn n a b) → OnErr result (TakesTurns a b) → TakesTurns a b
+took (Ok n) a b turns kept = (turns.0, turns.1)
+took (Err e) a b turns kept = kept
+
+-- this came in turn, and then others came to wait
+pub took_turns : (n : Next) (a b c : Queue) → ComesInTurn n a b → Looks [] b c → TakesTurns a c
+took_turns n a b c first came = (first.0 ++ [], looks_go_on first.0 [] a b c first.1 came)

@@ -1,10 +1,10 @@
 //! All links of a monitor, watched by one poll.
 
-ghost use Rattle.std.specs.Prelude.{◌≡◌, ◌≢◌, ℕ, [], length, unwrap_or, vec_len, IfSome, IfOk, Some, None};
+ghost use Rattle.std.specs.Prelude.{◌≡◌, ◌≢◌, ℕ, [], length, unwrap_or, vec_len, IfSome, IfOk, OnErr, Some, None};
 ghost use Rattle.nut_io.specs.Writes.{IsWithin};
 ghost use Rattle.nut_monitor_loop.specs.declared.types.Next.TheVariants as next;
 ghost use Rattle.nut_monitor_sockets.specs.Turns.{ComesInTurn, IsGivenBy};
-ghost use Rattle.nut_poll.specs.Queue.{Looks};
+ghost use Rattle.nut_poll.specs.Queue.{Looks, TakesTurns};
 
 use crate::dialler::Dialler;
 use crate::inquiry::outstanding;
@@ -127,7 +127,9 @@ impl Links {
         &mut self,
         services: &mut LinkServices<'_, '_, R>,
         links: NewLinks,
-    ) -> io::Result<()> {
+    ) -> io::Result<()>
+        ensures { Looks [] self.old.rounds.ready self.new.rounds.ready }
+    {
         match Seconds::start(services.rt) {
             Ok(seconds) => {
                 self.begin_at(seconds, links);
@@ -143,7 +145,10 @@ impl Links {
     }
 
     /// Begins with these links, and with a clock that was just started.
-    fn begin_at(&mut self, seconds: Seconds, links: NewLinks) {
+    #[tactic(auto, using(crate::proofs::InTurn::turned))]
+    fn begin_at(&mut self, seconds: Seconds, links: NewLinks)
+        ensures { Looks [] self.old.rounds.ready self.new.rounds.ready }
+    {
         let mut upstreams = links.into_upstreams();
         for upstream in upstreams.iter_mut() {
             upstream.take_over_addresses(&self.upstreams);
@@ -160,7 +165,8 @@ impl Links {
 
     /// Closes all links, and ends the look-ups. Nothing is reported.
     pub fn leave(&mut self, look_ups: &mut LookUps<'_, impl Processes>)
-        ensures { vec_len self.new.upstreams ≡ 0 }
+        ensures links { vec_len self.new.upstreams ≡ 0 }
+        ensures turns { self.new.rounds ≡ self.old.rounds }
     {
         self.upstreams.clear();
         look_ups.end();
@@ -183,6 +189,7 @@ impl Links {
     ) -> io::Result<Next>
         ensures goes_on { IfOk result (λ n. n ≢ next.End) }
         ensures turns { IfOk result (λ n. ComesInTurn n self.old.rounds.ready self.new.rounds.ready) }
+        ensures kept { OnErr result (TakesTurns self.old.rounds.ready self.new.rounds.ready) }
     {
         self.follow(monitor, &mut services.look_ups);
         if let Some(next) = self.come(monitor, piece, services) {
@@ -213,13 +220,16 @@ impl Links {
 
     /// Whether the clock was found to have moved on since this was last asked. Of several seconds that come at once,
     /// this is so at the first one only.
-    pub fn has_moved_on(&mut self) -> bool {
+    pub fn has_moved_on(&mut self) -> bool
+        ensures { self.new.rounds ≡ self.old.rounds }
+    {
         mem::take(&mut self.has_moved_on)
     }
 
     /// Offers bytes to the server of a link.
     pub fn offer(&mut self, i: usize, bytes: &[u8]) -> Written
-        ensures { IsWithin result (length bytes.now) }
+        ensures within { IsWithin result (length bytes.now) }
+        ensures turns { self.new.rounds ≡ self.old.rounds }
     {
         match self.upstreams.get_mut(i) {
             Some(upstream) => upstream.offer(bytes),
@@ -439,7 +449,7 @@ impl Links {
         monitor: &Monitor,
         services: &mut LinkServices<'_, '_, R>,
     ) -> io::Result<()>
-        ensures { IfOk result (λ _. Looks [] self.old.rounds.ready self.new.rounds.ready) }
+        ensures { Looks [] self.old.rounds.ready self.new.rounds.ready }
     {
         let patience = if self.look_at_clock(monitor, services)? {
             Duration::ZERO
@@ -477,10 +487,12 @@ impl Links {
         monitor: &Monitor,
         services: &mut LinkServices<'_, '_, R>,
     ) -> io::Result<bool>
-        ensures { IfOk result (λ _. Looks [] self.old.rounds.ready self.new.rounds.ready) }
+        ensures { Looks [] self.old.rounds.ready self.new.rounds.ready }
     {
-        let is_full = self.rounds.look_at_clock(services.rt)?;
+        let passed = self.rounds.seconds.elapsed(services.rt)?;
+        let is_full = self.rounds.seconds.look_at(passed);
         if is_full {
+            self.rounds.ready.insert_first(self.rounds.fixed);
             self.second(monitor, &mut services.look_ups, &mut services.reports);
         }
         Ok(is_full)

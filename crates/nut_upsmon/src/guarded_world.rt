@@ -5,6 +5,8 @@ ghost use Rattle.nut_conf.specs.declared.upsmon.MonConfig.{MonConfig};
 ghost use Rattle.nut_monitor_loop.specs.Record.{Entry};
 ghost use Rattle.nut_monitor_loop.specs.Watched.{handed};
 ghost use Rattle.nut_monitor_sockets.specs.Handing.{HandsOn};
+ghost use Rattle.nut_poll.specs.Queue.{TakesTurns};
+ghost use Rattle.nut_poll.specs.inside.TurnLaws.{turns_on, turns_self};
 ghost use Rattle.nut_upsmon.specs.declared.beginning.Beginning.{Beginning as Begins};
 ghost use Rattle.nut_upsmon.specs.Acts.{Act, Changed, TriedFlag, RanShutdown, does};
 ghost use Rattle.nut_upsmon.specs.inside.Telling.{Tells};
@@ -83,13 +85,13 @@ where
 
     ghost upcoming = { λ w. w.herald.next };
 
-    ghost turns = { λ a b. Unit {0} };
+    ghost turns = { λ a b. TakesTurns a.links.rounds.ready b.links.rounds.ready };
 
-    ghost turns_self = { λ w. tt };
+    ghost turns_self = { λ w. turns_self w.links.rounds.ready };
 
-    ghost turns_on = { λ a b c first second. tt };
+    ghost turns_on = { λ a b c first second. turns_on a.links.rounds.ready b.links.rounds.ready c.links.rounds.ready first second };
 
-    ghost tells = { λ config a b entries did. did };
+    ghost tells = { λ config a b entries did. did.0 };
 
     fn begin(&mut self, links: NewLinks) -> Result<(), Fault> {
         self.begin(links)

@@ -13,9 +13,9 @@ returns g c =
     let more : Looks [] waited again =
     elim c.if-is_empty.branch [
       | then-is_empty+in_ok-look_at_clock-2 w ↦
-          subst (λ s. Looks [] waited s.rounds.ready) (sym w.self-is) w.in_ok-look_at_clock-2.ensures
+          subst (λ s. Looks [] waited s.rounds.ready) (sym w.self-is) w.look_at_clock-then-is_empty.ensures
       | else-is_empty w ↦ stays waited again (ap (λ s. s.rounds.ready) w.self-is)
     ]
     in
     began start looked waited again c.note.new.ready c.take_look_up.new.self.rounds.ready c.begin.new.self.ready
-    c.in_ok-look_at_clock.ensures c.wait_for.ensures.ready more c.note.ensures c.take_look_up.ensures c.begin.ensures.ready
+    c.look_at_clock.ensures c.wait_for.ensures.ready more c.note.ensures c.take_look_up.ensures c.begin.ensures.ready
