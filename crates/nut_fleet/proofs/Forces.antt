@@ -1,15 +1,12 @@
 -- A shutdown that is forced was forced by a user who may.
 use Rattle.std.proofs.Common.{arith}
 use Rattle.std.proofs.Common.{◌≡◌, ◌⊎◌, ℕ, inl, inr, List, [], ◌∷◌, Bool, true, false, Option, Some, refl, sym, ◌∙◌, ap}
-use Rattle.std.specs.Str.{bytes_eq}
 use Rattle.std.proofs.lemmas.Bool.{cases_Bool, eqb-true}
-use Rattle.std.proofs.lemmas.List.Quantifiers.{position-Some}
-use Rattle.std.proofs.lemmas.Slice.Eq.{bytes_eq-Decides}
 use Rattle.nut_proto.specs.declared.reply.Reply.TheVariants.{FsdSet}
 use Rattle.nut_proto.specs.declared.request.Request.TheVariants as requests
 use Rattle.nut_server_spec.specs.Answer.{Answer, Line as OneLine, may_force}
 use Rattle.nut_server_spec.specs.Command.{Command, Asks, command_of}
-use Rattle.nut_server_spec.specs.Configuration.{Configuration as ServerConfiguration, Ups, number_of_ups}
+use Rattle.nut_server_spec.specs.Configuration.{Configuration as ServerConfiguration}
 use Rattle.nut_server_spec.specs.Effect.{at_target, forced_then, target}
 use Rattle.nut_server_spec.specs.Event as arrivals
 use Rattle.nut_server_spec.specs.Event.{Said, Reloaded}
@@ -18,7 +15,7 @@ use Rattle.nut_server_spec.specs.Trace.{Entry, answer_at, fate_at, forced, force
 use Rattle.nut_server_spec.specs.laws.Rights.{grants}
 use Rattle.nut_server_spec.proofs.Rights.{has-right}
 use Rattle.nut_fleet.specs.Halting.{UserForced}
-use Rattle.nut_fleet.proofs.Rereads.{KeepsRoom, as-made, number-stays}
+use Rattle.nut_fleet.proofs.Rereads.{KeepsRoom, number-was, only-name}
 
 -- ---- a forced shutdown
 
@@ -33,14 +30,6 @@ forced-by : (command : Command) (reply : Answer) (before : Bool) → forced_then
     ((ups : List ℕ) × (command ≡ Asks (requests.Fsd ups)) × (reply ≡ OneLine FsdSet)) ⊎ (before ≡ true)
 forced-by command reply before is = grind arith
 
--- two names of one UPS are the same
-same-name : (name other : List ℕ) (upses : List Ups) (u : ℕ) → number_of_ups name upses ≡ Some u → number_of_ups other upses ≡ Some u → name ≡ other
-same-name name other upses u is is' =
-    let none : Ups = record { name = []; driver = []; description = [] } in
-    let one = position-Some (λ (x : Ups). bytes_eq x.name name) upses u none is in
-    let two = position-Some (λ (x : Ups). bytes_eq x.name other) upses u none is' in
-    sym ((bytes_eq-Decides _ name).0 one.1) ∙ (bytes_eq-Decides _ other).0 two.1
-
 -- on some connection a user forced it
 abbrev IsForced : ServerConfiguration → List ℕ → List Entry → Type 0
 IsForced first ups past = (c : ℕ) × UserForced first ups c past
@@ -48,12 +37,22 @@ IsForced first ups past = (c : ℕ) × UserForced first ups c past
 keeps-older : (first : ServerConfiguration) (step : arrivals.Step) (s : List arrivals.Step) → KeepsRoom first (step ∷ s) → KeepsRoom first s
 keeps-older first step s kept = grind arith
 
-pub user-forced : (first : ServerConfiguration) (s : List arrivals.Step) (ups : List ℕ) (u : ℕ) → KeepsRoom first s → number_of_ups ups first.upses ≡ Some u →
+-- a UPS that was forced before a step, or is by it, had its number before
+had-number : (first : ServerConfiguration) (step : arrivals.Step) (s : List arrivals.Step) (ups : List ℕ) (u : ℕ) (b : Bool) → KeepsRoom first (step ∷ s) →
+    by_fate (fate_at first (trace first s) step u) false (λ x. x) b ≡ true → number_of ups (numbering first (trace first (step ∷ s))) ≡ Some u →
+    number_of ups (numbering first (trace first s)) ≡ Some u
+had-number first (Reloaded k) s ups u b kept left is = number-was first s k ups u kept b left is
+had-number first step s ups u b kept left is = is
+
+pub user-forced : (first : ServerConfiguration) (s : List arrivals.Step) (ups : List ℕ) (u : ℕ) → KeepsRoom first s → number_of ups (numbering first (trace first s)) ≡ Some u →
     forced first u (trace first s) ≡ true → IsForced first ups (trace first s)
 user-forced first [] ups u kept number is = cc
 user-forced first (step ∷ s) ups u kept number is =
-    by step refl (user-forced first s ups u (keeps-older first step s kept) number) (by_fate-before (fate_at first (trace first s) step u) _ is)
+    by step refl (user-forced first s ups u (keeps-older first step s kept) named) (by_fate-before (fate_at first (trace first s) step u) _ is)
   where
+    named : number_of ups (numbering first (trace first s)) ≡ Some u
+    named = had-number first step s ups u _ kept is number
+
     go-on : IsForced first ups (trace first s) → IsForced first ups (trace first (step ∷ s))
     go-on before = (before.0, inr before.1)
 
@@ -68,9 +67,8 @@ user-forced first (step ∷ s) ups u kept number is =
           | inl here ↦ elim (forced-by (command_of line) reply (forced first u t) here.1) [
             | inr before ↦ go-on (older before)
             | inl fsd ↦
-                let named : number_of fsd.0 (numbering first t) ≡ Some u = sym (ap (target (numbering first t)) fsd.1) ∙ here.0 in
-                let same_name : fsd.0 ≡ ups =
-                same-name fsd.0 ups first.upses u (sym (number-stays first t fsd.0 (as-made first s (keeps-older first step s kept))) ∙ named) number in
+                let number' : number_of fsd.0 (numbering first t) ≡ Some u = sym (ap (target (numbering first t)) fsd.1) ∙ here.0 in
+                let same_name : fsd.0 ≡ ups = only-name first s (keeps-older first step s kept) fsd.0 ups u number' named in
                 let asks : command_of line ≡ Asks (requests.Fsd ups) = fsd.1 ∙ ap (λ x. Asks (requests.Fsd x)) same_name in
                 let own = has-right first t c line (requests.Fsd ups) may_force asks refl (ap (λ x. grants (answer_at first t x)) (sym same) ∙ ap grants fsd.2) in
                 (c, inl ((line, same, asks, fsd.2), own))

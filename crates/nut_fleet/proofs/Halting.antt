@@ -8,12 +8,13 @@ use Rattle.nut_proto.specs.declared.refusal.Refusal.TheVariants.{DataStale, Driv
 use Rattle.nut_state.specs.Step.{table_of}
 use Rattle.nut_state.specs.Table.{Entry as Variable, variable}
 use Rattle.nut_server_spec.specs.Answer.{shown}
-use Rattle.nut_server_spec.specs.Configuration.{Configuration as ServerConfiguration, number_of_ups}
+use Rattle.nut_server_spec.specs.Configuration.{Configuration as ServerConfiguration}
 use Rattle.nut_server_spec.specs.Content.{past}
 use Rattle.nut_server_spec.specs.Device.{Device, is_past, trouble}
 use Rattle.nut_server_spec.specs.Event as arrivals
 use Rattle.nut_server_spec.specs.Event.{Said, Reloaded}
-use Rattle.nut_server_spec.specs.Trace.{clock, device, forced, heard_at, reports, trace}
+use Rattle.nut_server_spec.specs.Numbering.{number_of}
+use Rattle.nut_server_spec.specs.Trace.{clock, device, forced, heard_at, numbering, reports, trace}
 use Rattle.nut_monitor_spec.specs.Query.{parted}
 use Rattle.nut_monitor_spec.specs.Trace.{Entry, begun, critical, is_short, supply}
 use Rattle.nut_fleet.specs.Fleet.{Cause, IsReasonAt, IsSetup}
@@ -47,7 +48,7 @@ trouble-none true true true false a b is = (refl, refl)
 -- a UPS whose status is shown: its number, and its variable
 record IsShown (first : ServerConfiguration) (s : List arrivals.Step) (name : List ℕ) (words : List (List ℕ)) : Type 0 where
   pub ups : ℕ
-  pub number : number_of_ups name first.upses ≡ Some ups
+  pub number : number_of name (numbering first (trace first s)) ≡ Some ups
   pub fine : is_none (trouble first.max_age (clock (trace first s)) (device first (trace first s) ups)) ≡ true
   pub status : Variable
   pub there : variable (table_of (reports ups (trace first s))) (codes "ups.status") ≡ Some status
@@ -55,16 +56,16 @@ record IsShown (first : ServerConfiguration) (s : List arrivals.Step) (name : Li
 
 is-shown : (first : ServerConfiguration) (s : List arrivals.Step) (name : List ℕ) (words : List (List ℕ)) →
     shown_status first (trace first s) name ≡ Some words → IsShown first s name words
-is-shown first s name words is = by_number (number_of_ups name first.upses) refl is
+is-shown first s name words is = by_number (number_of name (numbering first (trace first s))) refl is
   where
-    by_variable : (u : ℕ) → number_of_ups name first.upses ≡ Some u →
+    by_variable : (u : ℕ) → number_of name (numbering first (trace first s)) ≡ Some u →
         is_none (trouble first.max_age (clock (trace first s)) (device first (trace first s) u)) ≡ true → (o : Option Variable) →
         variable (table_of (reports u (trace first s))) (codes "ups.status") ≡ o →
         option_map (λ v. parted (shown (device first (trace first s) u) v)) o ≡ Some words → IsShown first s name words
     by_variable u number fine None there is = cc
     by_variable u number fine (Some v) there is = record { ups = u; number = number; fine = fine; status = v; there = there; words_are = some-same is }
 
-    by_number : (o : Option ℕ) → number_of_ups name first.upses ≡ o → option_and_then (status_of first (trace first s)) o ≡ Some words → IsShown first s name words
+    by_number : (o : Option ℕ) → number_of name (numbering first (trace first s)) ≡ o → option_and_then (status_of first (trace first s)) o ≡ Some words → IsShown first s name words
     by_number None number is = cc
     by_number (Some u) number is = elim (cases_Bool (is_none (trouble first.max_age (clock (trace first s)) (device first (trace first s) u)))) [
       | inl fine ↦ by_variable u number fine (variable (table_of (reports u (trace first s))) (codes "ups.status")) refl (rw fine at is)

@@ -31,6 +31,7 @@ use Rattle.nut_server_spec.specs.Command.{Command, Asks, command_of}
 use Rattle.nut_server_spec.specs.Configuration.{Configuration as ServerConfiguration}
 use Rattle.nut_server_spec.specs.Event as arrivals
 use Rattle.nut_server_spec.specs.Event.{Said}
+use Rattle.nut_server_spec.specs.Numbering.{number_of}
 use Rattle.nut_server_spec.specs.Trace as server
 use Rattle.nut_server_spec.specs.Trace.{clock, configuration, connected, heard_at, reports}
 use Rattle.nut_server_spec.proofs.RightsDecided.{acts_as, decided}
@@ -82,20 +83,20 @@ nobody-forces first ups t none c h = let bad : false ≡ true = sym none ∙ for
 
 -- ---- the driver's words
 
-ups-is : (t : List server.Entry) (d : DriverSays alone 0 0 [] t) → d.ups ≡ 0
-ups-is t d = ap (λ o. unwrap_or o 0) (sym d.number)
+ups-is : (t : List server.Entry) → number_of (codes "su700") (server.numbering alone.server t) ≡ Some 0 → (d : DriverSays alone 0 0 [] t) → d.ups ≡ 0
+ups-is t is d = ap (λ o. unwrap_or o 0) (sym d.number ∙ is)
 
 silent : DriverSays alone 0 0 [] (low_then (ServerClock 16 ∷ [])) → ⊥
 unfolding digits read named put asked heard accepts changed after applied verb_of ask_line meaning keyword_of line refusal_name reply_line request_line text_of answer_of entry_of
 silent d =
     let t = low_then (ServerClock 16 ∷ []) in
-    let late : 16 ≤ 15 = subst (λ u. clock t ≤ heard_at u t + 15) (ups-is t d) d.heard in absurd (omega (arith, late))
+    let late : 16 ≤ 15 = subst (λ u. clock t ≤ heard_at u t + 15) (ups-is t refl d) d.heard in absurd (omega (arith, late))
 
 gone : DriverSays alone 0 0 [] (low_then (Down 0 ∷ [])) → ⊥
 unfolding digits read named put asked heard accepts changed after applied verb_of ask_line meaning keyword_of line refusal_name reply_line request_line text_of answer_of entry_of
 gone d =
     let t = low_then (Down 0 ∷ []) in
-    let bad : false ≡ true = subst (λ u. connected u t ≡ true) (ups-is t d) d.connected in cc
+    let bad : false ≡ true = subst (λ u. connected u t ≡ true) (ups-is t refl d) d.connected in cc
 
 no-reason : (words : List (List ℕ)) → has (codes "FSD") words ≡ false → has (codes "OB") words ≡ false → IsReasonAt alone 0 0 [] words → ⊥
 no-reason words fsd ob (inl is) = let bad : false ≡ true = sym fsd ∙ is in cc
@@ -108,7 +109,7 @@ charged d =
     let t = low_then (says (codes "OL") ∷ []) in
     let text : codes "OL" ≡ d.status.value =
     ap (λ o. option_map_or (λ (v : Variable). v.value) o [])
-    (subst (λ u. variable (table_of (reports u t)) (codes "ups.status") ≡ Some d.status) (ups-is t d) d.last) in
+    (subst (λ u. variable (table_of (reports u t)) (codes "ups.status") ≡ Some d.status) (ups-is t refl d) d.last) in
     no-reason (parted (codes "OL")) refl refl (subst (λ x. IsReasonAt alone 0 0 [] (parted x)) (sym text) d.reason)
 
 -- ---- a made-up shutdown

@@ -5,9 +5,10 @@ use Rattle.nut_proto.specs.declared.request.Request.TheVariants as requests
 use Rattle.nut_state.specs.Step.{table_of}
 use Rattle.nut_state.specs.Table.{Entry as Variable, variable}
 use Rattle.nut_server_spec.specs.Answer.{Line as OneLine, may_force}
-use Rattle.nut_server_spec.specs.Configuration.{Configuration as ServerConfiguration, number_of_ups}
+use Rattle.nut_server_spec.specs.Configuration.{Configuration as ServerConfiguration}
 use Rattle.nut_server_spec.specs.Content.{past}
-use Rattle.nut_server_spec.specs.Trace.{clock, connected, heard_at, reports}
+use Rattle.nut_server_spec.specs.Numbering.{number_of}
+use Rattle.nut_server_spec.specs.Trace.{clock, connected, heard_at, numbering, reports}
 use Rattle.nut_server_spec.specs.Trace as server
 use Rattle.nut_server_spec.specs.laws.Rights.{AtSome, Gets, HasRight}
 use Rattle.nut_monitor_spec.specs.Configuration.{Configuration}
@@ -22,7 +23,7 @@ use Rattle.nut_fleet.specs.World.{Setup, has_link, line_of, monitor_of, seen, wo
 -- and the status that it set last, which is in its table, is by itself a reason for monitor m.
 pub record DriverSays (setup : Setup) (m i : ℕ) (beginning : List Entry) (past : List server.Entry) : Type 0 where
   pub ups : ℕ
-  pub number : number_of_ups (line_of setup m i).ups setup.server.upses ≡ Some ups
+  pub number : number_of (line_of setup m i).ups (numbering setup.server past) ≡ Some ups
   pub connected : connected ups past ≡ true
   pub heard : clock past ≤ heard_at ups past + setup.server.max_age
   pub status : Variable

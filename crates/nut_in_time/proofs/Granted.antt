@@ -11,6 +11,7 @@ use Rattle.nut_server_spec.specs.Command.{Asks, command_of}
 use Rattle.nut_server_spec.specs.Event.{Event, Step, Said, Reported, steps, with_lines, with_reports, Reloaded}
 use Rattle.nut_server_spec.specs.Content.{past}
 use Rattle.nut_server_spec.specs.Answer.{Answer, Line as OneLine, Scene, Caller, refused, require, check, with_right, has_right, may_be_primary, may_force, ups_number}
+use Rattle.nut_server_spec.specs.Numbering.{Numbering, number_of}
 use Rattle.nut_server_spec.specs.Effect.{user_then, password_then, forced_then, at_target, target}
 use Rattle.nut_server_spec.specs.Trace.{Entry, trace, user, password, logged_out, forced, scene, caller, answer_to, numbering}
 use Rattle.nut_server_spec.proofs.Requests.{require-case, check-case}
@@ -25,19 +26,19 @@ use Rattle.nut_fleet.specs.Exchange.{Exchange, exchanges}
 use Rattle.nut_fleet.specs.Fleet.{IsSpoken, IsAnswered, Exists}
 use Rattle.nut_fleet.proofs.Sound.{IsOwn, AreOwn}
 use Rattle.nut_fleet.proofs.Reading.{answer-said, reply-same}
-use Rattle.nut_fleet.proofs.Replying.{query-command, query-answer, never-out, number-there}
+use Rattle.nut_fleet.proofs.Replying.{query-command, query-answer, never-out}
 use Rattle.nut_fleet.proofs.Rereads.{KeepsRoom, IsAsMade, as-made, number-stays, room-stays}
 use Rattle.nut_in_time.specs.Room.{IsGrant}
 
 -- ---- a connection that gave the user and the password of a primary of the line's UPS
 
-pub record IsEntitled (first : Configuration) (line : Line) (names secrets : Option (List ℕ)) : Type 0 where
+pub record IsEntitled (first : Configuration) (line : Line) (now : Numbering) (names secrets : Option (List ℕ)) : Type 0 where
   pub name : List ℕ
   pub secret : List ℕ
   pub u : ℕ
   pub name_is : names ≡ Some name
   pub secret_is : secrets ≡ Some secret
-  pub number : number_of_ups line.ups first.upses ≡ Some u
+  pub number : number_of line.ups now ≡ Some u
   pub right : has_right may_be_primary secret (user_named name first.users) ≡ true
 
 -- what is known if a request that needs a right is granted
@@ -52,7 +53,7 @@ right-known P s k right ups next bad good =
     (λ holds. good name secret u given given' found holds))))
 
 granted-entitled : (first : Configuration) (t : List Entry) (c : ℕ) (line : Line) → IsAsMade first t → IsSpoken line → answer_to first t c (query_line line Primary) ≡ OneLine replies.Accepted →
-    IsEntitled first line (user c t) (password c t)
+    IsEntitled first line (numbering first t) (user c t) (password c t)
 granted-entitled first t c line made s is =
     right-known P (scene first t) (caller first t c) may_be_primary line.ups (λ u. OneLine replies.Accepted) bad
     (λ name secret u given given' found holds e. record {
@@ -61,13 +62,13 @@ granted-entitled first t c line made s is =
       u = u;
       name_is = given;
       secret_is = given';
-      number = number-there first t line.ups u made found;
+      number = found;
       right = sym (ap (λ users. has_right may_be_primary secret (user_named name users)) made.users) ∙ holds;
     })
     (answer-said first t c line Primary replies.Accepted s is)
   where
     P : Answer → Type 0
-    P a = a ≡ OneLine replies.Accepted → IsEntitled first line (user c t) (password c t)
+    P a = a ≡ OneLine replies.Accepted → IsEntitled first line (numbering first t) (user c t) (password c t)
 
     bad : (r : Refusal) → P (refused r)
     bad r e = let same : replies.Refused r ≡ replies.Accepted = reply-same (replies.Refused r) replies.Accepted e in cc
@@ -85,10 +86,10 @@ module _ (first : Configuration) (line : Line) (c : ℕ) (t : List Entry) (spoke
       password_then (Asks (request line query)) (answer_to first t c (query_line line query)) (password c t) ≡ Some secret
   secret-kept query secret is = grind (arith, query-answer)
 
-  entitled-said : (text : LineText) → ((query : Query) × (text ≡ query_line line query)) → IsEntitled first line (user c t) (password c t) →
-      IsEntitled first line (user_then (command_of text) (answer_to first t c text) (user c t)) (password_then (command_of text) (answer_to first t c text) (password c t))
+  entitled-said : (text : LineText) → ((query : Query) × (text ≡ query_line line query)) → IsEntitled first line (numbering first t) (user c t) (password c t) →
+      IsEntitled first line (numbering first t) (user_then (command_of text) (answer_to first t c text) (user c t)) (password_then (command_of text) (answer_to first t c text) (password c t))
   entitled-said text own e =
-      subst (λ x. IsEntitled first line (user_then (command_of x) (answer_to first t c x) (user c t)) (password_then (command_of x) (answer_to first t c x) (password c t))) (sym own.1)
+      subst (λ x. IsEntitled first line (numbering first t) (user_then (command_of x) (answer_to first t c x) (user c t)) (password_then (command_of x) (answer_to first t c x) (password c t))) (sym own.1)
       (let command = query-command line own.0 spoken in
       let said = answer_to first t c (query_line line own.0) in
       record {
@@ -103,7 +104,7 @@ module _ (first : Configuration) (line : Line) (c : ℕ) (t : List Entry) (spoke
 
 -- a connection on which PRIMARY was granted, and that sends nothing but queries
 pub entitled : (first : Configuration) (line : Line) (c : ℕ) (s : List Step) → KeepsRoom first s → IsSpoken line → AreOwn line (exchanges c (trace first s)) →
-    Exists (IsGrant line Primary) (exchanges c (trace first s)) → IsEntitled first line (user c (trace first s)) (password c (trace first s))
+    Exists (IsGrant line Primary) (exchanges c (trace first s)) → IsEntitled first line (numbering first (trace first s)) (user c (trace first s)) (password c (trace first s))
 entitled first line c [] none spoken own h = absurd h
 entitled first line c (Said d text ∷ s) none spoken own h =
     let t = trace first s in
@@ -113,19 +114,29 @@ entitled first line c (Said d text ∷ s) none spoken own h =
           let x : Exchange = record { line = text; answer = answer_to first t d text } in
           let own' : IsOwn line x × AreOwn line (exchanges c t) = rw is at own in
           let h' : IsGrant line Primary x ⊎ Exists (IsGrant line Primary) (exchanges c t) = rw is at h in
-          let before : IsEntitled first line (user c t) (password c t) =
+          let before : IsEntitled first line (numbering first t) (user c t) (password c t) =
           elim h' [
             | inl now ↦ granted-entitled first t c line (as-made first s none) spoken (ap (answer_to first t c) (sym now.0) ∙ sym (ap (λ k. answer_to first t k text) same) ∙ now.1)
             | inr older ↦ entitled first line c s none spoken own'.1 older
           ] in
-          rw is (subst (λ k. IsEntitled first line (user_then (command_of text) (answer_to first t k text) (user c t)) (password_then (command_of text) (answer_to first t k text) (password c t))) (sym same)
+          rw is (subst (λ k. IsEntitled first line (numbering first t) (user_then (command_of text) (answer_to first t k text) (user c t)) (password_then (command_of text) (answer_to first t k text) (password c t))) (sym same)
           (entitled-said first line c t spoken (never-out line c t own'.1) text own'.0.0 before))
       | inr is ↦
           let own' : AreOwn line (exchanges c t) = rw is at own in
           let h' : Exists (IsGrant line Primary) (exchanges c t) = rw is at h in
           rw is (entitled first line c s none spoken own' h')
     ]
-entitled first line c (Reloaded k ∷ s) none spoken own h = entitled first line c s none.3 spoken own h
+entitled first line c (Reloaded k ∷ s) none spoken own h =
+    let e = entitled first line c s none.3 spoken own h in
+    record {
+      name = e.name;
+      secret = e.secret;
+      u = e.u;
+      name_is = e.name_is;
+      secret_is = e.secret_is;
+      number = number-stays first s k line.ups e.u none e.number;
+      right = e.right;
+    }
 entitled first line c (_ ∷ s) none spoken own h = entitled first line c s none spoken own h
 
 -- ---- its FSD is accepted
@@ -139,13 +150,13 @@ right-goes : (names secrets : Option (List ℕ)) (number : Option ℕ) (test : L
 right-goes names secrets number test next name secret u e1 e2 e3 e4 = rw (e1, e2, e3, e4) refl
 
 pub entitled-forces : (first : Configuration) (line : Line) (c : ℕ) (t : List Entry) → IsAsMade first t → IsSpoken line → AreOwn line (exchanges c t) →
-    IsEntitled first line (user c t) (password c t) → answer_to first t c (query_line line Fsd) ≡ OneLine replies.FsdSet
+    IsEntitled first line (numbering first t) (user c t) (password c t) → answer_to first t c (query_line line Fsd) ≡ OneLine replies.FsdSet
 entitled-forces first line c t made spoken own e =
     let sc = scene first t in
     query-answer first t c line Fsd spoken (never-out line c t own)
     ∙ right-goes (user c t) (password c t) (ups_number sc line.ups)
     (λ n s. has_right may_force s (user_named n sc.configuration.users)) (λ u. OneLine replies.FsdSet) e.name e.secret e.u e.name_is e.secret_is
-    (number-stays first t line.ups made ∙ e.number)
+    e.number
     (ap (λ users. has_right may_force e.secret (user_named e.name users)) made.users
     ∙ force-right e.secret (user_named e.name first.users) e.right)
 
@@ -166,7 +177,7 @@ answered-forced setup m i u step early spoken number a =
     ∙ own-target u (target (numbering setup.server t) (command_of (query_line line Fsd)))
     (forced_then (command_of (query_line line Fsd)) (answer_to setup.server t c (query_line line Fsd))) (forced setup.server u t)
     (ap (target (numbering setup.server t)) command
-    ∙ number-stays setup.server t line.ups (as-made setup.server (steps (world setup early).server) (room-stays setup early)) ∙ number)
+    ∙ (as-made setup.server (steps (world setup early).server) (room-stays setup early)).named line.ups u number)
     (ap (λ k. forced_then k (answer_to setup.server t c (query_line line Fsd)) (forced setup.server u t)) command
     ∙ ap (λ x. forced_then (Asks (request line Fsd)) x (forced setup.server u t)) a.answered)
 

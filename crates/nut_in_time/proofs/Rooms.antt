@@ -26,7 +26,7 @@ use Rattle.nut_fleet.proofs.Primaries.{primaries-go_last, each_primary-at, same-
 use Rattle.nut_fleet.proofs.Sound.{IsLawful}
 use Rattle.nut_fleet.proofs.Others.{some-there}
 use Rattle.nut_fleet.proofs.Steps.{spoken, zero-closed}
-use Rattle.nut_fleet.proofs.Rereads.{number-within, room-stays}
+use Rattle.nut_fleet.proofs.Rereads.{room-stays}
 use Rattle.nut_fleet.proofs.Worlds.{sound}
 use Rattle.nut_fleet.proofs.Shutdowns.{or-right, power-more}
 use Rattle.nut_in_time.specs.Pace.{Pace, FromOn, IsSteady, IsWatched, Says, seen_at, shown_at}
@@ -397,7 +397,7 @@ module _ (tables : EveryTableHolds) (setup : Setup) (law : IsLawful setup.server
           | inr is ↦
               let now = answered-forced setup p i (u i) w.force_step w.force_early (spoken setup p i fine (there-at p i within)) (room.number i within primary) w.forced in
               let bad : false ≡ true = sym (ready.not_forced i within primary)
-              ∙ schedule-stays setup (u i) (number-within (line_of setup p i).ups setup.server.upses (u i) (room.number i within primary)) (w.force_step ∷ w.force_early) start (front-of (w.force_step ∷ w.force_early) early start w.forced_before is) now in cc
+              ∙ schedule-stays setup (line_of setup p i).ups (u i) (room.number i within primary) (w.force_step ∷ w.force_early) start (front-of (w.force_step ∷ w.force_early) early start w.forced_before is) now in cc
         ] in
         let config_p = monitor_of setup p in
         let running : has_ended config_p (seen_at setup p early) ≡ false = false-if (has_ended config_p (seen_at setup p early)) (λ any.

@@ -24,7 +24,7 @@ use Rattle.nut_fleet.proofs.Reading.{reply-same}
 use Rattle.nut_fleet.proofs.Sound.{EachGenuine, ForAnswer, ForcedBy, Genuine, IsLawful}
 use Rattle.nut_fleet.proofs.Steps.{spoken}
 use Rattle.nut_fleet.proofs.Worlds.{sound}
-use Rattle.nut_fleet.proofs.Rereads.{as-made, number-within, room-stays}
+use Rattle.nut_fleet.proofs.Rereads.{as-made, room-stays}
 use Rattle.nut_in_time.specs.Pace.{FromOn, IsPolled, KeepsPace, Pace, seen_at}
 use Rattle.nut_in_time.specs.Room.{IsGrant, WasGranted, is_forced}
 use Rattle.nut_in_time.specs.RoomAsTold.{EachTaken}
@@ -48,7 +48,7 @@ module _ (setup : Setup) (law : IsLawful setup.server) (fine : IsSetup setup) (p
   none-accepted : (step : Step) (early : List Step) → IsFront (step ∷ early) schedule → IsAnswered setup p i Fsd replies.FsdSet step early → ⊥
   none-accepted step early played answered =
       let now = answered-forced setup p i u step early (spoken setup p i fine there) number answered in
-      let bad : false ≡ true = sym not_forced ∙ schedule-stays setup u (number-within (line_of setup p i).ups setup.server.upses u number) (step ∷ early) schedule played now in cc
+      let bad : false ≡ true = sym not_forced ∙ schedule-stays setup (line_of setup p i).ups u number (step ∷ early) schedule played now in cc
 
   -- the server accepts each FSD on the link since `start`
   accepts : (early : List Step) (reply : Reply) → IsFront start early → IsFront early schedule →

@@ -9,6 +9,7 @@ pub mod Runs
 pub mod Changes
 pub mod Deeds
 pub mod Stepping
+pub mod Counting
 pub mod Standing
 pub mod Lacking
 pub mod Rooms

@@ -1,23 +1,25 @@
 -- A fleet that is that of a world continues as the world does.
-use Rattle.std.proofs.Common.{◌≡◌, ℕ, zero, suc, Bool, true, false, ◌&&◌, List, [], ◌∷◌, ◌++◌, length, map, slice_get, slice_index_or, refl, sym, ◌∙◌, ap, subst}
+use Rattle.std.proofs.Common.{◌≡◌, ℕ, zero, suc, Bool, true, false, ◌&&◌, ◌||◌, List, [], ◌∷◌, ◌++◌, length, map, slice_get, slice_index_or, refl, sym, ◌∙◌, ap, subst}
 use Rattle.std.specs.Prelude.{nat_lt}
 use Rattle.std.specs.List.{AllByRecursion}
 use Rattle.std.proofs.lemmas.List.{length-map}
 use Rattle.nut_words.specs.declared.limits.TheConstants.{PIECE_MAX}
 use Rattle.nut_conf.specs.declared.upsmon.MonConfig.{MonConfig}
 use Rattle.nut_server_spec.specs.Configuration.{Configuration as ServerConfiguration}
-use Rattle.nut_server_spec.specs.Event as arrivals
 use Rattle.nut_server_spec.specs.Content as server
+use Rattle.nut_server_spec.specs.Content.{past}
+use Rattle.nut_server_spec.specs.Trace.{configuration}
 use Rattle.nut_monitor_spec.specs.Configuration.{Configuration, Line, configuration_of}
 use Rattle.nut_monitor_spec.specs.Content as knowledge
 use Rattle.nut_monitor_spec.specs.Content.{for_each_line}
 use Rattle.nut_fleet.specs.Schedule.{Step, MonitorClock, Up, Driver, Down, Link, Out, Reach, Back, Land, CutServer, CutMonitor, Call, Accept, Other}
-use Rattle.nut_fleet.specs.World.{Setup, no_monitor, monitor_of, world, nothing, is_fit, has_link, has_ups}
+use Rattle.nut_fleet.specs.World.{Setup, no_monitor, monitor_of, world, nothing, deed_of, is_fit, is_other, has_link, has_ups}
 use Rattle.nut_fleet.specs.Fleet.{IsMonitor, ConfigurationsAreSpoken}
 use Rattle.nut_fleet.specs.Log.{logged, log, news}
 use Rattle.nut_fleet.specs.machine.Going.{FleetsGoOn}
-use Rattle.nut_fleet.specs.Seen.{KeepsLink}
-use Rattle.nut_fleet.proofs.Rereads.{as-made, room-stays}
+use Rattle.nut_fleet.specs.Seen.{Keeps, KeepsLink}
+use Rattle.nut_fleet.proofs.Deeds.{if-played}
+use Rattle.nut_play.proofs.Counting.{same-upses}
 use Rattle.nut_play.specs.Kept.{Seat, Kept, fleet_of, no_ends, ends_at, links_in, known_in, fresh_seat, fresh_fleet, IsFleet}
 use Rattle.nut_play.specs.machine.Next.{known_of, changed_at, next, fits, fits_link, reach_seat, back_seat, out_seat, land_seat, join_seat}
 use Rattle.nut_play.specs.machine.Play.{told_at, run, run_log, AreFit}
@@ -57,13 +59,8 @@ module _ (setup : Setup) (schedule : List Step) (k : Kept) (is : IsFleet setup (
       ap (λ s. let t : knowledge.Content = s in length t.watches) (is.keeps.monitor m)
       ∙ length-for_each _ (monitor_of setup m).lines
 
-  upses : length k.server.configuration.upses ≡ length setup.server.upses
-  upses =
-      ap (λ s. let t : server.Content = s in length t.configuration.upses) is.keeps.server
-      ∙ (as-made setup.server (arrivals.steps (world setup schedule).server) (room-stays setup schedule)).as_many
-
   same-ups : (u : ℕ) → nat_lt u (length k.server.configuration.upses) ≡ has_ups setup u
-  same-ups u = ap (nat_lt u) upses
+  same-ups u = ap (nat_lt u) is.upses
 
   same-link_there : (m i : ℕ) → fits_link k m i ≡ has_link setup m i
   same-link_there m i =
@@ -137,10 +134,19 @@ module _ (setup : Setup) (earlier : List Step) (k : Kept) (step : Step) (go : Fl
   pub stands-on : IsFleet setup (world setup (step ∷ earlier)) (next k step)
   stands-on =
       let stay : Stays k (next k step) = stays k step in
+      let keeps : Keeps setup (world setup (step ∷ earlier)) (fleet_of (next k step)) =
+      same-keeps setup (world setup (step ∷ earlier)) (fleet_of (next k step)) _ (goes k step ok).0 (go.goes_on (fleet_of k) step step-fits is.keeps) in
+      let w = world setup earlier in
+      let many : length (configuration setup.server (past setup.server (world setup (step ∷ earlier)).server)).upses ≡ length (configuration setup.server (past setup.server w.server)).upses =
+      if-played (λ v. length (configuration setup.server (past setup.server v.server)).upses ≡ length (configuration setup.server (past setup.server w.server)).upses) setup w
+      (is_other setup step || is_fit setup step) (deed_of setup w step) refl (λ either. ap (λ us. length us) (same-upses setup w step step-fits)) in
       record {
         monitors = stay.monitors ∙ is.monitors;
         links = stay.links ∙ is.links;
-        keeps = same-keeps setup (world setup (step ∷ earlier)) (fleet_of (next k step)) _ (goes k step ok).0 (go.goes_on (fleet_of k) step step-fits is.keeps);
+        keeps = keeps;
+        upses =
+            ap (λ s. let t : server.Content = s in length t.configuration.upses) keeps.server ∙ many
+            ∙ sym (ap (λ s. let t : server.Content = s in length t.configuration.upses) is.keeps.server) ∙ is.upses;
         works = stay.works ∙ is.works;
       }
 
@@ -212,5 +218,6 @@ module _ (first : ServerConfiguration) where
           subst (λ e. KeepsLink (record { server = first; monitors = map configuration_of confs }) m i 0 [] [] e) (sym (fresh-ends confs m i))
           (record { connection = refl; to_server = λ up. absurd (cc); to_monitor = λ up. absurd (cc) });
     };
+    upses = refl;
     works = refl;
   }

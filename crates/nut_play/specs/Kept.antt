@@ -60,9 +60,10 @@ fresh_fleet first monitors = record { server = server.content first []; seats = 
 
 -- ---- the world that it belongs to
 
--- What is kept is the fleet of this world, which hasn't failed.
+-- What is kept is the fleet of this world, which hasn't failed, and to which no reload has added a UPS.
 pub record IsFleet (setup : Setup) (w : World) (k : Kept) : Type 0 where
   pub monitors : map (λ (seat : Seat). configuration_of seat.monitor.config) k.seats ≡ setup.monitors
   pub links : map (λ (seat : Seat). length seat.links) k.seats ≡ map (λ (c : Configuration). length c.lines) setup.monitors
   pub keeps : Keeps setup w (fleet_of k)
+  pub upses : length k.server.configuration.upses ≡ length setup.server.upses
   pub works : k.failed ≡ false

@@ -4,9 +4,7 @@ use Rattle.nut_server_spec.proofs.Others.{closed-stays, opened-fresh}
 use Rattle.std.proofs.Common.{◌≡◌, ◌⊎◌, ℕ, zero, suc, ◌<◌, ◌≤◌, ◌==◌, ◌&&◌, ◌||◌, min, append_assoc, length-append, Bool, true, false, inl, inr, List, [], ◌∷◌, ◌++◌, length, take, drop, Option, Some, None, is_some, refl, sym, ◌∙◌, ap, subst, arith}
 use Rattle.std.specs.Prelude.{nat_lt}
 use Rattle.std.proofs.lemmas.Bool.{cases_Bool, cases_eq, and_parts, eqb-true, eq-eqb, ne_eqb, ltb-true, ltb-false, lt-ltb}
-use Rattle.std.specs.Str.{bytes_eq}
 use Rattle.std.proofs.lemmas.Slice.Eq.{bytes_eq-Decides}
-use Rattle.nut_server_spec.specs.Numbering.{renumbered}
 use Rattle.nut_words.specs.Quoting.{Begins}
 use Rattle.nut_words.specs.declared.limits.TheConstants.{PIECE_MAX}
 use Rattle.nut_server_spec.specs.Event as arrivals
@@ -22,7 +20,7 @@ use Rattle.nut_monitor_spec.specs.Acceptance as monitor_tests
 use Rattle.nut_monitor_spec.specs.Trace.{trace, linked, notices_waiting}
 use Rattle.nut_monitor_spec.specs.Trace as monitor
 use Rattle.nut_fleet.specs.Schedule.{Step, IsFront, MonitorClock, CutMonitor, Call, Accept, Write, Land, Reach, Other}
-use Rattle.nut_fleet.specs.World.{Setup, World, Deed, Tell, Inform, Renew, Meet, monitor_of, seen, served, known, is_open, is_linked, tell, inform, carried, any_below, is_of_link, are_next, is_unknown, heeded, may_tell, has_link, deed, after, all_taken, informed, for_monitor, world}
+use Rattle.nut_fleet.specs.World.{Setup, World, Deed, Tell, Inform, Renew, Meet, monitor_of, seen, served, known, is_open, is_linked, tell, inform, carried, any_below, is_of_link, are_next, is_unknown, heeded, keeps_all, may_tell, has_link, deed, after, all_taken, informed, for_monitor, world}
 use Rattle.nut_running.specs.Running.{Happening, AtServer, AtMonitor, server_history, history, calls, sent_on, Network, IsNetwork, May, IsCarried}
 use Rattle.nut_running.specs.Rooms.{quiet_history, Has}
 use Rattle.nut_fleet.proofs.Fronts.{begins-then, begins-nothing, drop-front, length-0}
@@ -633,8 +631,7 @@ module _ (setup : Setup) (joined : Network) (fine : IsNetwork setup joined) (run
   at-the-server (arrivals.Open address) may ok = by-open address ok
   at-the-server (arrivals.Reload new) may ok =
       by-other (arrivals.Reload new) refl (ap (λ x. arrivals.Reload x) may.0)
-      (subst (λ x. bytes_eq (renumbered new.upses (server.numbering_of (server.content setup.server x))) (server.content setup.server x).numbers ≡ true) (sym f.server)
-      ((bytes_eq-Decides _ _).1 may.1)) ok
+      (subst (λ x. keeps_all new.upses (server.numbering_of (server.content setup.server x)) ≡ true) (sym f.server) may.1) ok
   at-the-server event may ok = by-other event refl refl refl ok
 
   -- ---- monitors

@@ -5,13 +5,12 @@ use Rattle.nut_server_spec.specs.Configuration.{Configuration as ServerConfigura
 use Rattle.nut_server_spec.specs.Event as arrivals
 use Rattle.nut_server_spec.specs.Content as server
 use Rattle.nut_server_spec.specs.Acceptance as server_tests
-use Rattle.nut_server_spec.specs.Numbering.{renumbered}
 use Rattle.nut_monitor_spec.specs.Configuration.{Configuration}
 use Rattle.nut_monitor_spec.specs.Event as events
 use Rattle.nut_monitor_spec.specs.Acceptance as monitor_tests
 use Rattle.nut_monitor_spec.specs.Trace as monitor
 use Rattle.nut_monitor_spec.specs.Trace.{trace}
-use Rattle.nut_fleet.specs.World.{Setup, monitor_of, kept_from, has_link}
+use Rattle.nut_fleet.specs.World.{Setup, monitor_of, keeps_all, kept_from, has_link}
 use Rattle.nut_server_loop.specs.Served as served
 use Rattle.nut_server_loop.specs.declared.types.Peer.{Peer}
 use Rattle.nut_monitor_loop.specs.Watched as watched
@@ -56,9 +55,9 @@ pub record IsNetwork (setup : Setup) (network : Network) : Type 0 where
   pub of_links : (m i k c : ℕ) → network m i k ≡ Some c → has_link setup m i ≡ true
   pub distinct : (m i k n j l c : ℕ) → network m i k ≡ Some c → network n j l ≡ Some c → (m ≡ n) × (i ≡ j) × (k ≡ l)
 
--- A reload changes no UPS, no user and not MAXAGE, and gives each UPS the number that it has.
+-- A reload changes no user, not MAXAGE, and no UPS that there is. It may add some.
 abbrev pub IsHarmless : Setup → server.Content → ServerConfiguration → Type 0
-IsHarmless setup s new = (kept_from setup.server new ≡ new) × (renumbered new.upses (server.numbering_of s) ≡ s.numbers)
+IsHarmless setup s new = (kept_from setup.server new ≡ new) × (keeps_all new.upses (server.numbering_of s) ≡ true)
 
 -- What may happen next. Bytes come to an end of a connection only if they are the next that the other end has sent: in any
 -- pieces, as late as you like, or never. Whatever belongs to no call may say anything, and so may drivers. Memory suffices at

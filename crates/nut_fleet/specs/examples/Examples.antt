@@ -7,7 +7,7 @@ use Rattle.nut_monitor_spec.specs.declared.Phase.TheVariants.{Forcing, Final, Ha
 use Rattle.nut_monitor_spec.specs.Configuration.{Configuration, with_defaults}
 use Rattle.nut_monitor_spec.specs.Decision.{told, shutdown_told}
 use Rattle.nut_monitor_spec.specs.Trace.{status}
-use Rattle.nut_server_spec.specs.Configuration.{Ups}
+use Rattle.nut_server_spec.specs.Configuration.{Ups, User}
 use Rattle.nut_server_spec.specs.Content.{past}
 use Rattle.nut_server_spec.specs.Event.{Open, Bytes, Close, Reload}
 use Rattle.nut_fleet.specs.Schedule.{Step, ServerClock, MonitorClock, Up, Driver, Down, Link, Out, Reach, Back, Land, CutServer, CutMonitor, Call, Accept, Other}
@@ -76,9 +76,14 @@ calls_again = Link 0 0 ∷ rounds 0 3 ++ CutMonitor 0 0 ∷ Call 0 0 ∷ comes �
 abbrev pub narrow : Setup
 narrow = record alone { server = record alone.server { most_connections = 1 } }
 
--- the server reads its files again
+-- The server reads files again that have these UPSes with this driver, and no users.
+abbrev pub rereads_as : List (List ℕ) → List ℕ → Step
+rereads_as names driver =
+    Other (Reload (record alone.server { upses = map (λ name. record { name = name; driver = driver; description = codes "Rack 2" }) names; users = [] }))
+
+-- There is another UPS, before the one that there was.
 abbrev pub rereads : Step
-rereads = Other (Reload (record alone.server { upses = record { name = []; driver = []; description = codes "Rack 2" } ∷ []; users = [] }))
+rereads = rereads_as (codes "aux" ∷ codes "su700" ∷ []) (codes "dummy-ups")
 
 -- the world after these steps, and their news; here the oldest step comes first
 abbrev pub world_of : Setup → List Step → World
@@ -113,9 +118,12 @@ pub record FleetExamples : Type 0 where
   -- another client may say anything on its own connection, and nothing on that of a link
   pub others :
       told_by alone (comes ∷ Link 0 0 ∷ says_lines 1 (codes "FSD su700" ∷ []) ∷ says_lines 2 (codes "FSD su700" ∷ []) ∷ rereads ∷ []) ≡ at 4 Skipped ∷ []
-  -- of a reload the description counts
-  pub described : map (λ (ups : Ups). ups.description) (served alone (world_of alone (rereads ∷ []))).configuration.upses ≡ codes "Rack 2" ∷ []
-  pub named : map (λ (ups : Ups). ups.name) (served alone (world_of alone (rereads ∷ []))).configuration.upses ≡ codes "su700" ∷ []
+  -- a reload adds a UPS, and leaves the number of the other; none takes a UPS away, or gives it another driver
+  pub added : map (λ (ups : Ups). ups.name) (served alone (world_of alone (rereads ∷ []))).configuration.upses ≡ codes "aux" ∷ codes "su700" ∷ []
+  pub numbered : (served alone (world_of alone (rereads ∷ []))).numbers ≡ 1 ∷ 0 ∷ []
+  pub users_stay : map (λ (user : User). user.name) (served alone (world_of alone (rereads ∷ []))).configuration.users ≡ codes "mon" ∷ []
+  pub none_goes :
+      told_by alone (rereads_as (codes "aux" ∷ []) (codes "dummy-ups") ∷ rereads_as (codes "su700" ∷ []) (codes "other") ∷ []) ≡ at 1 Skipped ∷ at 2 Skipped ∷ []
   -- bytes that a monitor put into its pipe before its end was cut still reach the server; a new link's pipes are empty
   pub in_the_pipe : to_server alone (world_of alone (Link 0 0 ∷ Out 0 0 5 ∷ CutMonitor 0 0 ∷ [])) 0 0 ≡ codes "USERN"
   pub on_its_way : to_server alone (world_of alone (Link 0 0 ∷ Out 0 0 5 ∷ CutMonitor 0 0 ∷ Reach 0 0 3 ∷ [])) 0 0 ≡ codes "RN"
