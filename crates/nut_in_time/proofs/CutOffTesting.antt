@@ -1,29 +1,43 @@
--- The test that a machine hears nothing proves it.
-use Rattle.std.proofs.Common.{◌≡◌, ◌⊎◌, ℕ, ◌<◌, ◌≤◌, inl, inr, List, ◌∷◌, ◌++◌, length, true, refl, ◌∙◌, ap, arith}
+-- The tests of what a machine hears and a server shows prove it.
+use Rattle.std.proofs.Common.{◌≡◌, ◌⊎◌, ◌==◌, ◌||◌, ℕ, ◌<◌, ◌≤◌, inl, inr, List, ◌∷◌, ◌++◌, length, Bool, true, false, refl, sym, ◌∙◌, ap, arith}
 use Rattle.std.proofs.lemmas.Bool.{cases_Bool, eqb-true}
 use Rattle.nut_monitor_spec.specs.Event.{Event}
-use Rattle.nut_monitor_spec.specs.Trace.{answer_of, at_status, entry_of, gives_status, trace}
+use Rattle.nut_monitor_spec.specs.Trace.{answer_of, at_status, entry_of, gives_status, status, trace}
 use Rattle.nut_fleet.specs.Schedule.{Step}
 use Rattle.nut_fleet.specs.World.{Setup, monitor_of}
 use Rattle.nut_in_time.specs.Pace.{seen_at}
-use Rattle.nut_in_time.specs.CutOff.{HearsNothing}
-use Rattle.nut_in_time.specs.Tests.{each_since, hears_nothing}
+use Rattle.nut_in_time.specs.CutOff.{HearsOnly, ShowsOnly}
+use Rattle.nut_in_time.specs.Tests.{each_since, hears_only, if_shown, says, shows_only}
 use Rattle.nut_in_time.proofs.Climbing.{each-event}
 use Rattle.nut_in_time.proofs.CutOff.{same-unread}
 use Rattle.nut_in_time.proofs.Polling.{status-read}
 use Rattle.nut_in_time.proofs.RoomSteps.{latest-shorter}
-use Rattle.nut_in_time.proofs.Testing.{each-holds}
+use Rattle.nut_in_time.proofs.Testing.{each-holds, says-holds}
+
+or-cases : (a b : Bool) → (a || b) ≡ true → (a ≡ true) ⊎ (b ≡ true)
+or-cases true b is = inl refl
+or-cases false b is = inr is
+
+pub shows-holds : (setup : Setup) (m i : ℕ) (Words : List (List ℕ) → Bool) (start newest : List Step) → each_since (shows_only setup m i Words) start newest ≡ true →
+    ShowsOnly Words setup m start (newest ++ start) i
+shows-holds setup m i Words start newest is early within since words shown =
+    sym (ap (if_shown Words) shown) ∙ each-holds (shows_only setup m i Words) start newest is early within since
 
 -- ---- the last status is the same if its event has the same number
 
-pub silent-holds : (setup : Setup) (m i : ℕ) (start newest : List Step) → each_since (hears_nothing setup m i start) start newest ≡ true →
-    HearsNothing setup m start (newest ++ start) i
-silent-holds setup m i start newest is early inside since =
-    let same = eqb-true (length (at_status i (seen_at setup m early))) (length (at_status i (seen_at setup m start)))
-    (each-holds (hears_nothing setup m i start) start newest is early inside since) in
-    elim (each-event setup m start early P since (inl refl, omega arith) on).0 [
-      | inl equal ↦ equal
-      | inr more ↦ absurd (omega (arith, same, more))
+pub hears-holds : (setup : Setup) (m i : ℕ) (Words : List (List ℕ) → Bool) (start newest : List Step) → each_since (hears_only setup m i Words start) start newest ≡ true →
+    HearsOnly Words setup m start (newest ++ start) i
+hears-holds setup m i Words start newest is early inside since =
+    let at = length (at_status i (seen_at setup m early)) in
+    let first = length (at_status i (seen_at setup m start)) in
+    elim (or-cases (at == first) (says Words (status i (seen_at setup m early))) (each-holds (hears_only setup m i Words start) start newest is early inside since)) [
+      | inr says ↦ inr (says-holds Words (status i (seen_at setup m early)) says)
+      | inl numbers ↦
+          let same = eqb-true at first numbers in
+          elim (each-event setup m start early P since (inl refl, omega arith) on).0 [
+            | inl equal ↦ inl equal
+            | inr more ↦ absurd (omega (arith, same, more))
+          ]
     ]
   where
     P : List Event → Type 0
