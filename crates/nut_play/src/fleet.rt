@@ -1,8 +1,6 @@
 //! The fleet.
 
 ghost use Rattle.std.specs.Prelude.{◌≡◌, ◌++◌, ◌∷◌, ◌<◌, true, false, List, [], length, map, IfOk, IfErr, Err, OnOk, OnErr, IsTrue, slice_get};
-ghost use Rattle.nut_server_spec.specs.Event as arrivals;
-ghost use Rattle.nut_monitor_spec.specs.Event as events;
 ghost use Rattle.std.specs.Option.{option_map};
 ghost use Rattle.nut_server.specs.Arrival.{event_of};
 ghost use Rattle.nut_monitor.specs.Events.{event_of as told_as};
@@ -192,56 +190,6 @@ impl Fleet {
         seat.links[i].connection
     }
 
-    /// Shows the server this time on its clock. Returns whether the step was played.
-    fn show_clock(&mut self, t: u64) -> Result<bool, Lack>
-        ensures played { IfOk result (λ played. played ≡ is_played (tell_by self.old.server (arrivals.Moment t))) }
-        ensures fleet { OnOk result (self.new ≡ told_to self.old (arrivals.Moment t)) }
-        ensures lack { OnErr result (ServerLacks self.old.server (tell_by self.old.server (arrivals.Moment t))) }
-    {
-        self.serve(Arrival::Moment(t))
-    }
-
-    /// Connects the driver of a UPS. Returns whether the step was played.
-    fn connect(&mut self, u: usize) -> Result<bool, Lack>
-        ensures played { IfOk result (λ played. played ≡ is_played (tell_by self.old.server (arrivals.DriverUp u))) }
-        ensures fleet { OnOk result (self.new ≡ told_to self.old (arrivals.DriverUp u)) }
-        ensures lack { OnErr result (ServerLacks self.old.server (tell_by self.old.server (arrivals.DriverUp u))) }
-    {
-        self.serve(Arrival::DriverUp(u))
-    }
-
-    /// Passes a line of the driver of a UPS to the server. Returns whether the step was played.
-    fn say(&mut self, u: usize, line: &[u8]) -> Result<bool, Lack>
-        requires fit { length line.now < PIECE_MAX }
-        ensures played { IfOk result (λ played. played ≡ is_played (tell_by self.old.server (arrivals.DriverBytes u (line.now ++ 10 ∷ [])))) }
-        ensures fleet { OnOk result (self.new ≡ told_to self.old (arrivals.DriverBytes u (line.now ++ 10 ∷ []))) }
-        ensures lack { OnErr result (ServerLacks self.old.server (tell_by self.old.server (arrivals.DriverBytes u (line.now ++ 10 ∷ [])))) }
-    {
-        let piece = with_feed(line);
-        self.serve(Arrival::DriverBytes(u, piece.as_slice()))
-    }
-
-    /// Disconnects the driver of a UPS. Returns whether the step was played.
-    fn disconnect(&mut self, u: usize) -> Result<bool, Lack>
-        ensures played { IfOk result (λ played. played ≡ is_played (tell_by self.old.server (arrivals.DriverDown u))) }
-        ensures fleet { OnOk result (self.new ≡ told_to self.old (arrivals.DriverDown u)) }
-        ensures lack { OnErr result (ServerLacks self.old.server (tell_by self.old.server (arrivals.DriverDown u))) }
-    {
-        self.serve(Arrival::DriverDown(u))
-    }
-
-    /// Cuts the server's end of a link. Returns whether the step was played.
-    fn cut(&mut self, m: usize, i: usize) -> Result<bool, Lack>
-        requires within { m < length self.old.seats }
-        requires there { i < length (links_in (slice_get self.old.seats m)) }
-        ensures played { IfOk result (λ played. played ≡ is_played (tell_by self.old.server (arrivals.Close (link_of self.old m i).connection))) }
-        ensures fleet { OnOk result (self.new ≡ told_to self.old (arrivals.Close (link_of self.old m i).connection)) }
-        ensures lack { OnErr result (ServerLacks self.old.server (tell_by self.old.server (arrivals.Close (link_of self.old m i).connection))) }
-    {
-        let c = self.connection(m, i);
-        self.serve(Arrival::Close(c))
-    }
-
     /// Plays one step, and logs what its monitor reports. Returns whether the step was played; if not, it is
     /// skipped.
     fn step(&mut self, step: &Step, k: usize, log: &mut Vec<Logged>) -> Result<bool, Lack>
@@ -252,17 +200,23 @@ impl Fleet {
         ensures lack { OnErr result (StepLacks self.old (step_of step.now)) }
     {
         match step {
-            Step::ServerClock(t) => self.show_clock(*t),
+            Step::ServerClock(t) => self.serve(Arrival::Moment(*t)),
             Step::MonitorClock(m, t) => self.hear(*m, Event::Moment(*t), k, log),
-            Step::Up(u) => self.connect(*u),
-            Step::Driver(u, line) => self.say(*u, line.as_slice()),
-            Step::Down(u) => self.disconnect(*u),
+            Step::Up(u) => self.serve(Arrival::DriverUp(*u)),
+            Step::Driver(u, line) => {
+                let piece = with_feed(line.as_slice());
+                self.serve(Arrival::DriverBytes(*u, piece.as_slice()))
+            }
+            Step::Down(u) => self.serve(Arrival::DriverDown(*u)),
             Step::Link(m, i) => self.join(place(*m, *i, k), log),
             Step::Out(m, i, n) => self.send(place(*m, *i, k), *n, log),
             Step::Reach(m, i, n) => self.reach(*m, *i, *n),
             Step::Back(m, i, n) => self.back(*m, *i, *n),
             Step::Land(m, i, n) => self.land(place(*m, *i, k), *n, log),
-            Step::CutServer(m, i) => self.cut(*m, *i),
+            Step::CutServer(m, i) => {
+                let connection = self.connection(*m, *i);
+                self.serve(Arrival::Close(connection))
+            }
             Step::CutMonitor(m, i) => self.hear(*m, Event::LinkLost(*i), k, log),
         }
     }

@@ -2,8 +2,8 @@ use Rattle.std.proofs.Common.{arith}
 use Rattle.nut_play.proofs.Fits.{fits_line, fits_there, fits_watched, fits_within}
 use Rattle.nut_play.proofs.fleet.Fleet.step.Goals as goal
 
-pub say-requires : goal.say-requires
-say-requires c = grind (arith, fits_line)
+pub with_feed-piece-requires : goal.with_feed-piece-requires
+with_feed-piece-requires c = grind (arith, fits_line)
 
 pub join-requires-clause-within : goal.join-requires-clause-within
 join-requires-clause-within c = grind (arith, fits_within)
@@ -38,8 +38,8 @@ land-requires-clause-within c = grind (arith, fits_within)
 pub land-requires-clause-there : goal.land-requires-clause-there
 land-requires-clause-there c = grind (arith, fits_there)
 
-pub cut-requires-clause-within : goal.cut-requires-clause-within
-cut-requires-clause-within c = grind (arith, fits_within)
+pub connection-connection-requires-clause-within : goal.connection-connection-requires-clause-within
+connection-connection-requires-clause-within c = grind (arith, fits_within)
 
-pub cut-requires-clause-there : goal.cut-requires-clause-there
-cut-requires-clause-there c = grind (arith, fits_there)
+pub connection-connection-requires-clause-there : goal.connection-connection-requires-clause-there
+connection-connection-requires-clause-there c = grind (arith, fits_there)
