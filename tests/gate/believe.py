@@ -122,7 +122,7 @@ class Source:
         self.path, self.text = path, read(path)
         self.imports = Imports(self.text.replace("ghost use", "use"))
         self.functions = list(self.find_functions())
-        self.ghosts = re.findall(r"^\s*ghost (?!use)\w+: ([^;]*);", self.text, re.M)
+        self.ghosts = re.findall(r"^\s*ghost (?!use)\w+: (\{(?:[^{}]|\{[^{}]*\})*\});", self.text, re.M)
         self.ghost_names = set(re.findall(r"^\s*ghost (?!use)(\w+)", self.text, re.M))
 
     def find_functions(self):

@@ -129,23 +129,6 @@ impl Rounds {
         moment
     }
 
-    /// Looks at the clock, and returns whether one more second is over. Tokens 0 to `fixed` - 1 are then looked at in
-    /// the next round.
-    ///
-    /// # Errors
-    ///
-    /// The error of the clock.
-    pub fn look_at_clock(&mut self, clock: &impl Clock) -> io::Result<bool>
-        ensures { IfOk result (λ _. Looks [] self.old.ready self.new.ready) }
-    {
-        let passed = self.seconds.elapsed(clock)?;
-        let is_full = self.seconds.look_at(passed);
-        if is_full {
-            self.ready.insert_first(self.fixed);
-        }
-        Ok(is_full)
-    }
-
     /// Begins the next round.
     pub fn begin(&mut self)
         ensures ready { self.new.ready ≡ begun self.old.ready }

@@ -1,6 +1,6 @@
 //! Whole seconds.
 
-ghost use Rattle.std.specs.Prelude.{◌≡◌, ◌+◌, IfSome, nat_lt, false, if◌then◌else◌};
+ghost use Rattle.std.specs.Prelude.{◌≡◌, ◌+◌, ◌≤◌, IfSome, nat_lt, false, if◌then◌else◌};
 ghost use Rattle.nut_poll.specs.Moments.{IsTold, moment_at, whole_seconds};
 
 use std::io;
@@ -24,6 +24,7 @@ pub struct Seconds {
     is_due: bool,
     /// How long it was until the next second when the clock was last looked at.
     ahead: Duration,
+    ghost no_sooner: { told + untold ≤ full },
 }
 
 impl Seconds {
@@ -81,6 +82,8 @@ impl Seconds {
     pub fn look_at(&mut self, passed: Duration) -> bool
         ensures more { result ≡ nat_lt self.old.full (whole_seconds passed) }
         ensures full { self.new.full ≡ (if result then whole_seconds passed else self.old.full) }
+        ensures each { self.new.untold + self.old.full ≡ self.old.untold + self.new.full }
+        ensures told { self.new.told ≡ self.old.told }
     {
         let part = Duration::from_nanos(u64::from(passed.subsec_nanos()));
         self.ahead = Duration::from_secs(1).saturating_sub(part);
@@ -89,7 +92,7 @@ impl Seconds {
             return false;
         }
         self.full = passed.as_secs();
-        self.untold = self.untold.saturating_add(more);
+        self.untold += more;
         self.is_due = true;
         true
     }
@@ -99,21 +102,24 @@ impl Seconds {
     pub fn next(&mut self, all: bool) -> Option<u64>
         ensures turn { IfSome result (λ t. t ≡ self.old.told + 1) }
         ensures told { IfSome result (λ t. self.new.told ≡ t) }
+        ensures over { IfSome result (λ t. t ≤ self.old.full) }
+        ensures used { IfSome result (λ t. self.new.untold + 1 ≡ self.old.untold) }
         ensures once { self.new.is_due ≡ false }
+        ensures full { self.new.full ≡ self.old.full }
     {
         let has_next = self.untold > 0 && (all || self.is_due);
         self.is_due = false;
         if !has_next {
             return None;
         }
-        self.told = self.told.checked_add(1)?;
-        self.untold = self.untold.saturating_sub(1);
+        self.told += 1;
+        self.untold -= 1;
         Some(self.told)
     }
 
     /// Forgets the missed seconds: the next second that is handed out follows the last one.
     pub fn forget_missed(&mut self) {
-        self.untold = u64::from(self.is_due);
+        self.untold = self.untold.min(u64::from(self.is_due));
     }
 
     /// Returns how long it was until the next second when the clock was last looked at.
