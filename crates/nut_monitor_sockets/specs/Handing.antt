@@ -1,19 +1,26 @@
--- Which of its notices the world of a monitor hands on.
-use Rattle.std.specs.Prelude.{◌≡◌, Bool, true, false, List, [], ◌∷◌, if◌then◌else◌}
-use Rattle.nut_conf.specs.declared.notice.Notice.{Notice as Kind}
-use Rattle.nut_conf.specs.declared.notice.Notice.TheVariants.{Commbad, Commok}
+-- Which of its notices the world of a monitor hands on, and in which order.
+use Rattle.std.specs.Prelude.{◌≢◌, ℕ, List, [], ◌∷◌, ◌++◌, Some, map}
+use Rattle.nut_conf.specs.declared.notice.Notice.TheVariants.{Commbad, Commok, Shutdown}
 use Rattle.nut_monitor_spec.specs.declared.Notice.{Notice}
 
--- a notice that is never held back or dropped: any but that a UPS is lost or there again
-abbrev pub is_lasting : Kind → Bool
-is_lasting Commbad = false
-is_lasting Commok = false
-is_lasting kind = true
+-- COMMBAD of a line
+abbrev pub lost : ℕ → Notice
+lost line = record { kind = Commbad; line = Some line }
 
-abbrev pub lasting : List Notice → List Notice
-lasting [] = []
-lasting (notice ∷ notices) = if is_lasting notice.kind then notice ∷ lasting notices else lasting notices
+-- COMMOK of a line
+abbrev pub back : ℕ → Notice
+back line = record { kind = Commok; line = Some line }
 
--- Notices of which this holds were handed on for these, in the same order: the lasting ones are the same, each once.
-abbrev pub HandsOn : (List Notice → Type 0) → List Notice → Type 0
-HandsOn Told notices = (told : List Notice) × Told told × (lasting told ≡ lasting notices)
+-- These notices may be handed on for those: all of them, in the same order, except that COMMBAD may come later, though before
+-- SHUTDOWN and before the COMMOK of its line. It may be left out together with a COMMOK of its line that follows.
+pub data StandFor (handed : List Notice) : List Notice → Type 0 where
+  all : StandFor handed handed
+  later : (before after : List Notice) (line : ℕ) (notice : Notice) → notice.kind ≢ Shutdown → notice ≢ back line
+      → StandFor handed (before ++ notice ∷ lost line ∷ after) → StandFor handed (before ++ lost line ∷ notice ∷ after)
+  neither : (before after : List Notice) (line : ℕ)
+      → StandFor handed (before ++ after) → StandFor handed (before ++ lost line ∷ back line ∷ after)
+
+-- Notices of which this holds were handed on for these. COMMBAD of the first lines was held back before, and that of the
+-- second lines is now.
+abbrev pub HandsOn : (List Notice → Type 0) → List ℕ → List ℕ → List Notice → Type 0
+HandsOn Told held held' notices = (told : List Notice) × Told told × StandFor (told ++ map lost held') (map lost held ++ notices)

@@ -1,6 +1,6 @@
 //! The world of a monitor over sockets.
 
-ghost use Rattle.std.specs.Prelude.{◌≡◌, ◌<◌, ℕ, [], ◌∷◌, ◌+◌, ◌-◌, ◌^◌, length, refl, IsOk, is_ok, if◌then◌else◌, IfOk, OnOk, OnErr};
+ghost use Rattle.std.specs.Prelude.{◌≡◌, ◌<◌, ℕ, [], ◌∷◌, ◌+◌, ◌-◌, ◌^◌, length, IsOk, is_ok, if◌then◌else◌, IfOk, OnOk, OnErr};
 ghost use Rattle.nut_io.specs.Writes.{IsWithin, late_after};
 ghost use Rattle.nut_monitor_loop.specs.Record.{written_by};
 ghost use Rattle.nut_monitor_loop.specs.Watched.{handed};
@@ -8,7 +8,7 @@ ghost use Rattle.nut_poll.specs.Late.{is_noted};
 ghost use Rattle.nut_poll.specs.Queue.{TakesTurns};
 ghost use Rattle.nut_poll.specs.inside.TurnLaws.{turns_on, turns_self};
 ghost use Rattle.nut_monitor_sockets.specs.Handing.{HandsOn};
-ghost use Rattle.nut_monitor_sockets.specs.inside.HandingLaws.{hands_on_twice};
+ghost use Rattle.nut_monitor_sockets.specs.inside.HandingLaws.{hands_on_twice, none_handed};
 
 use crate::held_losses::HeldLosses;
 use crate::herald::Herald;
@@ -110,6 +110,7 @@ impl<'r, 'e, R: Net + Clock + Processes, H: Herald> MioMonWorld<'r, 'e, R, H> {
         requires few { self.old.faults < 2 ^ 64 - 1 }
         ensures counted { self.new.faults ≡ (if is_ok result then self.old.faults else self.old.faults + 1) }
         ensures herald { self.new.herald ≡ self.old.herald }
+        ensures held { OnOk result (self.new.held_losses.lines.items ≡ []) }
         ensures turns { TakesTurns self.old.links.rounds.ready self.new.links.rounds.ready }
     {
         if self.links.begin(&mut self.services, links).is_err() {
@@ -135,10 +136,12 @@ ghost use Rattle.std.specs.Prelude.{◌≢◌, ◌<◌, ◌≤◌, IfOk, IfSome,
 
 impl<'r, 'e, R: Net + Clock + Processes, H: Herald> MonWorld for MioMonWorld<'r, 'e, R, H> {
     ghost did = { λ config a b entries.
-        HandsOn (H.told config a.herald b.herald) (handed entries) × TakesTurns a.links.rounds.ready b.links.rounds.ready };
+        HandsOn (H.told config a.herald b.herald) a.held_losses.lines.items b.held_losses.lines.items (handed entries)
+        × TakesTurns a.links.rounds.ready b.links.rounds.ready };
 
     ghost awaits = { λ config a b entries.
-        HandsOn (H.told config a.herald b.herald) (handed entries) × TakesTurns a.links.rounds.ready b.links.rounds.ready };
+        HandsOn (H.told config a.herald b.herald) a.held_losses.lines.items b.held_losses.lines.items (handed entries)
+        × TakesTurns a.links.rounds.ready b.links.rounds.ready };
 
     ghost late = { λ w i. is_noted w.late.items i };
 
@@ -148,17 +151,22 @@ impl<'r, 'e, R: Net + Clock + Processes, H: Herald> MonWorld for MioMonWorld<'r,
 
     ghost has_ended = { λ w. H.wants_end w.herald };
 
-    ghost did_self = { λ config w. (([], H.told_self config w.herald, refl), turns_self w.links.rounds.ready) };
+    ghost did_self = { λ config w. (
+      none_handed (H.told config w.herald w.herald) w.held_losses.lines.items (H.told_self config w.herald),
+      turns_self w.links.rounds.ready,
+    ) };
 
     ghost did_on = { λ config a b c xs ys first second. (
       hands_on_twice (H.told config a.herald b.herald) (H.told config b.herald c.herald)
-          (H.told config a.herald c.herald) (H.told_on config a.herald b.herald c.herald) xs ys first.0 second.0,
+          (H.told config a.herald c.herald) (H.told_on config a.herald b.herald c.herald)
+          a.held_losses.lines.items b.held_losses.lines.items c.held_losses.lines.items xs ys first.0 second.0,
       turns_on a.links.rounds.ready b.links.rounds.ready c.links.rounds.ready first.1 second.1,
     ) };
 
     ghost awaits_on = { λ config a b c xs ys first second. (
       hands_on_twice (H.told config a.herald b.herald) (H.told config b.herald c.herald)
-          (H.told config a.herald c.herald) (H.told_on config a.herald b.herald c.herald) xs ys first.0 second.0,
+          (H.told config a.herald c.herald) (H.told_on config a.herald b.herald c.herald)
+          a.held_losses.lines.items b.held_losses.lines.items c.held_losses.lines.items xs ys first.0 second.0,
       turns_on a.links.rounds.ready b.links.rounds.ready c.links.rounds.ready first.1 second.1,
     ) };
 
@@ -198,8 +206,10 @@ impl<'r, 'e, R: Net + Clock + Processes, H: Herald> MonWorld for MioMonWorld<'r,
         ensures elsewhere { OnErr result (Unit {0} → ⊥) }
         ensures count { self.new.faults ≡ self.old.faults }
         ensures ok { IfOk result (λ w. HandsOn (H.told _monitor.now.config self.old.herald self.new.herald)
+            self.old.held_losses.lines.items self.new.held_losses.lines.items
             (handed (written_by w i bytes.now ∷ [])) × TakesTurns self.old.links.rounds.ready self.new.links.rounds.ready) }
-        ensures err { OnErr result (HandsOn (H.told _monitor.now.config self.old.herald self.new.herald) []
+        ensures err { OnErr result (HandsOn (H.told _monitor.now.config self.old.herald self.new.herald)
+            self.old.held_losses.lines.items self.new.held_losses.lines.items []
             × TakesTurns self.old.links.rounds.ready self.new.links.rounds.ready) }
         ensures within { IfOk result (λ w. IsWithin w (length bytes.now)) }
         ensures late { IfOk result (λ w. (j : ℕ)
@@ -213,9 +223,11 @@ impl<'r, 'e, R: Net + Clock + Processes, H: Herald> MonWorld for MioMonWorld<'r,
         ensures no_fault { IsOk result }
         ensures elsewhere { OnErr result (Unit {0} → ⊥) }
         ensures count { self.new.faults ≡ self.old.faults }
-        ensures ok { OnOk result (HandsOn (H.told _monitor.now.config self.old.herald self.new.herald) []
+        ensures ok { OnOk result (HandsOn (H.told _monitor.now.config self.old.herald self.new.herald)
+            self.old.held_losses.lines.items self.new.held_losses.lines.items []
             × TakesTurns self.old.links.rounds.ready self.new.links.rounds.ready) }
-        ensures err { OnErr result (HandsOn (H.told _monitor.now.config self.old.herald self.new.herald) []
+        ensures err { OnErr result (HandsOn (H.told _monitor.now.config self.old.herald self.new.herald)
+            self.old.held_losses.lines.items self.new.held_losses.lines.items []
             × TakesTurns self.old.links.rounds.ready self.new.links.rounds.ready) }
         ensures late { (j : ℕ) → is_noted self.new.late.items j ≡ is_noted self.old.late.items j }
     {
@@ -227,9 +239,11 @@ impl<'r, 'e, R: Net + Clock + Processes, H: Herald> MonWorld for MioMonWorld<'r,
         ensures no_fault { IsOk result }
         ensures elsewhere { OnErr result (Unit {0} → ⊥) }
         ensures count { self.new.faults ≡ self.old.faults }
-        ensures ok { OnOk result (HandsOn (H.told monitor.now.config self.old.herald self.new.herald) (notice ∷ [])
+        ensures ok { OnOk result (HandsOn (H.told monitor.now.config self.old.herald self.new.herald)
+            self.old.held_losses.lines.items self.new.held_losses.lines.items (notice ∷ [])
             × TakesTurns self.old.links.rounds.ready self.new.links.rounds.ready) }
-        ensures err { OnErr result (HandsOn (H.told monitor.now.config self.old.herald self.new.herald) []
+        ensures err { OnErr result (HandsOn (H.told monitor.now.config self.old.herald self.new.herald)
+            self.old.held_losses.lines.items self.new.held_losses.lines.items []
             × TakesTurns self.old.links.rounds.ready self.new.links.rounds.ready) }
         ensures late { (j : ℕ) → is_noted self.new.late.items j ≡ is_noted self.old.late.items j }
     {

@@ -1,5 +1,5 @@
 -- What upsmon did over a whole run, watch by watch.
-use Rattle.std.proofs.Common.{◌≡◌, ℕ, Bool, true, false, List, [], ◌∷◌, ◌++◌, Option, Some, None, Result, Ok, Err, IfSome, IfOk, OnOk, OnErr, if◌then◌else◌, sym, ◌∙◌, ap, append-nil, subst, refl}
+use Rattle.std.proofs.Common.{◌≡◌, ℕ, Bool, true, false, List, [], ◌∷◌, ◌++◌, map, Option, Some, None, Result, Ok, Err, IfSome, IfOk, OnOk, OnErr, if◌then◌else◌, sym, ◌∙◌, ap, append-nil, subst, refl}
 use Rattle.std.specs.Prelude.{option_map}
 use Rattle.std.specs.List.{AllByRecursion}
 use Rattle.nut_conf.specs.declared.upsmon.MonConfig.{MonConfig}
@@ -10,7 +10,7 @@ use Rattle.nut_monitor_spec.specs.Content.{Content, phase_of}
 use Rattle.nut_monitor_spec.specs.Decision.{is_halted}
 use Rattle.nut_monitor_loop.specs.Record.{Entry}
 use Rattle.nut_monitor_loop.specs.Watched.{Watched, entries_of, handed}
-use Rattle.nut_monitor_sockets.specs.Handing.{HandsOn, lasting}
+use Rattle.nut_monitor_sockets.specs.Handing.{HandsOn, StandFor, lost}
 use Rattle.nut_upsmon.specs.declared.beginning.Beginning.{Beginning}
 use Rattle.nut_upsmon.specs.Acts.{Act, Changed, ClearedFlag, IsQuiet, RanShutdown, Readied, TriedFlag, does}
 use Rattle.nut_upsmon.specs.Course.{EndsInFault, EndsInHalt, Ran, Watch, tellings, told_all}
@@ -64,12 +64,12 @@ some_did first Did s (Ok phase) ok err = (entries_of ok.steps, ok.did)
 some_did first Did s (Err e) ok err = (entries_of err.1.steps, err.1.did)
 
 -- what was handed on was told
-pub leads : {W E : Type 0} (Did : MonConfig → W → W → List Entry → Type 0) (Turns : W → W → Type 0) (acts : W → Option (List Act)) (upcoming : W → Option Beginning)
+pub leads : {W E : Type 0} (Did : MonConfig → W → W → List Entry → Type 0) (Turns : W → W → Type 0) (acts : W → Option (List Act)) (upcoming : W → Option Beginning) (held : W → List ℕ)
     (config : MonConfig) (first begun last : W) (result : Result Phase E)
-    → Turns first begun → acts begun ≡ acts first
-    → ((entries : List Entry) → Did config begun last entries → HandsOn (Tells config (acts begun) (upcoming begun) (acts last) (upcoming last)) (handed entries))
+    → Turns first begun → acts begun ≡ acts first → held begun ≡ []
+    → ((entries : List Entry) → Did config begun last entries → HandsOn (Tells config (acts begun) (upcoming begun) (acts last) (upcoming last)) (held begun) (held last) (handed entries))
     → IfOk result (Whole config (Did config begun last)) → IfOk result (Leads Did Turns acts config first last)
-leads Did Turns acts upcoming config first begun last (Ok phase) begins same tells it =
+leads Did Turns acts upcoming held config first begun last (Ok phase) begins same none tells it =
     let on = tells (entries_of it.steps) it.did in
     record {
       steps = it.steps;
@@ -79,10 +79,10 @@ leads Did Turns acts upcoming config first begun last (Ok phase) begins same tel
       did = it.did;
       is = it.is;
       says = it.says;
-      tells = on.2 ∙ ap lasting it.handed_all;
+      tells = (held last, subst (StandFor (on.0 ++ map lost (held last))) (ap (λ l. map lost l ++ handed (entries_of it.steps)) none ∙ it.handed_all) on.2);
       told = on.1.1 ∙ ap (λ a. told_all config on.0 (option_map tellings a)) same;
     }
-leads Did Turns acts upcoming config first begun last (Err e) begins same tells it = tt
+leads Did Turns acts upcoming held config first begun last (Err e) begins same none tells it = tt
 
 pub fails : {W E : Type 0} (Did : MonConfig → W → W → List Entry → Type 0) (Turns : W → W → Type 0) (config : MonConfig) (first begun last : W) (result : Result Phase E) (Sure : Type 0)
     → Turns first begun → OnErr result (Sure → Broken config (Did config begun last)) → OnErr result (Sure → Fails Did Turns config first last)

@@ -1,5 +1,5 @@
 -- What upsmon did over a whole run: one watch after the other, and the halt.
-use Rattle.std.specs.Prelude.{◌≡◌, ℕ, Bool, false, List, [], ◌∷◌, ◌++◌, Option, Some, IfSome, option_map}
+use Rattle.std.specs.Prelude.{◌≡◌, ℕ, Bool, false, List, [], ◌∷◌, ◌++◌, map, Option, Some, IfSome, option_map}
 use Rattle.std.specs.List.{AllByRecursion}
 use Rattle.nut_conf.specs.declared.upsmon.MonConfig.{MonConfig}
 use Rattle.nut_monitor_spec.specs.declared.Notice.{Notice}
@@ -12,7 +12,7 @@ use Rattle.nut_monitor_spec.specs.Content.{content, phase_of}
 use Rattle.nut_monitor_spec.specs.Decision.{is_halted}
 use Rattle.nut_monitor_loop.specs.Record.{Entry}
 use Rattle.nut_monitor_loop.specs.Watched.{Step, Told, entries_of, history_of}
-use Rattle.nut_monitor_sockets.specs.Handing.{lasting}
+use Rattle.nut_monitor_sockets.specs.Handing.{StandFor, lost}
 use Rattle.nut_upsmon.specs.Acts.{Act, Printed, Called, IsHalted, told}
 
 -- the acts that tell a notice, of a history
@@ -40,10 +40,10 @@ IsWatch w =
     IsAccepted (configuration_of w.config) (history_of w.steps)
     × ((owed : Option ℕ) × Told (configuration_of w.config) w.steps owed)
 
--- The notices handed on are those of its monitor, in order and each once. Of those that a UPS is lost or there again some may
--- be left out or come later, as the first seconds of upsmon hold them back.
+-- The notices handed on, and COMMBAD of the lines for which it was still held back at the end, stand for those of its monitor.
 abbrev pub IsTold : Watch → Type 0
-IsTold w = lasting w.given ≡ lasting (notices (trace (configuration_of w.config) (history_of w.steps)))
+IsTold w =
+    (held : List ℕ) × StandFor (w.given ++ map lost held) (notices (trace (configuration_of w.config) (history_of w.steps)))
 
 -- what its monitor said at last
 abbrev pub last_phase : Watch → Phase

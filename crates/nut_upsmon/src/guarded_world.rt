@@ -1,6 +1,6 @@
 //! The world of one watch after the other.
 
-ghost use Rattle.std.specs.Prelude.{◌≡◌, ◌+◌, ◌-◌, ◌^◌, ◌<◌, List, Option, Some, None, is_ok, is_some, if◌then◌else◌};
+ghost use Rattle.std.specs.Prelude.{◌≡◌, ◌+◌, ◌-◌, ◌^◌, ◌<◌, ℕ, List, [], Option, Some, None, is_ok, is_some, if◌then◌else◌, OnOk};
 ghost use Rattle.nut_conf.specs.declared.upsmon.MonConfig.{MonConfig};
 ghost use Rattle.nut_monitor_loop.specs.Record.{Entry};
 ghost use Rattle.nut_monitor_loop.specs.Watched.{handed};
@@ -30,6 +30,9 @@ pub trait GuardedWorld: MonWorld {
     /// What the next watch begins with, if the actor is ready for it.
     ghost upcoming: { Self → Option Begins };
 
+    /// The MONITOR lines whose COMMBAD is held back.
+    ghost held: { Self → List ℕ };
+
     /// By calls between two watches the first state may become the second.
     ghost turns: { Self → Self → Type 0 };
 
@@ -43,6 +46,7 @@ pub trait GuardedWorld: MonWorld {
         ensures turns { turns self.old self.new }
         ensures acts { acts self.new ≡ acts self.old }
         ensures upcoming { upcoming self.new ≡ upcoming self.old }
+        ensures held { OnOk result (held self.new ≡ []) }
         ensures counted { Self.fault_count self.new ≡ (if is_ok result then Self.fault_count self.old else Self.fault_count self.old + 1) };
 
     /// Has the actor halt and tell by the configuration that it is ready for. Returns what its watch begins with.
@@ -73,7 +77,7 @@ pub trait GuardedWorld: MonWorld {
 
     /// What it does in a watch has the actor tell the notices that are handed on.
     ghost tells: { (config : MonConfig) (a b : Self) (entries : List Entry) → Self.did config a b entries
-        → HandsOn (Tells config (acts a) (upcoming a) (acts b) (upcoming b)) (handed entries) };
+        → HandsOn (Tells config (acts a) (upcoming a) (acts b) (upcoming b)) (held a) (held b) (handed entries) };
 }
 
 impl<'r, 'e, R, A> GuardedWorld for MioMonWorld<'r, 'e, R, Guard<A>>
@@ -84,6 +88,8 @@ where
     ghost acts = { λ w. A.log w.herald.actor };
 
     ghost upcoming = { λ w. w.herald.next };
+
+    ghost held = { λ w. w.held_losses.lines.items };
 
     ghost turns = { λ a b. TakesTurns a.links.rounds.ready b.links.rounds.ready };
 

@@ -4,8 +4,8 @@ use Rattle.nut_upsmon.proofs.watching.watch_once.Goals as goal
 
 pub returns-clause-ok : goal.returns-clause-ok
 returns-clause-ok g c =
-    leads g.W.MonWorld.did g.W.GuardedWorld.turns g.W.GuardedWorld.acts g.W.GuardedWorld.upcoming c.args.beginning.monitor.config c.args.world.now
-    c.begin.new.self c.watch_from.new.world c.watch_from.result c.begin.ensures.turns c.begin.ensures.acts
+    leads g.W.MonWorld.did g.W.GuardedWorld.turns g.W.GuardedWorld.acts g.W.GuardedWorld.upcoming g.W.GuardedWorld.held c.args.beginning.monitor.config
+    c.args.world.now c.begin.new.self c.watch_from.new.world c.watch_from.result c.begin.ensures.turns c.begin.ensures.acts c.in_ok-begin.ensures.held
     (λ entries did. g.met.W.GuardedWorld.tells _ _ _ entries did) c.watch_from.ensures.ok
 
 pub returns-clause-err : goal.returns-clause-err

@@ -4,7 +4,4 @@ use Rattle.nut_monitor_sockets.proofs.InTurn.{stays}
 use Rattle.nut_monitor_sockets.proofs.mio_mon_world.MioMonWorldMonWorld.close.Goals as goal
 
 pub returns-clause-ok : goal.returns-clause-ok
-returns-clause-ok g c = (
-  none_handed _ (g.met.H.Herald.told_self c.args._monitor.now.config c.args.self.now.herald),
-  ([], stays c.args.self.now.links.rounds.ready c.close.new.self.rounds.ready c.close.ensures),
-)
+returns-clause-ok g c = (none_handed _ _ (g.met.H.Herald.told_self c.args._monitor.now.config c.args.self.now.herald), ([], stays _ _ c.close.ensures))
