@@ -1,8 +1,9 @@
 //! All links of a monitor, watched by one poll.
 
-ghost use Rattle.std.specs.Prelude.{◌≡◌, ◌≢◌, ℕ, [], length, unwrap_or, vec_len, IfSome, IfOk, OnErr, Some, None};
+ghost use Rattle.std.specs.Prelude.{◌≡◌, ◌≢◌, ◌≤◌, ◌+◌, ℕ, true, if◌then◌else◌, [], length, unwrap_or, vec_len, IfSome, IfOk, OnErr, Some, None};
 ghost use Rattle.nut_io.specs.Writes.{IsWithin};
 ghost use Rattle.nut_monitor_loop.specs.declared.types.Next.TheVariants as next;
+ghost use Rattle.nut_monitor_sockets.specs.Silence.{IsSilent};
 ghost use Rattle.nut_monitor_sockets.specs.Turns.{ComesInTurn, IsGivenBy};
 ghost use Rattle.nut_poll.specs.Queue.{Looks, TakesTurns};
 
@@ -92,6 +93,8 @@ pub struct LinkServices<'r, 'e, R: Processes> {
 pub struct Links {
     rounds: Rounds,
     upstreams: Vec<Upstream>,
+    /// The second that was handed out last.
+    clock: u64,
     /// Whether the clock was found to have moved on since that was last asked.
     has_moved_on: bool,
     /// How long a server may take at present.
@@ -110,6 +113,7 @@ impl Links {
         Ok(Links {
             rounds: Rounds::new(rt, alloc, 0)?,
             upstreams: Vec::new(alloc),
+            clock: 0,
             has_moved_on: false,
             limits: CALM,
             is_ending: false,
@@ -158,6 +162,7 @@ impl Links {
         self.rounds.ready.insert_first(upstreams.len());
         self.upstreams = upstreams;
         self.rounds.begin();
+        self.clock = 0;
         self.has_moved_on = false;
         self.limits = CALM;
         self.is_ending = false;
@@ -214,8 +219,8 @@ impl Links {
             return Some(next);
         }
         let all = self.may_catch_up(monitor);
-        let moment = self.rounds.seconds.next(all)?;
-        Some(Next::Moment(moment))
+        self.clock = self.rounds.seconds.next(all)?;
+        Some(Next::Moment(self.clock))
     }
 
     /// Whether the clock was found to have moved on since this was last asked. Of several seconds that come at once,
@@ -251,8 +256,9 @@ impl Links {
     pub fn told(&mut self, monitor: &Monitor, i: usize, reports: &mut Reports<'_>)
         ensures { Looks [] self.old.rounds.ready self.new.rounds.ready }
     {
+        let due = self.due();
         if let (Some(upstream), Some(answer)) = (self.upstreams.get_mut(i), monitor.last_answer(i))
-            && upstream.note_answer(answer)
+            && upstream.note_answer(answer, due.saturating_sub(answer.asked.moment))
         {
             tell_answer(upstream, answer, monitor.linked(i), reports);
         }
@@ -263,16 +269,27 @@ impl Links {
         }
     }
 
+    /// Returns the second that is handed out next if it is over, or else the one that was handed out last.
+    fn due(&self) -> u64
+        ensures { result ≤ self.now.clock + (if self.now.has_moved_on then 1 else 0) }
+    {
+        self.clock.saturating_add(u64::from(self.has_moved_on))
+    }
+
     /// Ends a link whose server owes an answer, and has for too long. Returns whether it did.
     fn end_silent(&mut self, monitor: &Monitor, i: usize, reports: &mut Reports<'_>) -> bool
-        ensures { self.new.rounds.ready ≡ self.old.rounds.ready }
+        ensures turns { self.new.rounds.ready ≡ self.old.rounds.ready }
+        ensures silent { result ≡ true
+            → IsSilent self.old.limits.answer (self.old.clock + (if self.old.has_moved_on then 1 else 0)) monitor.now.content i }
     {
         let (Some(query), Some(upstream)) = (outstanding(monitor, i), self.upstreams.get(i)) else {
             return false;
         };
-        let is_overdue = upstream.is_overdue(query, self.limits);
+        let limit = self.limits.answer;
+        let is_overdue = upstream.is_up()
+            && u64::from(limit) < self.due().saturating_sub(query.moment);
         if is_overdue {
-            self.end(i, Loss::Silent(self.limits.answer), reports);
+            self.end(i, Loss::Silent(limit), reports);
         }
         is_overdue
     }

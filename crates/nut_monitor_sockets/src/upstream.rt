@@ -5,7 +5,6 @@ ghost use Rattle.nut_io.specs.Writes.{IsWithin};
 
 use crate::dialler::Dialler;
 use crate::host::DialledHost;
-use crate::inquiry::Inquiry;
 use crate::limits::{ANSWER_ON_BATTERY, Limits};
 use crate::pause::Pause;
 use crate::refusals::{ErrorName, Refusals};
@@ -33,8 +32,8 @@ enum LinkStage {
     Down,
     /// An address is being dialled, and hasn't answered for this many seconds.
     Calling(Link<TcpStream>, u8),
-    /// The link is made: its socket, and how long its query has been outstanding.
-    Up(Link<TcpStream>, Inquiry),
+    /// The link is made: its socket, and the query whose answer was noted last.
+    Up(Link<TcpStream>, Option<LastQuery>),
 }
 
 /// The link to the server of a MONITOR line.
@@ -126,10 +125,8 @@ impl Upstream {
         };
         self.host.second();
         self.pause.second(limits.pause);
-        match &mut self.stage {
-            LinkStage::Down => {}
-            LinkStage::Calling(_, waited) => *waited = waited.saturating_add(1),
-            LinkStage::Up(_, inquiry) => inquiry.second(asked),
+        if let LinkStage::Calling(_, waited) = &mut self.stage {
+            *waited = waited.saturating_add(1);
         }
     }
 
@@ -172,8 +169,8 @@ impl Upstream {
                 Ok(false)
             }
             LinkStage::Calling(link, waited) => self.go_on(dialler, link, waited),
-            LinkStage::Up(link, inquiry) => {
-                self.stage = LinkStage::Up(link, inquiry);
+            LinkStage::Up(link, answered) => {
+                self.stage = LinkStage::Up(link, answered);
                 Ok(false)
             }
         }
@@ -196,7 +193,7 @@ impl Upstream {
         match is_answered(link.stream(), waited) {
             Ok(true) => {
                 self.unended = 0;
-                self.stage = LinkStage::Up(link, Inquiry::new());
+                self.stage = LinkStage::Up(link, None);
                 Ok(true)
             }
             Ok(false) => {
@@ -237,12 +234,13 @@ impl Upstream {
         self.unended > LINE_MAX
     }
 
-    /// Notes the last answer on the link. Returns whether it wasn't noted before.
-    pub fn note_answer(&mut self, answer: &LastAnswer) -> bool {
+    /// Notes the last answer on the link, which took so many seconds. Returns whether it wasn't noted before.
+    pub fn note_answer(&mut self, answer: &LastAnswer, took: u64) -> bool {
         match &mut self.stage {
-            LinkStage::Up(_, inquiry) => {
-                self.was_late = inquiry.is_overdue(answer.asked, ANSWER_ON_BATTERY);
-                inquiry.note(answer.asked)
+            LinkStage::Up(_, answered) => {
+                self.was_late = took > u64::from(ANSWER_ON_BATTERY);
+                // A query and its moment tell it from all others on its link: none is put again within a second.
+                answered.replace(answer.asked) != Some(answer.asked)
             }
             LinkStage::Down | LinkStage::Calling(_, _) => false,
         }
@@ -285,14 +283,6 @@ impl Upstream {
             self.host.serve();
         }
         is_first
-    }
-
-    /// Whether this query has been outstanding for too long.
-    pub fn is_overdue(&self, query: LastQuery, limits: Limits) -> bool {
-        match &self.stage {
-            LinkStage::Up(_, inquiry) => inquiry.is_overdue(query, limits.answer),
-            LinkStage::Down | LinkStage::Calling(_, _) => false,
-        }
     }
 
     /// Offers bytes to the server.
