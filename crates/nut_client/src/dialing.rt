@@ -24,20 +24,11 @@ pub(crate) fn dial_host<'r, R: Net + Clock>(
     let Ok(host) = str::from_utf8(host.as_bytes()) else {
         return Err(io::Error::from(ErrorKind::InvalidInput));
     };
-    TimedStream::new(rt, connect(rt, host, port.number)?)
-}
-
-/// Connects to the first address of this host that accepts a connection in time.
-///
-/// # Errors
-///
-/// That of the look-up, or of the last address.
-fn connect<R: Net>(net: &R, host: &str, port: u16) -> io::Result<R::Stream> {
     let limit = Duration::from_secs(ACCEPT_SECONDS);
     let mut last = io::Error::from(ErrorKind::AddrNotAvailable);
-    for address in (host, port).to_socket_addrs(net)? {
-        match TcpStream::connect_timeout(net, &address, limit) {
-            Ok(stream) => return Ok(stream),
+    for address in (host, port.number).to_socket_addrs(rt)? {
+        match TcpStream::connect_timeout(rt, &address, limit) {
+            Ok(stream) => return TimedStream::new(rt, stream),
             Err(error) => last = error,
         }
     }

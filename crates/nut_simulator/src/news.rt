@@ -17,9 +17,13 @@ pub fn write_news<O: Write>(
         News::Notice(monitor, notice) => {
             write!(out, "{number}: monitor {monitor} notice ")?;
             out.write_all(notice.kind.word())?;
-            if let Some(target) = target_of(fleet, monitor, notice.line) {
+            // the UPS of a MONITOR line as it is written there, if the notice is about one
+            if let Some(line) = notice.line
+                && let Some(config) = fleet.config(monitor)
+                && let Some(monitored) = config.monitors.lines.get(line)
+            {
                 out.write_all(b" ")?;
-                out.write_all(target)?;
+                out.write_all(monitored.written.as_slice())?;
             }
             out.write_all(b"\n")
         }
@@ -33,11 +37,4 @@ pub fn write_news<O: Write>(
             writeln!(out, "{number}: monitor {monitor} phase {phase}")
         }
     }
-}
-
-/// Returns the UPS of a MONITOR line as it is written there, if a line is named.
-fn target_of(fleet: &Fleet, monitor: usize, line: Option<usize>) -> Option<&[u8]> {
-    let config = fleet.config(monitor)?;
-    let monitored = config.monitors.lines.get(line?)?;
-    Some(monitored.written.as_slice())
 }

@@ -3,7 +3,7 @@
 use crate::fault::NutsimFault;
 use crate::news::write_news;
 use crate::progress::Progress;
-use nut_play::{Fleet, FleetFault, Logged, Step, StepFault, read_step};
+use nut_play::{Fleet, FleetFault, Step, StepFault, read_step};
 use nut_program::{Failure, FileFault};
 use nut_words::{Line, LineCutter};
 use std::alloc::Global;
@@ -121,7 +121,14 @@ impl<'a, O: Write, E: Write> Playing<'a, O, E> {
     /// Plays the step of a line, and writes its news and, if that is due, how far the schedule has been played.
     fn play_line(&mut self, line: Line<'_>) -> Result<(), Stop> {
         self.number = self.number.saturating_add(1);
-        let step = self.read(line)?;
+        let Line::Text(text) = line else {
+            return Err(Stop::BadStep(self.number));
+        };
+        let step = match read_step(self.alloc, text) {
+            Ok(step) => step,
+            Err(StepFault::BadStep) => return Err(Stop::BadStep(self.number)),
+            Err(StepFault::Memory) => return Err(Stop::Memory),
+        };
         self.play(step)?;
         if self.progress.is_due(self.number) {
             if self.out.flush().is_err() {
@@ -132,30 +139,14 @@ impl<'a, O: Write, E: Write> Playing<'a, O, E> {
         Ok(())
     }
 
-    /// Reads the step of a line.
-    fn read(&self, line: Line<'_>) -> Result<Step, Stop> {
-        let Line::Text(text) = line else {
-            return Err(Stop::BadStep(self.number));
-        };
-        match read_step(self.alloc, text) {
-            Ok(step) => Ok(step),
-            Err(StepFault::BadStep) => Err(Stop::BadStep(self.number)),
-            Err(StepFault::Memory) => Err(Stop::Memory),
-        }
-    }
-
     /// Plays a step and writes its news.
     fn play(&mut self, step: Step) -> Result<(), Stop> {
-        match self.fleet.play(slice::from_ref(&step)) {
-            Ok(log) => self.write(log.as_slice()),
-            Err(FleetFault::BadStep(_)) => Err(Stop::BadStep(self.number)),
-            Err(FleetFault::Memory(_) | FleetFault::Failed) => Err(Stop::Memory),
-        }
-    }
-
-    /// Writes the news of a step.
-    fn write(&mut self, log: &[Logged]) -> Result<(), Stop> {
-        for logged in log {
+        let log = match self.fleet.play(slice::from_ref(&step)) {
+            Ok(log) => log,
+            Err(FleetFault::BadStep(_)) => return Err(Stop::BadStep(self.number)),
+            Err(FleetFault::Memory(_) | FleetFault::Failed) => return Err(Stop::Memory),
+        };
+        for logged in log.as_slice() {
             self.progress.clear();
             if write_news(self.out, self.fleet, self.number, logged).is_err() {
                 return Err(Stop::Output);

@@ -19,24 +19,13 @@ pub fn read_config(
     Ok(Config::new(ups, users, upsd))
 }
 
-/// Reads the upsmon.conf of each monitor, in order.
+/// Reads the upsmon.conf of each monitor, in order, whatever the file is called.
 pub fn read_monitors<'a>(
     files: &impl Files,
     alloc: Global,
     paths: &[&'a str],
 ) -> Result<Vec<MonConfig>, Failure<NutsimFault<'a>>> {
     let mut monitors = Vec::new(alloc);
-    add_monitors(files, alloc, paths, &mut monitors)?;
-    Ok(monitors)
-}
-
-/// Adds what the upsmon.conf of each monitor sets, whatever the file is called.
-fn add_monitors<'a>(
-    files: &impl Files,
-    alloc: Global,
-    paths: &[&'a str],
-    monitors: &mut Vec<MonConfig>,
-) -> Result<(), Failure<NutsimFault<'a>>> {
     for path in paths {
         // a fault names the file without its directory
         let name = match path.rsplit_once('/') {
@@ -44,9 +33,9 @@ fn add_monitors<'a>(
             None => *path,
         };
         let monitor = read_conf_at(files, alloc, path, name)?;
-        add(monitors, monitor)?;
+        add(&mut monitors, monitor)?;
     }
-    Ok(())
+    Ok(monitors)
 }
 
 /// Adds what an upsmon.conf sets. It is apart from the loop, to keep the proof of that short.
