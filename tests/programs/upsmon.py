@@ -88,11 +88,6 @@ def put_upsc(folder, script):
     return f"{path}:/usr/bin:/bin"
 
 
-def squeezed(lines):
-    """Returns the lines, with repeated ones only once."""
-    return [line for line, _ in itertools.groupby(lines)]
-
-
 def fails(target):
     """Returns what is printed where a UPS fails."""
     return [ON_BATTERY % target, BATTERY_LOW % target, SHUTDOWN]
@@ -201,7 +196,8 @@ class Tests(MonitorTests):
                         watch.until_printed(ESTABLISHED % target)
                 until(lambda: watch.lines().count(LOST % target) == round, "the loss is told")
             wanted = [UNAVAILABLE % target, LOST % target, ESTABLISHED % target, LOST % target]
-            found = squeezed(watch.lines())
+            # repeated lines only once
+            found = [line for line, _ in itertools.groupby(watch.lines())]
             expect([line for line in found if line != UNAVAILABLE % target], wanted[1:], "what is told")
             expect(found[0], wanted[0], "what is told first")
             expect(watch.process.poll(), None, "it goes on")

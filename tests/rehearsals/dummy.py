@@ -74,9 +74,6 @@ class Play:
     def steps(self):
         return [line.step for line in self.lines]
 
-    def table_before(self, at):
-        return next(line.wanted for line in reversed(self.lines[:at]) if line.step == ("dummy table",))
-
     def compare(self, found, at):
         """Compares the lines of a run in which a call was refused at most once. Returns a word for what was refused."""
         kind = "nothing"
@@ -98,7 +95,8 @@ class Play:
             return "driver" if it == NO_DRIVER else "script"
         lack = LACK.fullmatch(it)
         ensure(lack is not None, f"{line.step} gives {it!r}, wanted {line.wanted!r}")
-        before, stands = self.table_before(place), found[place + 1]
+        before = next(line.wanted for line in reversed(self.lines[:place]) if line.step == ("dummy table",))
+        stands = found[place + 1]
         if line.step[0] == "dummy moment":
             expect((lack[1], stands), (b"0", before), f"after {line.step}")
             return "moment"

@@ -20,10 +20,6 @@ NO_MONITOR = b"Memory { link: None, lines: 0 }"
 TAKES = re.compile("> bytes |link [0-9]+ takes ")
 
 
-def is_piece(step):
-    return step[0] == "monitor bytes"
-
-
 class Tests(StageTests):
     def test_runs(self):
         for run in RUNS:
@@ -36,7 +32,7 @@ class Tests(StageTests):
             steps, due = [], []
             for at, check in enumerate(run.checks):
                 # each part of a piece that is refused would be refused
-                if not is_piece(check.step) or check.front != b"ok ":
+                if check.step[0] != "monitor bytes" or check.front != b"ok ":
                     continue
                 verb, link, piece = check.step
                 for place in places(piece):
@@ -97,16 +93,24 @@ class Tests(StageTests):
                 seen.add(place)
             expect(seen, {at for at, lines in starved.items() if lines is not None}, f"{run.name}: what took memory")
 
-    def test_a_monitor_for_which_there_is_no_memory(self):
-        answers = {lines[0] for _, lines, _ in self.stage.refused_in_turn([("monitor new", PRIMARY)]) if lines}
-        expect(answers, {NO_FILE, NO_MONITOR}, "what is said of a monitor that isn't made")
-
     def test_the_loop(self):
         # the bytes of a link and of its server end a line
         lines = [line + "%0A" if TAKES.match(line) else line for line in table("monitor_loop.txt")]
         steps = [*((f"watch {line[2:]}",) for line in lines if line[:2] in ("> ", "- ")), ("watch run", PRIMARY)]
         found = self.stage.play(steps)[len(steps) - 1 :]
         expect([line.decode() for line in found], [line for line in lines if line[:2] != "- "], "what happens")
+
+    def test_machines_halt(self):
+        """They halt or fail, and tell all that they did, or nothing if memory for an act was refused."""
+        for run in "\n".join(table("machine_runs.txt")).removeprefix("== ").split("\n== "):
+            name, *lines = run.split("\n")
+            steps = [(f"watch {it[2:]}",) for it in lines if it[0] == ">"]
+            due = [it.encode() for it in lines if it[0] != ">"]
+            expect(self.stage.play(steps)[len(steps) - 1 :], due, f"that {name}")
+            for at, answers, _ in self.stage.refused_in_turn(steps):
+                found = answers[len(steps) - 1 :]
+                halts = found in (due, [b"untold", b"halted"])
+                ensure(halts or not {b"set the flag", b"ran SHUTDOWNCMD", b"halted"} & {*found}, f"{name}, allocation {at}: {found}")
 
 
 if __name__ == "__main__":

@@ -3,6 +3,7 @@ use Rattle.std.proofs.Common.{◌≡◌, ℕ, Bool, true, false, List, [], ◌�
 use Rattle.std.specs.Prelude.{option_map}
 use Rattle.std.specs.List.{AllByRecursion}
 use Rattle.nut_conf.specs.declared.upsmon.MonConfig.{MonConfig}
+use Rattle.nut_monitor_spec.specs.declared.Notice.{Notice}
 use Rattle.nut_monitor_spec.specs.declared.Phase.{Phase}
 use Rattle.nut_monitor_spec.specs.declared.Phase.TheVariants.{Halted}
 use Rattle.nut_monitor_spec.specs.Configuration.{Configuration, configuration_of}
@@ -12,11 +13,11 @@ use Rattle.nut_monitor_loop.specs.Record.{Entry}
 use Rattle.nut_monitor_loop.specs.Watched.{Watched, entries_of, handed}
 use Rattle.nut_monitor_sockets.specs.Handing.{HandsOn, StandFor, lost}
 use Rattle.nut_upsmon.specs.declared.beginning.Beginning.{Beginning}
-use Rattle.nut_upsmon.specs.Acts.{Act, Changed, ClearedFlag, IsQuiet, RanShutdown, Readied, TriedFlag, does}
-use Rattle.nut_upsmon.specs.Course.{EndsInFault, EndsInHalt, Ran, Watch, tellings, told_all}
+use Rattle.nut_upsmon.specs.Acts.{Act, Changed, IfTold, IsQuiet, RanShutdown, TriedFlag, does}
+use Rattle.nut_upsmon.specs.Course.{EndsInFault, EndsInHalt, Ran, Watch, tellings, told_all, told_in_turn}
 use Rattle.nut_upsmon.specs.inside.Ready.{IsReady}
 use Rattle.nut_upsmon.specs.inside.Running.{Broken, Fails, Leads, Running, Whole, watch_of}
-use Rattle.nut_upsmon.specs.inside.Telling.{Tells, untold_by, untold_halt}
+use Rattle.nut_upsmon.specs.inside.Telling.{Tells, told_all_none, told_same, told_twice, untold, untold_by, untold_halt}
 use Rattle.nut_upsmon.proofs.Acted.{halted, ready_changed}
 
 -- what holds at each error
@@ -80,7 +81,7 @@ leads Did Turns acts upcoming held config first begun last (Ok phase) begins sam
       is = it.is;
       says = it.says;
       tells = (held last, subst (StandFor (on.0 ++ map lost (held last))) (ap (λ l. map lost l ++ handed (entries_of it.steps)) none ∙ it.handed_all) on.2);
-      told = on.1.1 ∙ ap (λ a. told_all config on.0 (option_map tellings a)) same;
+      told = subst (λ a. IfTold (option_map tellings (acts last)) (told_all config on.0 (option_map tellings a))) same on.1.1;
     }
 leads Did Turns acts upcoming held config first begun last (Err e) begins same none tells it = tt
 
@@ -110,14 +111,22 @@ ran_turns Did Turns on (w ∷ ws) a b c ran turns = (ran.0, ran.1, ran.2, ran.3,
 pub none_ran : {W : Type 0} (Did : MonConfig → W → W → List Entry → Type 0) (Turns : W → W → Type 0) (acts : W → Option (List Act)) (upcoming : W → Option Beginning)
     (old : W) (config : MonConfig) → Turns old old → IsReady (acts old) (upcoming old) config → Running Did Turns acts upcoming old old config
 none_ran Did Turns acts upcoming old config self ready =
-    record { watches = []; ran = self; each = tt; going = tt; given = tt; told = refl; ready = ready }
+    record { watches = []; ran = self; each = tt; going = tt; given = tt; told = told_same (option_map tellings (acts old)); ready = ready }
+
+-- what is told of a watch, after what is told of those before, while an act follows that tells nothing
+told_on_end : (config : MonConfig) (given : List Notice) (watches : List Watch) (old before ended after : Option (List Act))
+    → IfTold before (told_in_turn watches old) → IfTold ended (told_all config given before) → IfTold after ended
+    → IfTold after (told_all config given (told_in_turn watches old))
+told_on_end config given watches old before ended after first second third =
+    told_twice (told_all config given) (told_all_none config given) (told_in_turn watches old) before after first
+    (told_twice (λ acts. acts) refl (told_all config given before) ended after second third)
 
 -- another watch, and then another configuration
 pub goes_on : {W : Type 0} (Did : MonConfig → W → W → List Entry → Type 0) (Turns : W → W → Type 0) (on : (a b c : W) → Turns a b → Turns b c → Turns a c)
     (acts : W → Option (List Act)) (upcoming : W → Option Beginning) (old before ended after : W) (config : MonConfig) (b : Beginning) (phase : Phase)
     → Running Did Turns acts upcoming old before config → Leads Did Turns acts config before ended phase
     → (IsReady (acts before) (upcoming before) config → IsReady (acts ended) (upcoming ended) config) → is_halted phase ≡ false
-    → Turns ended after → acts after ≡ does Changed (acts ended) → upcoming ended ≡ Some b → upcoming after ≡ None
+    → Turns ended after → IfTold (acts after) (does Changed (acts ended)) → upcoming ended ≡ Some b → upcoming after ≡ None
     → Running Did Turns acts upcoming old after b.monitor.config
 goes_on Did Turns on acts upcoming old before ended after config b phase run led ready going turns changed was none =
     record {
@@ -126,9 +135,9 @@ goes_on Did Turns on acts upcoming old before ended after config b phase run led
       each = (led.is, run.each);
       going = (ap is_halted led.says ∙ going, run.going);
       given = (led.tells, run.given);
-      told =
-          ap (option_map tellings) changed ∙ untold_by (acts ended) Changed (λ acts. refl) ∙ led.told
-          ∙ ap (told_all config led.given) run.told;
+      told = told_on_end config led.given run.watches (option_map tellings (acts old)) (option_map tellings (acts before))
+          (option_map tellings (acts ended)) (option_map tellings (acts after)) run.told led.told
+          (untold (acts ended) (acts after) _ changed (untold_by (acts ended) Changed (λ acts. refl)));
       ready = ready_changed (acts ended) (acts after) (upcoming ended) (upcoming after) b config was none changed (ready run.ready);
     }
 
@@ -137,7 +146,7 @@ pub halts : {W : Type 0} (Did : MonConfig → W → W → List Entry → Type 0)
     (acts : W → Option (List Act)) (upcoming : W → Option Beginning) (old before ended after : W) (config : MonConfig) (flag : Bool) (phase : Phase)
     → Running Did Turns acts upcoming old before config → Leads Did Turns acts config before ended phase
     → (IsReady (acts before) (upcoming before) config → IsReady (acts ended) (upcoming ended) config) → phase ≡ Halted flag
-    → Turns ended after → acts after ≡ does RanShutdown (if flag then does TriedFlag (acts ended) else acts ended)
+    → Turns ended after → IfTold (acts after) (does RanShutdown (if flag then does TriedFlag (acts ended) else acts ended))
     → EndsInHalt Did Turns acts old after
 halts Did Turns on acts upcoming old before ended after config flag phase run led ready is turns done =
     record {
@@ -150,7 +159,9 @@ halts Did Turns on acts upcoming old before ended after config flag phase run le
       others = run.going;
       halted = halted (acts ended) (acts after) (upcoming ended) config flag (ready run.ready) done;
       given = (led.tells, run.given);
-      told = untold_halt (acts ended) (acts after) flag done ∙ led.told ∙ ap (told_all config led.given) run.told;
+      told = told_on_end config led.given run.watches (option_map tellings (acts old)) (option_map tellings (acts before))
+          (option_map tellings (acts ended)) (option_map tellings (acts after)) run.told led.told
+          (untold_halt (acts ended) (acts after) flag done);
     }
 
 -- another watch, which failed

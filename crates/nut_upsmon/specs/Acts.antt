@@ -1,5 +1,5 @@
 -- What upsmon does to its machine.
-use Rattle.std.specs.Prelude.{◌≡◌, ℕ, Bool, ◌||◌, ◌&&◌, not, List, [], ◌∷◌, ◌++◌, if◌then◌else◌, Option, Some, None, option_map}
+use Rattle.std.specs.Prelude.{◌≡◌, ℕ, Bool, ◌||◌, ◌&&◌, not, List, [], ◌∷◌, ◌++◌, if◌then◌else◌, Option, Some, None, IfSome, option_map}
 use Rattle.std.specs.List.{AllByRecursion}
 use Rattle.nut_conf.specs.declared.notice.NoticeFlags.{NoticeFlags}
 use Rattle.nut_conf.specs.declared.text.Text.{Text}
@@ -39,6 +39,10 @@ pub data Act : Type 0 where
 -- a history, the newest act first, after one more; who tells nothing goes on telling nothing
 abbrev pub does : Act → Option (List Act) → Option (List Act)
 does act acts = option_map (λ before. act ∷ before) acts
+
+-- A history that is told is the one that is due. Who lacks the memory for one more act tells nothing from then on.
+abbrev pub IfTold : {X : Type 0} → Option X → Option X → Type 0
+IfTold told due = IfSome told (λ acts. due ≡ Some acts)
 
 abbrev pub printed : Bool → List ℕ → Option (List Act) → Option (List Act)
 printed is_wanted text acts = if is_wanted then does (Printed text) acts else acts

@@ -13,7 +13,7 @@ use Rattle.nut_monitor_spec.specs.Decision.{is_halted}
 use Rattle.nut_monitor_loop.specs.Record.{Entry}
 use Rattle.nut_monitor_loop.specs.Watched.{Step, Told, entries_of, history_of}
 use Rattle.nut_monitor_sockets.specs.Handing.{StandFor, lost}
-use Rattle.nut_upsmon.specs.Acts.{Act, Printed, Called, IsHalted, told}
+use Rattle.nut_upsmon.specs.Acts.{Act, Printed, Called, IfTold, IsHalted, told}
 
 -- the acts that tell a notice, of a history
 abbrev pub tellings : List Act → List Act
@@ -76,7 +76,7 @@ pub record EndsInHalt {W : Type 0} (Did : MonConfig → W → W → List Entry �
   pub others : AllByRecursion GoesOn earlier
   pub halted : IfSome (acts new) (IsHalted last.config flag)
   pub given : AllByRecursion IsTold (last ∷ earlier)
-  pub told : option_map tellings (acts new) ≡ told_in_turn (last ∷ earlier) (option_map tellings (acts old))
+  pub told : IfTold (option_map tellings (acts new)) (told_in_turn (last ∷ earlier) (option_map tellings (acts old)))
 
 -- These watches ended, the last one by a fault, and no monitor said that the machine has to be halted.
 pub record EndsInFault {W : Type 0} (Did : MonConfig → W → W → List Entry → Type 0) (Turns : W → W → Type 0) (old new : W) : Type 0 where

@@ -2,7 +2,7 @@
 
 ghost use Rattle.std.specs.Prelude.{◌≡◌, List, Option, IfSome, IfNone, OnOk, OnErr};
 ghost use Rattle.nut_monitor.specs.Texts.{text_of};
-ghost use Rattle.nut_upsmon.specs.Acts.{Act, ClearedFlag, Readied, Changed, Printed, Called, TriedFlag, RanShutdown, does, halt_of};
+ghost use Rattle.nut_upsmon.specs.Acts.{Act, ClearedFlag, Readied, Changed, Printed, Called, TriedFlag, RanShutdown, IfTold, does, halt_of};
 
 use crate::beginning::Beginning;
 use crate::halt::HaltFault;
@@ -13,7 +13,7 @@ use std::alloc::AllocError;
 
 /// Whoever acts on the machine for upsmon: reports notices, and halts.
 pub trait Actor: Drop {
-    /// What it did, the newest first; None if it tells nothing.
+    /// What it did, the newest first; None if it tells nothing. If it lacks the memory for one more act, it tells nothing any more.
     ghost log: { Self → Option (List Act) };
 
     /// Tries to remove the POWERDOWNFLAG that this configuration names, if an earlier shutdown left it set. This comes before
@@ -40,11 +40,11 @@ pub trait Actor: Drop {
 
     /// Prints the text of a notice of this monitor as a line.
     fn print(&mut self, monitor: &Monitor, notice: Notice)
-        ensures { log self.new ≡ does (Printed (text_of monitor.now.config notice)) (log self.old) };
+        ensures { IfTold (log self.new) (does (Printed (text_of monitor.now.config notice)) (log self.old)) };
 
     /// Runs NOTIFYCMD, if one is set, with a notice of this monitor and its text.
     fn call(&mut self, monitor: &Monitor, notice: Notice)
-        ensures { log self.new ≡ does (Called notice (text_of monitor.now.config notice)) (log self.old) };
+        ensures { IfTold (log self.new) (does (Called notice (text_of monitor.now.config notice)) (log self.old)) };
 
     /// Is told that a second has passed. If another configuration can be taken up, returns what its watch begins with,
     /// and has made ready to halt by it.
@@ -54,7 +54,7 @@ pub trait Actor: Drop {
 
     /// Halts by the configuration that was readied last, from now on.
     fn change(&mut self)
-        ensures { log self.new ≡ does Changed (log self.old) };
+        ensures { IfTold (log self.new) (does Changed (log self.old)) };
 
     /// Tries to set POWERDOWNFLAG.
     ///
@@ -62,7 +62,7 @@ pub trait Actor: Drop {
     ///
     /// Why it isn't set, which was reported.
     fn set_flag(&mut self) -> Result<(), FlagFault>
-        ensures { log self.new ≡ does TriedFlag (log self.old) };
+        ensures { IfTold (log self.new) (does TriedFlag (log self.old)) };
 
     /// Runs SHUTDOWNCMD, and waits for its end.
     ///
@@ -70,5 +70,5 @@ pub trait Actor: Drop {
     ///
     /// Why the machine wasn't halted.
     fn run_shutdown(&mut self) -> Result<(), HaltFault>
-        ensures { log self.new ≡ does RanShutdown (log self.old) };
+        ensures { IfTold (log self.new) (does RanShutdown (log self.old)) };
 }

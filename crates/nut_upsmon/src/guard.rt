@@ -2,7 +2,7 @@
 
 ghost use Rattle.std.specs.Prelude.{◌≡◌, Some, None, true, is_some, OnOk, OnErr, if◌then◌else◌};
 ghost use Rattle.nut_conf.specs.declared.upsmon.MonConfig.{MonConfig};
-ghost use Rattle.nut_upsmon.specs.Acts.{does, is_to_call, is_to_print, told, Readied, Changed, TriedFlag, RanShutdown, halt_of};
+ghost use Rattle.nut_upsmon.specs.Acts.{does, is_to_call, is_to_print, told, Readied, Changed, TriedFlag, RanShutdown, IfTold, halt_of};
 ghost use Rattle.nut_upsmon.specs.inside.Telling.{Tells, tells_on, tells_self};
 
 use crate::actor::Actor;
@@ -36,7 +36,7 @@ impl<A: Actor> Guard<A> {
     ///
     /// [`AllocError`] if memory cannot be allocated.
     pub fn begin(&mut self, config: &MonConfig) -> Result<(), AllocError>
-        ensures ok { OnOk result (A.log self.new.actor ≡ does Changed (does (Readied (halt_of config.now)) (A.log self.old.actor))) }
+        ensures ok { OnOk result (IfTold (A.log self.new.actor) (does Changed (does (Readied (halt_of config.now)) (A.log self.old.actor)))) }
         ensures err { OnErr result (A.log self.new.actor ≡ A.log self.old.actor) }
         ensures next { self.new.next ≡ self.old.next }
     {
@@ -49,7 +49,7 @@ impl<A: Actor> Guard<A> {
     pub fn change(&mut self) -> Beginning
         requires next { is_some self.old.next ≡ true }
         ensures was { self.old.next ≡ Some result }
-        ensures actor { A.log self.new.actor ≡ does Changed (A.log self.old.actor) }
+        ensures actor { IfTold (A.log self.new.actor) (does Changed (A.log self.old.actor)) }
         ensures next { self.new.next ≡ None }
     {
         match self.next.take() {
@@ -67,8 +67,8 @@ impl<A: Actor> Guard<A> {
     ///
     /// Why the machine wasn't halted.
     pub fn halt(&mut self, is_flagged: bool) -> Result<(), HaltFault>
-        ensures { A.log self.new.actor
-            ≡ does RanShutdown (if is_flagged then does TriedFlag (A.log self.old.actor) else A.log self.old.actor) }
+        ensures { IfTold (A.log self.new.actor)
+            (does RanShutdown (if is_flagged then does TriedFlag (A.log self.old.actor) else A.log self.old.actor)) }
     {
         if is_flagged {
             let _ = self.actor.set_flag();
@@ -100,7 +100,7 @@ impl<A: Actor> Herald for Guard<A> {
 
 /// Has an actor tell a notice of this monitor to those that its flags name.
 pub fn tell<A: Actor>(actor: &mut A, monitor: &Monitor, notice: Notice)
-    ensures { A.log actor.new ≡ told monitor.now.config notice (A.log actor.old) }
+    ensures { IfTold (A.log actor.new) (told monitor.now.config notice (A.log actor.old)) }
 {
     actor.note(monitor, notice);
     let flags = monitor.config().flags(notice.kind);

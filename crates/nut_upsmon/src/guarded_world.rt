@@ -8,7 +8,7 @@ ghost use Rattle.nut_monitor_sockets.specs.Handing.{HandsOn};
 ghost use Rattle.nut_poll.specs.Queue.{TakesTurns};
 ghost use Rattle.nut_poll.specs.inside.TurnLaws.{turns_on, turns_self};
 ghost use Rattle.nut_upsmon.specs.declared.beginning.Beginning.{Beginning as Begins};
-ghost use Rattle.nut_upsmon.specs.Acts.{Act, Changed, TriedFlag, RanShutdown, does};
+ghost use Rattle.nut_upsmon.specs.Acts.{Act, Changed, TriedFlag, RanShutdown, IfTold, does};
 ghost use Rattle.nut_upsmon.specs.inside.Telling.{Tells};
 
 use crate::actor::Actor;
@@ -24,7 +24,7 @@ use std::time::Clock;
 
 /// A world in which one monitor watches after the other, and whose actor does what they decide.
 pub trait GuardedWorld: MonWorld {
-    /// What its actor did, the newest first; None if that isn't told.
+    /// What its actor did, the newest first; None if that isn't told, or no longer.
     ghost acts: { Self → Option (List Act) };
 
     /// What the next watch begins with, if the actor is ready for it.
@@ -53,7 +53,7 @@ pub trait GuardedWorld: MonWorld {
     fn change(&mut self) -> Beginning
         requires ended { Self.has_ended self.old }
         ensures turns { turns self.old self.new }
-        ensures acts { acts self.new ≡ does Changed (acts self.old) }
+        ensures acts { IfTold (acts self.new) (does Changed (acts self.old)) }
         ensures was { upcoming self.old ≡ Some result }
         ensures upcoming { upcoming self.new ≡ None }
         ensures counted { Self.fault_count self.new ≡ Self.fault_count self.old };
@@ -66,8 +66,8 @@ pub trait GuardedWorld: MonWorld {
     /// Why the machine wasn't halted.
     fn halt(&mut self, is_flagged: bool) -> Result<(), HaltFault>
         ensures turns { turns self.old self.new }
-        ensures acts { acts self.new
-            ≡ does RanShutdown (if is_flagged then does TriedFlag (acts self.old) else acts self.old) };
+        ensures acts { IfTold (acts self.new)
+            (does RanShutdown (if is_flagged then does TriedFlag (acts self.old) else acts self.old)) };
 
     /// Without a call nothing changes.
     ghost turns_self: { (w : Self) → turns w w };

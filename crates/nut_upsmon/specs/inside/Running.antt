@@ -1,5 +1,5 @@
 -- What one watch leads to, and the watches so far.
-use Rattle.std.specs.Prelude.{◌≡◌, ℕ, false, List, [], Option, option_map}
+use Rattle.std.specs.Prelude.{◌≡◌, List, [], Option, option_map}
 use Rattle.std.specs.List.{AllByRecursion}
 use Rattle.nut_conf.specs.declared.upsmon.MonConfig.{MonConfig}
 use Rattle.nut_monitor_spec.specs.declared.Notice.{Notice}
@@ -9,7 +9,7 @@ use Rattle.nut_monitor_spec.specs.Trace.{notices, trace}
 use Rattle.nut_monitor_loop.specs.Record.{Entry}
 use Rattle.nut_monitor_loop.specs.Watched.{Step, entries_of, handed, history_of}
 use Rattle.nut_upsmon.specs.declared.beginning.Beginning.{Beginning}
-use Rattle.nut_upsmon.specs.Acts.{Act}
+use Rattle.nut_upsmon.specs.Acts.{Act, IfTold}
 use Rattle.nut_upsmon.specs.Course.{GoesOn, IsTold, IsWatch, Ran, Watch, last_phase, tellings, told_all, told_in_turn}
 use Rattle.nut_upsmon.specs.inside.Ready.{IsReady}
 
@@ -43,7 +43,7 @@ pub record Leads {W : Type 0} (Did : MonConfig → W → W → List Entry → Ty
   pub is : IsWatch (watch_of config steps given)
   pub says : last_phase (watch_of config steps given) ≡ phase
   pub tells : IsTold (watch_of config steps given)
-  pub told : option_map tellings (acts last) ≡ told_all config given (option_map tellings (acts first))
+  pub told : IfTold (option_map tellings (acts last)) (told_all config given (option_map tellings (acts first)))
 
 -- A watch of this configuration failed on the way, and its monitor didn't say that the machine has to be halted.
 pub record Fails {W : Type 0} (Did : MonConfig → W → W → List Entry → Type 0) (Turns : W → W → Type 0) (config : MonConfig) (first last : W) : Type 0 where
@@ -63,5 +63,5 @@ pub record Running {W : Type 0} (Did : MonConfig → W → W → List Entry → 
   pub each : AllByRecursion IsWatch watches
   pub going : AllByRecursion GoesOn watches
   pub given : AllByRecursion IsTold watches
-  pub told : option_map tellings (acts world) ≡ told_in_turn watches (option_map tellings (acts old))
+  pub told : IfTold (option_map tellings (acts world)) (told_in_turn watches (option_map tellings (acts old)))
   pub ready : IsReady (acts world) (upcoming world) config
