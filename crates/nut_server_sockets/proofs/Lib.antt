@@ -1,4 +1,4 @@
 mod BatchLemmas
+mod SeatLemmas
 mod TurnLemmas
 mod LateLemmas
-mod SeatLemmas

@@ -1,6 +1,8 @@
 -- Whose socket is whose, once one has come or gone.
-use Rattle.std.proofs.Common.{◌≡◌, ◌≢◌, ◌⊎◌, ℕ, ◌+◌, ◌<◌, ◌≤◌, List, length, get_or, refl, sym, ap, subst, ◌∙◌, arith, Option, Some, None, inl, inr, IfSome, Result, Ok, Err, option_map}
+use Rattle.std.proofs.Common.{◌≡◌, ◌≢◌, ◌⊎◌, ℕ, ◌+◌, ◌<◌, ◌≤◌, true, false, List, length, get_or, refl, sym, ap, subst, ◌∙◌, arith, Option, Some, None, inl, inr, IfSome, Result, Ok, Err, option_map}
+use Rattle.std.specs.Prelude.{◌&&◌, not, is_none, is_some}
 use Rattle.std.specs.List.{remove}
+use Rattle.std.specs.Option.{option_map_or}
 use Rattle.std.specs.List.Sorted.{IsBinarySearchResult}
 use Rattle.std.specs.Ordering.{nat_cmp}
 use Rattle.std.specs.declared.cmp.Ordering.TheVariants.{Equal}
@@ -10,8 +12,32 @@ use Rattle.std.proofs.lemmas.Cmp.{ranked}
 use Rattle.std.proofs.lemmas.List.Edits.{length-remove, get_or-remove_below, get_or-remove_above}
 use Rattle.slab.specs.Slab.{Slab, get, Updates}
 use Rattle.nut_server_sockets.specs.declared.client.Client.{Client}
-use Rattle.nut_server_sockets.specs.Seats.{number_at}
+use Rattle.nut_server.specs.Seats.{are_right, is_stranger}
+use Rattle.nut_server_spec.specs.Acceptance.{has_login, session_of}
+use Rattle.nut_server_spec.specs.Content.{Content, Session}
+use Rattle.nut_server_sockets.specs.Seats.{KeepsSeats, is_stranger_at, number_at}
 use Rattle.nut_server_sockets.specs.inside.Keys.{AreNamed, AreApart}
+
+pub same_seats : (old new : Slab Client) → new ≡ old → KeepsSeats old new
+same_seats old new same key = ap (λ sockets. number_at sockets key) same
+
+pub seats_on : (a b c : Slab Client) → KeepsSeats a b → KeepsSeats b c → KeepsSeats a c
+seats_on a b c first then key = then key ∙ first key
+
+-- after one more candidate for leaving
+pub one_more : (P : ℕ → Type 0) (n : ℕ) (old new : Option ℕ) → P n → (new ≡ old) ⊎ (new ≡ Some n) → IfSome old P → IfSome new P
+one_more P n old new this (inl same) before = subst (λ o. IfSome o P) (sym same) before
+one_more P n old new this (inr is) before = subst (λ o. IfSome o P) (sym is) this
+
+-- A stranger isn't logged in.
+pub stranger_out : (s : Content) (c : ℕ) → is_stranger_at s c ≡ true → has_login (session_of c s.sessions) ≡ false
+stranger_out s c is = by (session_of c s.sessions) is where
+  by : (o : Option Session) → option_map_or (is_stranger s.configuration.users) o false ≡ true → has_login o ≡ false
+  by None is = refl
+  by (Some k) is = out k.login is where
+    out : (login : Option ℕ) → (is_none login && not (are_right s.configuration.users k.user k.password)) ≡ true → is_some login ≡ false
+    out None is = refl
+    out (Some u) is = absurd (cc)
 
 abbrev number_of : Option Client → Option ℕ
 number_of o = option_map (λ k. k.number) o

@@ -1,5 +1,7 @@
 //! Reports to the operator who did what: who changed something, who logged in and out, and who was refused.
 
+ghost use Rattle.nut_server_sockets.specs.Seats.{KeepsSeats};
+
 use crate::clients::Clients;
 use crate::deed_report::{DeedReport, Who};
 use crate::denials::Denials;
@@ -18,7 +20,9 @@ pub fn tell_deed(
     drivers: &mut Drivers,
     denials: &mut Denials,
     reports: &mut Reports<'_>,
-) {
+)
+    ensures { KeepsSeats clients.old.sockets clients.new.sockets }
+{
     let who = Who {
         user: text_of(deed.user.as_slice()),
         address: text_of(deed.address.as_slice()),

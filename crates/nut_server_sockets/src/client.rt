@@ -1,7 +1,8 @@
 //! The socket of a client.
 
-ghost use Rattle.std.specs.Prelude.{◌≡◌, length};
+ghost use Rattle.std.specs.Prelude.{◌≡◌, ◌+◌, ◌-◌, ◌^◌, ◌<◌, ◌≤◌, ◌==◌, min, length};
 ghost use Rattle.nut_io.specs.Writes.{IsWithin};
+ghost use Rattle.nut_server_sockets.specs.Seats.{allowed_silence, last_heard};
 
 use crate::batches::Batches;
 use mio::event::Event;
@@ -149,7 +150,10 @@ impl Client {
 
     /// Returns how many seconds of silence the client is allowed. Whether it is logged in matters only after
     /// [`PATIENCE`].
-    pub fn patience(&self, server: &Server, second: u64) -> u64 {
+    pub fn patience(&self, server: &Server, second: u64) -> u64
+        ensures least { PATIENCE ≤ result }
+        ensures value { last_heard self.now + PATIENCE < second → result ≡ allowed_silence server.now self.now.number }
+    {
         if second > self.last_of(PATIENCE) && server.is_logged_in(self.number) {
             PATIENCE_WITH_LOGIN
         } else {
@@ -158,13 +162,17 @@ impl Client {
     }
 
     /// Returns the last second of as many of silence.
-    pub fn last_of(&self, patience: u64) -> u64 {
+    pub fn last_of(&self, patience: u64) -> u64
+        ensures { result ≡ min (last_heard self.now + patience) (2 ^ 64 - 1) }
+    {
         self.heard().saturating_add(patience)
     }
 
     /// Returns the second in which it last sent a whole line or took some of an answer; that in which it connected, if it has
     /// sent no line.
-    pub fn heard(&self) -> u64 {
+    pub fn heard(&self) -> u64
+        ensures { result ≡ last_heard self.now }
+    {
         if self.is_mute() {
             self.since
         } else {
@@ -173,7 +181,9 @@ impl Client {
     }
 
     /// Whether it has sent no whole line.
-    pub fn is_mute(&self) -> bool {
+    pub fn is_mute(&self) -> bool
+        ensures { result ≡ (self.now.spoke == 0) }
+    {
         self.spoke == 0
     }
 }

@@ -1,9 +1,9 @@
 //! The sockets of clients.
 
-ghost use Rattle.std.specs.Prelude.{◌≡◌, ◌<◌, true, length, slice_index_or, Some, None, IfSome, OnErr};
+ghost use Rattle.std.specs.Prelude.{◌≡◌, ◌<◌, false, true, length, slice_index_or, Some, IfSome, OnErr};
 ghost use Rattle.nut_io.specs.Writes.{IsWithin};
-ghost use Rattle.nut_server_spec.specs.Acceptance.{may_read, session_of};
-ghost use Rattle.nut_server_sockets.specs.Seats.{HasBesides, TouchesOnly, number_at};
+ghost use Rattle.nut_server_spec.specs.Acceptance.{has_login, may_read, session_of};
+ghost use Rattle.nut_server_sockets.specs.Seats.{HasBesides, IsSilent, KeepsSeats, MakesWay, TouchesOnly, is_stranger_at, number_at};
 ghost use Rattle.nut_server_sockets.specs.inside.Keys.{AreApart, AreNamed};
 
 use crate::client::{Client, PATIENCE};
@@ -87,8 +87,8 @@ impl Clients {
     /// The error of the registration. The socket is closed then. Memory isn't lacking: there is room for as many sockets as
     /// connections may be open.
     pub fn add(&mut self, registry: &Registry, number: u64, guest: Guest) -> io::Result<()>
-        ensures seats { HasBesides (Some number) self.new.sockets self.old.sockets }
-        ensures err { OnErr result (HasBesides None self.new.sockets self.old.sockets) }
+        ensures seats { HasBesides number self.new.sockets self.old.sockets }
+        ensures err { OnErr result (KeepsSeats self.old.sockets self.new.sockets) }
     {
         let Guest {
             mut stream,
@@ -137,7 +137,7 @@ impl Clients {
     pub fn hear(&mut self, key: usize, server: &Server, piece: &mut Piece) -> Option<(u64, Heard)>
         ensures may { IfSome result (λ heard. may_read (session_of heard.0 server.now.sessions) ≡ true) }
         ensures seat { IfSome result (λ heard. number_at self.new.sockets key ≡ Some heard.0) }
-        ensures seats { HasBesides None self.old.sockets self.new.sockets }
+        ensures seats { KeepsSeats self.old.sockets self.new.sockets }
     {
         let client = self.sockets.get_mut(key)?;
         let number = client.number();
@@ -151,7 +151,7 @@ impl Clients {
 
     /// Notes an event of a socket.
     pub fn note(&mut self, key: usize, event: &Event)
-        ensures { HasBesides None self.old.sockets self.new.sockets }
+        ensures { KeepsSeats self.old.sockets self.new.sockets }
     {
         if let Some(client) = self.sockets.get_mut(key) {
             client.note(event);
@@ -177,7 +177,7 @@ impl Clients {
 
     /// Counts a second that has passed.
     pub fn second(&mut self)
-        ensures { HasBesides None self.old.sockets self.new.sockets }
+        ensures { self.new.sockets ≡ self.old.sockets }
     {
         self.second = self.second.saturating_add(1);
     }
@@ -189,10 +189,14 @@ impl Clients {
 
     /// Returns a client that has been silent for longer than it may, if there is one.
     pub fn find_silent(&mut self, server: &Server) -> Option<Silent>
-        ensures { HasBesides None self.old.sockets self.new.sockets }
+        ensures sockets { self.new.sockets ≡ self.old.sockets }
+        ensures silent { IfSome result (λ silent. IsSilent server.now self.old.second self.old.sockets silent.number) }
     {
         let mut patient = u64::MAX;
-        for (_, client) in self.sockets.iter() {
+        for (_, key) in self.keys.iter() {
+            let Some(client) = self.sockets.get(*key) else {
+                continue;
+            };
             let seconds = client.patience(server, self.second);
             let last = client.last_of(seconds);
             if self.second > last {
@@ -210,17 +214,16 @@ impl Clients {
 
     /// Returns the number of the connection that is closed if a client calls, if one has to be. Clients that gave the name and the
     /// password of a user make way only if there are no others without login.
-    pub fn makes_way(&self, server: &Server) -> Option<u64> {
+    pub fn makes_way(&self, server: &Server) -> Option<u64>
+        ensures { IfSome result (λ c. MakesWay server.now c) }
+    {
         let first = server.makes_way()?;
         let are_strangers = server.is_stranger(first);
         let mut leaving = Leaving::none();
         for (number, key) in self.keys.iter() {
-            let may_leave = if are_strangers {
-                server.is_stranger(*number)
-            } else {
-                !server.is_logged_in(*number)
-            };
-            if may_leave && let Some(client) = self.sockets.get(*key) {
+            if may_leave(server, are_strangers, *number)
+                && let Some(client) = self.sockets.get(*key)
+            {
                 leaving.look(*number, client.heard(), client.is_mute());
             }
         }
@@ -235,7 +238,7 @@ impl Clients {
 
     /// Notes that the client of a connection is logged in.
     pub fn note_login(&mut self, number: u64, login: Login)
-        ensures { HasBesides None self.old.sockets self.new.sockets }
+        ensures { KeepsSeats self.old.sockets self.new.sockets }
     {
         if let Some(key) = self.key(number)
             && let Some(client) = self.sockets.get_mut(key)
@@ -247,7 +250,7 @@ impl Clients {
 
     /// Returns the login of the client of a connection, if it had one, which has ended.
     pub fn end_login(&mut self, number: u64) -> Option<Login>
-        ensures { HasBesides None self.old.sockets self.new.sockets }
+        ensures { KeepsSeats self.old.sockets self.new.sockets }
     {
         let key = self.key(number)?;
         let login = self.sockets.get_mut(key)?.end_login()?;
@@ -256,7 +259,7 @@ impl Clients {
 
     /// Closes the socket of a connection, and forgets what is held of its client. Returns the login of that, if it has one.
     pub fn close(&mut self, number: u64) -> Option<Login>
-        ensures { HasBesides (Some number) self.old.sockets self.new.sockets }
+        ensures { HasBesides number self.old.sockets self.new.sockets }
     {
         let place = self.place(number)?;
         let (_, key) = self.keys.remove(place);
@@ -265,5 +268,17 @@ impl Clients {
             self.held.try_remove(held);
         }
         self.logins.try_remove(client.end_login()?)
+    }
+}
+
+/// Whether the connection with this number may be closed for a client that calls, if only strangers may or any without login.
+fn may_leave(server: &Server, are_strangers: bool, number: u64) -> bool
+    ensures no_login { result ≡ true → has_login (session_of number server.now.sessions) ≡ false }
+    ensures stranger { result ≡ true → are_strangers ≡ true → is_stranger_at server.now number ≡ true }
+{
+    if are_strangers {
+        server.is_stranger(number)
+    } else {
+        !server.is_logged_in(number)
     }
 }

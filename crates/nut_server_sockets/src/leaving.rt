@@ -1,5 +1,7 @@
 //! Which client makes way for another that calls.
 
+ghost use Rattle.std.specs.Prelude.{◌≡◌, ◌⊎◌, Some, None, IfSome, option_map};
+
 /// What is known of the clients that may make way and that were looked at, from the oldest on.
 #[derive(Clone, Copy)]
 pub struct Leaving {
@@ -13,7 +15,9 @@ pub struct Leaving {
 
 impl Leaving {
     /// Returns the state before any was looked at.
-    pub fn none() -> Leaving {
+    pub fn none() -> Leaving
+        ensures { (result.first_mute ≡ None) × (result.silent ≡ None) }
+    {
         Leaving {
             mutes: 0,
             first_mute: None,
@@ -22,7 +26,10 @@ impl Leaving {
     }
 
     /// Looks at another client: its number, the second in which it was heard last, and whether it has sent no line.
-    pub fn look(&mut self, number: u64, heard: u64, is_mute: bool) {
+    pub fn look(&mut self, number: u64, heard: u64, is_mute: bool)
+        ensures mute { (self.new.first_mute ≡ self.old.first_mute) ⊎ (self.new.first_mute ≡ Some number) }
+        ensures silent { (self.new.silent ≡ self.old.silent) ⊎ (self.new.silent ≡ Some (number, heard)) }
+    {
         if is_mute {
             self.mutes = self.mutes.saturating_add(1);
             if self.first_mute.is_none() {
@@ -37,7 +44,9 @@ impl Leaving {
     /// Returns the number of the client that makes way, where so many may be connected. If more than half of them have sent no
     /// line, it is the first of these: strangers that say nothing keep out nobody who asks, and one that has just come has time to.
     /// Else it is the one that has been silent for longest.
-    pub fn chosen(&self, most: usize) -> Option<u64> {
+    pub fn chosen(&self, most: usize) -> Option<u64>
+        ensures { IfSome result (λ c. (self.now.first_mute ≡ Some c) ⊎ (option_map (λ k. k.0) self.now.silent ≡ Some c)) }
+    {
         if self.mutes > most / 2 {
             return self.first_mute;
         }

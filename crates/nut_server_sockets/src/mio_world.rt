@@ -1,12 +1,13 @@
 //! The world of a server over sockets.
 
-ghost use Rattle.std.specs.Prelude.{◌≡◌, ◌<◌, length, IsOk, IfOk};
+ghost use Rattle.std.specs.Prelude.{◌≡◌, ◌+◌, ◌-◌, ◌^◌, ◌<◌, false, length, IsOk, IfOk, OnErr, is_ok, if◌then◌else◌};
 ghost use Rattle.nut_io.specs.Writes.{IsWithin};
-ghost use Rattle.nut_server_loop.specs.Record.{WasClosed, Steps, tells, tells_write, late_after};
+ghost use Rattle.nut_server_loop.specs.Record.{LeadsTo, MayCome, WasClosed, Steps, arrival_of, tells, tells_next, tells_write, late_after};
 ghost use Rattle.nut_server_loop.specs.declared.types.Peer.{Peer};
 ghost use Rattle.nut_server_loop.specs.declared.types.Peer.TheVariants.{Connection, Driver};
 ghost use Rattle.nut_poll.specs.Queue.{TakesTurns};
 ghost use Rattle.nut_poll.specs.inside.TurnLaws.{turns_self, turns_on};
+ghost use Rattle.nut_server_sockets.specs.Turns.{ComesInTurn, LeavesOthers};
 ghost use Rattle.nut_server_sockets.specs.Untold.{untold, is_late};
 
 use crate::drivers::Drivers;
@@ -118,7 +119,21 @@ impl<'r, 'e, R: Net + Clock + Processes, L: Reloader + Drop> World for MioWorld<
         self.faults
     }
 
-    fn next(&mut self, server: &Server, piece: &mut Piece) -> Result<Next, Fault> {
+    fn next(&mut self, server: &Server, piece: &mut Piece) -> Result<Next, Fault>
+        requires { self.old.faults < 2 ^ 64 - 1 }
+        ensures ok { IfOk result (λ n. untold ≡ tells_next n piece.new.items untold) }
+        ensures err { OnErr result (untold ≡ untold) }
+        ensures read { IfOk result (λ n. MayCome n server.now) }
+        ensures ended { result ≡ Ok Next.End → ⊥ }
+        ensures none_late { (p : Peer) → is_late self.new.late.items self.new.late_drivers.items p ≡ false }
+        ensures counted { self.new.faults ≡ (if is_ok result then self.old.faults else self.old.faults + 1) }
+        ensures awaits { IfOk result (λ n. LeadsTo (arrival_of n piece.new.items)
+            (TakesTurns self.old.sockets.rounds.ready self.new.sockets.rounds.ready)
+            (TakesTurns self.old.sockets.rounds.ready self.new.sockets.rounds.ready)) }
+        ensures reached { OnErr result (TakesTurns self.old.sockets.rounds.ready self.new.sockets.rounds.ready) }
+        ensures turns { IfOk result (λ n. ComesInTurn self.old.sockets server.now n self.new.sockets) }
+        ensures seats { IfOk result (λ n. LeavesOthers n self.old.sockets.clients.sockets self.new.sockets.clients.sockets) }
+    {
         self.late.clear();
         self.late_drivers.clear();
         match self.sockets.next(&mut self.services, server, piece) {

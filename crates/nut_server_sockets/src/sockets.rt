@@ -9,8 +9,9 @@ ghost use Rattle.nut_poll.specs.Queue.{Looks, TakesTurns, all_joined, reported};
 ghost use Rattle.nut_server_loop.specs.Record.{MayCome};
 ghost use Rattle.nut_server_loop.specs.declared.types.Next.TheVariants as next;
 ghost use Rattle.nut_server_sockets.specs.declared.source.Source.TheVariants as source;
-ghost use Rattle.nut_server_sockets.specs.Seats.{TouchesOnly};
-ghost use Rattle.nut_server_sockets.specs.Turns.{Comes, ComesInTurn, IsGivenBy, token_of};
+ghost use Rattle.nut_server_sockets.specs.Seats.{HasBesides, KeepsSeats, TouchesOnly};
+ghost use Rattle.nut_server_sockets.specs.Turns.{Comes, ComesInTurn, IsGivenBy, LeavesOthers, token_of};
+ghost use Rattle.nut_server_sockets.specs.inside.Looking.{IsApart, LooksInTurn, OnlyQueues};
 ghost use Rattle.nut_server_spec.specs.Content.{Content};
 
 use crate::audit::{left, tell_deed};
@@ -24,6 +25,7 @@ use crate::reloader::Reloader;
 use crate::report::{End, SocketReport};
 use crate::source::Source;
 use crate::stall::Stall;
+use mio::event::Event;
 use mio::{Events, Token};
 use nut_io::{Piece, Written};
 use nut_poll::{Heard, LookUps, Ready, Reports, Rounds, SOCKETS_MAX, may_be_read};
@@ -119,7 +121,8 @@ impl Sockets {
     ) -> io::Result<Next>
         ensures may { IfOk result (λ n. MayCome n server.now) }
         ensures goes_on { IfOk result (λ n. n ≢ next.End) }
-        ensures turns { IfOk result (λ n. ComesInTurn self.new.clients.sockets n self.old.rounds self.new.rounds) }
+        ensures turns { IfOk result (λ n. ComesInTurn self.old server.now n self.new) }
+        ensures seats { IfOk result (λ n. LeavesOthers n self.old.clients.sockets self.new.clients.sockets) }
         ensures kept { OnErr result (TakesTurns self.old.rounds.ready self.new.rounds.ready) }
     {
         if let Some(number) = self.unkept.take() {
@@ -162,7 +165,9 @@ impl Sockets {
         server: &Server,
         answer: &Result<(), Refused>,
     )
-        ensures { Comes self.old.rounds self.new.rounds }
+        ensures turns { Comes self.old.rounds self.new.rounds }
+        ensures seats { HasBesides server.now.opened self.new.clients.sockets self.old.clients.sockets }
+        ensures refused { OnErr answer.now (KeepsSeats self.old.clients.sockets self.new.clients.sockets) }
     {
         self.tell_lack(answer, &mut services.reports);
         self.audit(server, &mut services.reports);
@@ -177,7 +182,7 @@ impl Sockets {
 
     /// Reports that memory ran out at what a client or a driver sent, if it did, and closes the link to the driver.
     fn tell_lack(&mut self, answer: &Result<(), Refused>, reports: &mut Reports<'_>)
-        ensures { self.new.rounds ≡ self.old.rounds }
+        ensures { IsApart self.old self.new }
     {
         let Err(Refused::Memory(place)) = answer else {
             return;
@@ -195,7 +200,8 @@ impl Sockets {
 
     /// Reports what a client did by the last arrival, if the operator wants to know of it.
     fn audit(&mut self, server: &Server, reports: &mut Reports<'_>)
-        ensures { self.new.rounds ≡ self.old.rounds }
+        ensures turns { self.new.rounds ≡ self.old.rounds }
+        ensures seats { KeepsSeats self.old.clients.sockets self.new.clients.sockets }
     {
         if let Some(deed) = server.deed() {
             tell_deed(
@@ -211,7 +217,7 @@ impl Sockets {
 
     /// Closes the link to the driver of a UPS for this reason, and reports it.
     fn end_driver(&mut self, u: usize, end: End, reports: &mut Reports<'_>)
-        ensures { self.new.rounds ≡ self.old.rounds }
+        ensures { IsApart self.old self.new }
     {
         if let Some(driver) = self.drivers.get_mut(u) {
             driver.end(end, reports);
@@ -234,7 +240,7 @@ impl Sockets {
     /// Offers bytes to the driver of a UPS. If that fails, the link is closed, which is reported.
     pub fn offer_driver(&mut self, u: usize, bytes: &[u8], reports: &mut Reports<'_>) -> Written
         ensures within { IsWithin result (length bytes.now) }
-        ensures turns { self.new.rounds ≡ self.old.rounds }
+        ensures apart { IsApart self.old self.new }
     {
         match self.drivers.get_mut(u) {
             Some(driver) => driver.offer(bytes, reports),
@@ -244,7 +250,8 @@ impl Sockets {
 
     /// Closes the socket of a connection, and reports that if its client is still logged in.
     pub fn close(&mut self, number: u64, reports: &mut Reports<'_>)
-        ensures { self.new.rounds ≡ self.old.rounds }
+        ensures turns { self.new.rounds ≡ self.old.rounds }
+        ensures others { HasBesides number self.old.clients.sockets self.new.clients.sockets }
     {
         if let Some(login) = self.clients.close(number) {
             reports.tell(left(&login));
@@ -254,7 +261,7 @@ impl Sockets {
     /// Closes the link to the driver of a UPS, and reports that a reload ended it. A link that ended for another reason is
     /// closed already.
     pub fn close_driver(&mut self, u: usize, reports: &mut Reports<'_>)
-        ensures { self.new.rounds ≡ self.old.rounds }
+        ensures { IsApart self.old self.new }
     {
         self.end_driver(u, End::Reloaded, reports);
     }
@@ -269,7 +276,8 @@ impl Sockets {
     ) -> Option<Next>
         ensures may { IfSome result (λ n. MayCome n server.now) }
         ensures goes_on { IfSome result (λ n. n ≢ next.End) }
-        ensures turns { ComesInTurn self.new.clients.sockets (unwrap_or result next.Again) self.old.rounds self.new.rounds }
+        ensures turns { LooksInTurn self.old server.now result self.new }
+        ensures seats { LeavesOthers (unwrap_or result next.Again) self.old.clients.sockets self.new.clients.sockets }
     {
         if self.rounds.ready.is_round_over() && !self.stall.is_on() {
             return None;
@@ -288,7 +296,8 @@ impl Sockets {
     ) -> Option<Next>
         ensures may { IfSome result (λ n. MayCome n server.now) }
         ensures goes_on { IfSome result (λ n. n ≢ next.End) }
-        ensures turns { ComesInTurn self.new.clients.sockets (unwrap_or result next.Again) self.old.rounds self.new.rounds }
+        ensures turns { LooksInTurn self.old server.now result self.new }
+        ensures seats { LeavesOthers (unwrap_or result next.Again) self.old.clients.sockets self.new.clients.sockets }
     {
         self.end_stall();
         for _ in 0..SOCKETS_MAX {
@@ -311,7 +320,8 @@ impl Sockets {
     ) -> Option<Next>
         ensures may { IfSome result (λ n. MayCome n server.now) }
         ensures goes_on { IfSome result (λ n. n ≢ next.End) }
-        ensures given { IfSome result (λ n. IsGivenBy self.new.clients.sockets token.0 n) }
+        ensures given { IfSome result (λ n. IsGivenBy self.old.clients.sockets server.now token.0 n) }
+        ensures seats { LeavesOthers (unwrap_or result next.Again) self.old.clients.sockets self.new.clients.sockets }
         ensures turns { Comes self.old.rounds self.new.rounds }
     {
         match Source::of(token) {
@@ -332,7 +342,8 @@ impl Sockets {
     ) -> Option<Next>
         ensures may { (s : Content) → IfSome result (λ n. MayCome n s) }
         ensures goes_on { IfSome result (λ n. n ≢ next.End) }
-        ensures given { IfSome result (λ n. IsGivenBy self.new.clients.sockets (token_of (source.Driver u)) n) }
+        ensures given { (s : Content) → IfSome result (λ n. IsGivenBy self.old.clients.sockets s (token_of (source.Driver u)) n) }
+        ensures clients { self.new.clients ≡ self.old.clients }
         ensures turns { Comes self.old.rounds self.new.rounds }
     {
         let driver = self.drivers.get_mut(u)?;
@@ -372,7 +383,8 @@ impl Sockets {
     ) -> Option<Next>
         ensures may { IfSome result (λ n. MayCome n server.now) }
         ensures goes_on { IfSome result (λ n. n ≢ next.End) }
-        ensures given { IfSome result (λ n. IsGivenBy self.new.clients.sockets (token_of (source.Client key)) n) }
+        ensures given { IfSome result (λ n. IsGivenBy self.old.clients.sockets server.now (token_of (source.Client key)) n) }
+        ensures seats { LeavesOthers (unwrap_or result next.Again) self.old.clients.sockets self.new.clients.sockets }
         ensures turns { Comes self.old.rounds self.new.rounds }
     {
         let token = Source::Client(key).token();
@@ -399,6 +411,7 @@ impl Sockets {
     /// round. Returns the number of seconds since the start, if one more is over.
     fn wait(&mut self, clock: &impl Clock) -> io::Result<Option<u64>>
         ensures turns { Looks [] self.old.rounds.ready self.new.rounds.ready }
+        ensures seats { KeepsSeats self.old.clients.sockets self.new.clients.sockets }
         ensures second { IfOk result (λ moment. IsTold moment self.old.rounds.seconds.full self.new.rounds.seconds.full) }
         ensures begins { IfOk result (λ moment. (passed : Duration) × Begins passed self.old.rounds.seconds.full self.old.rounds.fixed
             moment (all_joined (reported (items self.new.rounds.events)) self.old.rounds.ready) self.new.rounds.ready) }
@@ -415,7 +428,7 @@ impl Sockets {
 
     /// Lets clients be read again, once each driver has said something.
     fn end_stall(&mut self)
-        ensures { Comes self.old.rounds self.new.rounds }
+        ensures { OnlyQueues self.old self.new }
     {
         if self.stall.is_on() && !self.drivers.are_awaited() {
             self.stall.end(&mut self.rounds.ready);
@@ -425,20 +438,28 @@ impl Sockets {
 
 /// Notes the events of the sockets.
 fn note(events: &Events, ready: &mut Ready, clients: &mut Clients, drivers: &mut Drivers)
-    ensures { ready.new ≡ all_joined (reported (items events.now)) ready.old }
+    ensures turns { ready.new ≡ all_joined (reported (items events.now)) ready.old }
+    ensures seats { KeepsSeats clients.old.sockets clients.new.sockets }
 {
     for event in events.iter() {
-        match Source::of(event.token()) {
-            Source::Listener(_) => {}
-            Source::Driver(u) => {
-                if let Some(driver) = drivers.get_mut(u) {
-                    driver.note(event);
-                }
-            }
-            Source::Client(key) => clients.note(key, event),
-        }
+        note_one(event, clients, drivers);
         if may_be_read(event) {
             ready.insert(event.token());
         }
+    }
+}
+
+/// Notes an event at the driver or the client whose socket has it.
+fn note_one(event: &Event, clients: &mut Clients, drivers: &mut Drivers)
+    ensures { KeepsSeats clients.old.sockets clients.new.sockets }
+{
+    match Source::of(event.token()) {
+        Source::Listener(_) => {}
+        Source::Driver(u) => {
+            if let Some(driver) = drivers.get_mut(u) {
+                driver.note(event);
+            }
+        }
+        Source::Client(key) => clients.note(key, event),
     }
 }

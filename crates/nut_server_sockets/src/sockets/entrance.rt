@@ -1,9 +1,10 @@
 //! Lets clients in.
 
-ghost use Rattle.std.specs.Prelude.{◌≡◌, ◌≢◌, ℕ, IfSome, false, None};
+ghost use Rattle.std.specs.Prelude.{◌≡◌, ◌≢◌, ℕ, IfSome, None, OnErr, unwrap_or};
 ghost use Rattle.nut_server_loop.specs.Record.{MayCome};
 ghost use Rattle.nut_server_loop.specs.declared.types.Next.TheVariants as next;
-ghost use Rattle.nut_server_sockets.specs.Turns.{Comes, IsGivenBy, is_piece, moment_of};
+ghost use Rattle.nut_server_sockets.specs.Seats.{HasBesides, KeepsSeats};
+ghost use Rattle.nut_server_sockets.specs.Turns.{Comes, IsGivenBy, IsUnasked, LeavesOthers, moment_of};
 
 use crate::door::{Guest, concerns_one};
 use crate::sockets::Sockets;
@@ -24,7 +25,9 @@ impl Sockets {
         answer: &Result<(), Refused>,
         reports: &mut Reports<'_>,
     )
-        ensures { self.new.rounds ≡ self.old.rounds }
+        ensures turns { self.new.rounds ≡ self.old.rounds }
+        ensures seats { HasBesides server.now.opened self.new.clients.sockets self.old.clients.sockets }
+        ensures refused { OnErr answer.now (KeepsSeats self.old.clients.sockets self.new.clients.sockets) }
     {
         if self.door.has_announced() {
             self.seat_announced(server, answer, reports);
@@ -39,7 +42,9 @@ impl Sockets {
         answer: &Result<(), Refused>,
         reports: &mut Reports<'_>,
     )
-        ensures { self.new.rounds ≡ self.old.rounds }
+        ensures turns { self.new.rounds ≡ self.old.rounds }
+        ensures seats { HasBesides server.now.opened self.new.clients.sockets self.old.clients.sockets }
+        ensures refused { OnErr answer.now (KeepsSeats self.old.clients.sockets self.new.clients.sockets) }
     {
         let Some(guest) = self.door.take_announced() else {
             return;
@@ -52,7 +57,8 @@ impl Sockets {
 
     /// Keeps the socket of a connection. If that is impossible, the connection is closed next.
     fn keep(&mut self, number: u64, guest: Guest, reports: &mut Reports<'_>)
-        ensures { self.new.rounds ≡ self.old.rounds }
+        ensures turns { self.new.rounds ≡ self.old.rounds }
+        ensures seats { HasBesides number self.new.clients.sockets self.old.clients.sockets }
     {
         match self.clients.add(self.rounds.registry(), number, guest) {
             Ok(()) => self.hindrances.end(),
@@ -73,8 +79,11 @@ impl Sockets {
     ) -> Option<Next>
         ensures may { IfSome result (λ n. MayCome n server.now) }
         ensures goes_on { IfSome result (λ n. n ≢ next.End) }
-        ensures none { IfSome result (λ n. (is_piece n ≡ false) × (moment_of n ≡ None)) }
-        ensures given { IfSome result (λ n. (token : ℕ) → IsGivenBy self.new.clients.sockets token n) }
+        ensures moment { IfSome result (λ n. moment_of n ≡ None) }
+        ensures unasked { IfSome result (λ n. IsUnasked self.old server.now n) }
+        ensures given { IfSome result (λ n. (token : ℕ) → IsGivenBy self.old.clients.sockets server.now token n) }
+        ensures seats { LeavesOthers (unwrap_or result next.Again) self.old.clients.sockets self.new.clients.sockets }
+        ensures none { result ≡ None → self.new.clients ≡ self.old.clients }
         ensures turns { self.new.rounds ≡ self.old.rounds }
     {
         if !self.door.has_guest() {
@@ -94,8 +103,11 @@ impl Sockets {
     ) -> Option<Next>
         ensures may { IfSome result (λ n. MayCome n server.now) }
         ensures goes_on { IfSome result (λ n. n ≢ next.End) }
-        ensures none { IfSome result (λ n. (is_piece n ≡ false) × (moment_of n ≡ None)) }
-        ensures given { IfSome result (λ n. (token : ℕ) → IsGivenBy self.new.clients.sockets token n) }
+        ensures moment { IfSome result (λ n. moment_of n ≡ None) }
+        ensures unasked { IfSome result (λ n. IsUnasked self.old server.now n) }
+        ensures given { IfSome result (λ n. (token : ℕ) → IsGivenBy self.old.clients.sockets server.now token n) }
+        ensures seats { LeavesOthers (unwrap_or result next.Again) self.old.clients.sockets self.new.clients.sockets }
+        ensures none { result ≡ None → self.new.clients ≡ self.old.clients }
         ensures turns { self.new.rounds ≡ self.old.rounds }
     {
         if let Some(number) = self.clients.makes_way(server) {
@@ -113,7 +125,8 @@ impl Sockets {
 
     /// Closes the socket of a connection to let another client in, and reports it.
     fn turn_out(&mut self, server: &Server, number: u64, reports: &mut Reports<'_>)
-        ensures { self.new.rounds ≡ self.old.rounds }
+        ensures turns { self.new.rounds ≡ self.old.rounds }
+        ensures others { HasBesides number self.old.clients.sockets self.new.clients.sockets }
     {
         if let Some(address) = self.clients.address(number) {
             self.hindrances.tell_way(address, server, reports);
@@ -132,7 +145,8 @@ impl Sockets {
     ) -> Option<Next>
         ensures may { IfSome result (λ n. MayCome n server.now) }
         ensures goes_on { IfSome result (λ n. n ≢ next.End) }
-        ensures given { IfSome result (λ n. (token : ℕ) → IsGivenBy self.new.clients.sockets token n) }
+        ensures given { IfSome result (λ n. (token : ℕ) → IsGivenBy self.old.clients.sockets server.now token n) }
+        ensures seats { LeavesOthers (unwrap_or result next.Again) self.old.clients.sockets self.new.clients.sockets }
         ensures turns { Comes self.old.rounds self.new.rounds }
     {
         match self.door.let_in(i) {

@@ -1,8 +1,10 @@
 //! What is done once a second: silent clients are closed, a new configuration is asked for, drivers are dialled, and what has
 //! changed is reported.
 
-ghost use Rattle.std.specs.Prelude.{◌≡◌};
+ghost use Rattle.std.specs.Prelude.{◌≡◌, IfSome, None};
+ghost use Rattle.nut_server_sockets.specs.Seats.{HasBesides, IsSilent};
 ghost use Rattle.nut_server_sockets.specs.Turns.{Comes};
+ghost use Rattle.nut_server_sockets.specs.inside.Looking.{IsApart, OnlyQueues};
 
 use crate::driver::Driver;
 use crate::reloader::Reloader;
@@ -15,7 +17,10 @@ use nut_server::{Config, Refused, Server, silence_before_ping};
 impl Sockets {
     /// Closes the socket of a client that was silent for too long. Returns the number of its connection.
     pub(super) fn shed(&mut self, server: &Server, reports: &mut Reports<'_>) -> Option<u64>
-        ensures { self.new.rounds ≡ self.old.rounds }
+        ensures turns { self.new.rounds ≡ self.old.rounds }
+        ensures silent { IfSome result (λ c. IsSilent server.now self.old.clients.second self.old.clients.sockets c) }
+        ensures others { IfSome result (λ c. HasBesides c self.old.clients.sockets self.new.clients.sockets) }
+        ensures none { result ≡ None → self.new.clients.sockets ≡ self.old.clients.sockets }
     {
         if !self.clients.may_be_silent() {
             return None;
@@ -26,7 +31,10 @@ impl Sockets {
     /// Does what [`shed`](Self::shed) does. It stands apart, so that no other arrival pays for the place of a silent client.
     #[inline(never)]
     fn shed_silent(&mut self, server: &Server, reports: &mut Reports<'_>) -> Option<u64>
-        ensures { self.new.rounds ≡ self.old.rounds }
+        ensures turns { self.new.rounds ≡ self.old.rounds }
+        ensures silent { IfSome result (λ c. IsSilent server.now self.old.clients.second self.old.clients.sockets c) }
+        ensures others { IfSome result (λ c. HasBesides c self.old.clients.sockets self.new.clients.sockets) }
+        ensures none { result ≡ None → self.new.clients.sockets ≡ self.old.clients.sockets }
     {
         let silent = self.clients.find_silent(server)?;
         reports.tell(SocketReport::Shed(silent.address, silent.seconds));
@@ -41,7 +49,7 @@ impl Sockets {
         reloader: &mut impl Reloader,
         reports: &mut Reports<'_>,
     ) -> Option<Box<Config>>
-        ensures { self.new.rounds ≡ self.old.rounds }
+        ensures { IsApart self.old self.new }
     {
         if !self.asks {
             return None;
@@ -60,7 +68,7 @@ impl Sockets {
         reloader: &mut impl Reloader,
         reports: &mut Reports<'_>,
     )
-        ensures { Comes self.old.rounds self.new.rounds }
+        ensures { OnlyQueues self.old self.new }
     {
         if self.has_given {
             self.has_given = false;
@@ -72,7 +80,7 @@ impl Sockets {
 
     /// Has each driver that isn't connected dialled in this round.
     pub(super) fn call_drivers(&mut self)
-        ensures { Comes self.old.rounds self.new.rounds }
+        ensures { OnlyQueues self.old self.new }
     {
         for u in 0..self.drivers.len() {
             if self.drivers.is_unconnected(u) {
@@ -86,7 +94,8 @@ impl Sockets {
     /// one second and more than a third of MAXAGE passed at once, the drivers are sent PING now, and clients wait until
     /// they have answered, two seconds at most.
     pub(super) fn begin_second(&mut self, server: &Server, moment: u64, reports: &mut Reports<'_>)
-        ensures { Comes self.old.rounds self.new.rounds }
+        ensures turns { Comes self.old.rounds self.new.rounds }
+        ensures clients { self.new.clients.sockets ≡ self.old.clients.sockets }
     {
         let passed = moment.saturating_sub(self.moment);
         self.moment = moment;
@@ -110,7 +119,7 @@ impl Sockets {
     /// said that can't be read. What passes within a second isn't told: the data of each driver are stale from its
     /// connection to the end of its first dump, and a driver that changed its mind with every line would fill the log.
     fn tell_changes(&mut self, server: &Server, reports: &mut Reports<'_>)
-        ensures { self.new.rounds ≡ self.old.rounds }
+        ensures { IsApart self.old self.new }
     {
         for u in 0..self.drivers.len() {
             if let Some(driver) = self.drivers.get_mut(u) {

@@ -1,79 +1,106 @@
-use Rattle.std.proofs.Common.{◌≡◌, None, [], refl, rules, ◌∙◌}
+use Rattle.std.proofs.Common.{◌≡◌, None, [], inl, inr, refl, rules, ap, subst, ◌∙◌}
 use Rattle.nut_words.proofs.Written.{at_err}
 use Rattle.nut_poll.specs.inside.TurnLaws.{turns_on}
 use Rattle.nut_server_loop.specs.declared.types.Next.TheVariants.{Again, Close, Reload}
-use Rattle.nut_server_sockets.specs.Turns.{ComesInTurn}
-use Rattle.nut_server_sockets.proofs.TurnLemmas.{again, came_of_none, in_turn, none_came, none_told, one_told, stays}
+use Rattle.nut_server_sockets.specs.Seats.{IsSilent}
+use Rattle.nut_server_sockets.proofs.SeatLemmas.{same_seats, seats_on}
+use Rattle.nut_server_sockets.proofs.TurnLemmas.{came_of_none, found_in_turn, leaves_on, none_told, nothing_found, nothing_more, nothing_yet, second_in_turn, unasked_still}
 use Rattle.nut_server_sockets.proofs.sockets.Sockets.next.Goals as goal
 
 pub returns-in-Some-clause-turns : goal.returns-in-Some-clause-turns
 returns-in-Some-clause-turns g c =
-    let now = c.args.self.now.rounds in
-    came_of_none c.args.self.now.clients.sockets (Close c.in-Some.number) now now refl refl (stays now now refl)
+    came_of_none c.args.server.now (Close c.in-Some.number) c.args.self.now (record c.args.self.now { unkept = c.take.new.self }) (inl (search rules)) refl (nothing_yet c.args.self.now.rounds c.args.self.now.rounds refl)
+
+pub returns-in-Some-clause-seats : goal.returns-in-Some-clause-seats
+returns-in-Some-clause-seats g c =
+    λ key. inl refl
 
 pub returns-in-Some-admit-clause-turns : goal.returns-in-Some-admit-clause-turns
 returns-in-Some-admit-clause-turns g c =
-    let now = c.args.self.now.rounds in
-    came_of_none c.admit.new.self.clients.sockets c.in-Some-admit.next now c.admit.new.self.rounds c.in-Some-admit.ensures.none.0 c.in-Some-admit.ensures.none.1
-    (stays now c.admit.new.self.rounds c.admit.ensures.turns)
+    came_of_none c.args.server.now c.in-Some-admit.next c.args.self.now c.admit.new.self (unasked_still c.args.server.now c.in-Some-admit.next c.args.self.now (record c.args.self.now { unkept = c.take.new.self }) (search rules) refl c.in-Some-admit.ensures.unasked) c.in-Some-admit.ensures.moment
+    (nothing_yet c.args.self.now.rounds c.admit.new.self.rounds c.admit.ensures.turns)
 
 pub returns-in-Some-shed-clause-turns : goal.returns-in-Some-shed-clause-turns
 returns-in-Some-shed-clause-turns g c =
-    let now = c.args.self.now.rounds in
-    came_of_none c.shed.new.self.clients.sockets (Close c.in-Some-shed.number) now c.shed.new.self.rounds refl refl
-    (stays now c.shed.new.self.rounds (c.shed.ensures ∙ c.admit.ensures.turns))
+    came_of_none c.args.server.now (Close c.in-Some-shed.number) c.args.self.now c.shed.new.self (inr (inr (subst (λ k. IsSilent c.args.server.now k.second k.sockets c.in-Some-shed.number) (c.in_default-admit.ensures.none refl) c.in-Some-shed.ensures.silent))) refl
+    (nothing_yet c.args.self.now.rounds c.shed.new.self.rounds (c.shed.ensures.turns ∙ c.admit.ensures.turns))
+
+pub returns-in-Some-shed-clause-seats : goal.returns-in-Some-shed-clause-seats
+returns-in-Some-shed-clause-seats g c =
+    leaves_on (Close c.in-Some-shed.number) c.args.self.now.clients.sockets c.admit.new.self.clients.sockets c.shed.new.self.clients.sockets c.in_default-admit.ensures.seats c.in-Some-shed.ensures.others
 
 pub returns-in-Some-reload-clause-turns : goal.returns-in-Some-reload-clause-turns
 returns-in-Some-reload-clause-turns g c =
-    let now = c.args.self.now.rounds in
-    came_of_none c.reload.new.self.clients.sockets (Reload c.in-Some-reload.config) now c.reload.new.self.rounds refl refl
-    (stays now c.reload.new.self.rounds (c.reload.ensures ∙ c.shed.ensures ∙ c.admit.ensures.turns))
+    came_of_none c.args.server.now (Reload c.in-Some-reload.config) c.args.self.now c.reload.new.self tt refl
+    (nothing_yet c.args.self.now.rounds c.reload.new.self.rounds (c.reload.ensures.0 ∙ c.shed.ensures.turns ∙ c.admit.ensures.turns))
+
+pub returns-in-Some-reload-clause-seats : goal.returns-in-Some-reload-clause-seats
+returns-in-Some-reload-clause-seats g c =
+    let still = same_seats c.args.self.now.clients.sockets c.reload.new.self.clients.sockets (ap (λ k. k.sockets) c.reload.ensures.1 ∙ c.in_default-shed.ensures.none refl ∙ ap (λ k. k.sockets) (c.in_default-admit.ensures.none refl)) in
+    still
 
 pub returns-in-Some-look-clause-turns : goal.returns-in-Some-look-clause-turns
 returns-in-Some-look-clause-turns g c =
-    let now = c.args.self.now.rounds in
-    let came = stays now c.reload.new.self.rounds (c.reload.ensures ∙ c.shed.ensures ∙ c.admit.ensures.turns) in
-    let sockets = c.look.new.self.clients.sockets in
-    in_turn sockets c.in-Some-look.next now c.reload.new.self.rounds c.look.new.self.rounds (none_came sockets now c.reload.new.self.rounds came) c.in-Some-look.ensures.turns
+    let yet = nothing_yet c.args.self.now.rounds c.reload.new.self.rounds (c.reload.ensures.0 ∙ c.shed.ensures.turns ∙ c.admit.ensures.turns) in
+    let still = same_seats c.args.self.now.clients.sockets c.reload.new.self.clients.sockets (ap (λ k. k.sockets) c.reload.ensures.1 ∙ c.in_default-shed.ensures.none refl ∙ ap (λ k. k.sockets) (c.in_default-admit.ensures.none refl)) in
+    found_in_turn c.args.server.now c.in-Some-look.next c.args.self.now c.reload.new.self c.look.new.self yet still c.in-Some-look.ensures.turns
+
+pub returns-in-Some-look-clause-seats : goal.returns-in-Some-look-clause-seats
+returns-in-Some-look-clause-seats g c =
+    let still = same_seats c.args.self.now.clients.sockets c.reload.new.self.clients.sockets (ap (λ k. k.sockets) c.reload.ensures.1 ∙ c.in_default-shed.ensures.none refl ∙ ap (λ k. k.sockets) (c.in_default-admit.ensures.none refl)) in
+    leaves_on c.in-Some-look.next c.args.self.now.clients.sockets c.reload.new.self.clients.sockets c.look.new.self.clients.sockets still c.in-Some-look.ensures.seats
 
 pub returns-in-Some-2-clause-turns : goal.returns-in-Some-2-clause-turns
 returns-in-Some-2-clause-turns g c =
-    let now = c.args.self.now.rounds in
-    let came = stays now c.reload.new.self.rounds (c.reload.ensures ∙ c.shed.ensures ∙ c.admit.ensures.turns) in
-    let before = c.look.new.self.clients.sockets in
-    let first = in_turn before Again now c.reload.new.self.rounds c.look.new.self.rounds (none_came before now c.reload.new.self.rounds came) c.in_default-look.ensures.turns in
-    let looked : ComesInTurn c.begin_second.new.self.clients.sockets Again now c.look.new.self.rounds = again before c.begin_second.new.self.clients.sockets now c.look.new.self.rounds first in
-    one_told c.begin_second.new.self.clients.sockets c.in-Some-2.moment c.in_ok-moment.field-0 now c.look.new.self.rounds c.wait.new.self.rounds c.begin_second.new.self.rounds
-    looked c.in_ok-moment.ensures.turns c.in_ok-moment.ensures.second c.in-Some-2.is c.begin_second.ensures
+    let yet = nothing_yet c.args.self.now.rounds c.reload.new.self.rounds (c.reload.ensures.0 ∙ c.shed.ensures.turns ∙ c.admit.ensures.turns) in
+    let looked = nothing_more c.args.self.now.rounds c.reload.new.self.rounds c.look.new.self.rounds yet (nothing_found c.args.server.now None c.reload.new.self c.look.new.self c.in_default-look.ensures.turns) in
+    second_in_turn c.args.server.now c.in-Some-2.moment c.args.self.now c.begin_second.new.self c.look.new.self.rounds c.wait.new.self.rounds c.in_ok-moment.field-0
+    looked c.in_ok-moment.ensures.turns c.in_ok-moment.ensures.second c.in-Some-2.is c.begin_second.ensures.turns
+
+pub returns-in-Some-2-clause-seats : goal.returns-in-Some-2-clause-seats
+returns-in-Some-2-clause-seats g c =
+    let still = same_seats c.args.self.now.clients.sockets c.reload.new.self.clients.sockets (ap (λ k. k.sockets) c.reload.ensures.1 ∙ c.in_default-shed.ensures.none refl ∙ ap (λ k. k.sockets) (c.in_default-admit.ensures.none refl)) in
+    let seated = seats_on c.args.self.now.clients.sockets c.reload.new.self.clients.sockets c.wait.new.self.clients.sockets still
+    (seats_on c.reload.new.self.clients.sockets c.look.new.self.clients.sockets c.wait.new.self.clients.sockets c.in_default-look.ensures.seats c.in_ok-moment.ensures.seats) in
+    seats_on c.args.self.now.clients.sockets c.wait.new.self.clients.sockets c.begin_second.new.self.clients.sockets seated (same_seats c.wait.new.self.clients.sockets c.begin_second.new.self.clients.sockets c.begin_second.ensures.clients)
 
 pub returns-in-Some-look-2-clause-turns : goal.returns-in-Some-look-2-clause-turns
 returns-in-Some-look-2-clause-turns g c =
-    let now = c.args.self.now.rounds in
-    let came = stays now c.reload.new.self.rounds (c.reload.ensures ∙ c.shed.ensures ∙ c.admit.ensures.turns) in
-    let before = c.look.new.self.clients.sockets in
-    let first = in_turn before Again now c.reload.new.self.rounds c.look.new.self.rounds (none_came before now c.reload.new.self.rounds came) c.in_default-look.ensures.turns in
-    let looked : ComesInTurn c.look-2.new.self.clients.sockets Again now c.look.new.self.rounds = again before c.look-2.new.self.clients.sockets now c.look.new.self.rounds first in
+    let yet = nothing_yet c.args.self.now.rounds c.reload.new.self.rounds (c.reload.ensures.0 ∙ c.shed.ensures.turns ∙ c.admit.ensures.turns) in
+    let still = same_seats c.args.self.now.clients.sockets c.reload.new.self.clients.sockets (ap (λ k. k.sockets) c.reload.ensures.1 ∙ c.in_default-shed.ensures.none refl ∙ ap (λ k. k.sockets) (c.in_default-admit.ensures.none refl)) in
+    let looked = nothing_more c.args.self.now.rounds c.reload.new.self.rounds c.look.new.self.rounds yet (nothing_found c.args.server.now None c.reload.new.self c.look.new.self c.in_default-look.ensures.turns) in
     let none : c.in_ok-moment.field-0 ≡ None = search rules in
-    none_told c.look-2.new.self.clients.sockets c.in-Some-look-2.next c.in_ok-moment.field-0 now c.look.new.self.rounds c.wait.new.self.rounds c.look-2.new.self.rounds
-    looked c.in_ok-moment.ensures.turns c.in_ok-moment.ensures.second none c.in-Some-look-2.ensures.turns
+    let waited = none_told c.in_ok-moment.field-0 c.args.self.now.rounds c.look.new.self.rounds c.wait.new.self.rounds looked c.in_ok-moment.ensures.turns c.in_ok-moment.ensures.second none in
+    let seated = seats_on c.args.self.now.clients.sockets c.reload.new.self.clients.sockets c.wait.new.self.clients.sockets still
+    (seats_on c.reload.new.self.clients.sockets c.look.new.self.clients.sockets c.wait.new.self.clients.sockets c.in_default-look.ensures.seats c.in_ok-moment.ensures.seats) in
+    found_in_turn c.args.server.now c.in-Some-look-2.next c.args.self.now c.wait.new.self c.look-2.new.self waited seated c.in-Some-look-2.ensures.turns
+
+pub returns-in-Some-look-2-clause-seats : goal.returns-in-Some-look-2-clause-seats
+returns-in-Some-look-2-clause-seats g c =
+    let still = same_seats c.args.self.now.clients.sockets c.reload.new.self.clients.sockets (ap (λ k. k.sockets) c.reload.ensures.1 ∙ c.in_default-shed.ensures.none refl ∙ ap (λ k. k.sockets) (c.in_default-admit.ensures.none refl)) in
+    let seated = seats_on c.args.self.now.clients.sockets c.reload.new.self.clients.sockets c.wait.new.self.clients.sockets still
+    (seats_on c.reload.new.self.clients.sockets c.look.new.self.clients.sockets c.wait.new.self.clients.sockets c.in_default-look.ensures.seats c.in_ok-moment.ensures.seats) in
+    leaves_on c.in-Some-look-2.next c.args.self.now.clients.sockets c.wait.new.self.clients.sockets c.look-2.new.self.clients.sockets seated c.in-Some-look-2.ensures.seats
 
 pub returns-in-None-clause-turns : goal.returns-in-None-clause-turns
 returns-in-None-clause-turns g c =
-    let now = c.args.self.now.rounds in
-    let came = stays now c.reload.new.self.rounds (c.reload.ensures ∙ c.shed.ensures ∙ c.admit.ensures.turns) in
-    let before = c.look.new.self.clients.sockets in
-    let first = in_turn before Again now c.reload.new.self.rounds c.look.new.self.rounds (none_came before now c.reload.new.self.rounds came) c.in_default-look.ensures.turns in
-    let looked : ComesInTurn c.look-2.new.self.clients.sockets Again now c.look.new.self.rounds = again before c.look-2.new.self.clients.sockets now c.look.new.self.rounds first in
+    let yet = nothing_yet c.args.self.now.rounds c.reload.new.self.rounds (c.reload.ensures.0 ∙ c.shed.ensures.turns ∙ c.admit.ensures.turns) in
+    let looked = nothing_more c.args.self.now.rounds c.reload.new.self.rounds c.look.new.self.rounds yet (nothing_found c.args.server.now None c.reload.new.self c.look.new.self c.in_default-look.ensures.turns) in
     let none : c.in_ok-moment.field-0 ≡ None = search rules in
-    none_told c.look-2.new.self.clients.sockets Again c.in_ok-moment.field-0 now c.look.new.self.rounds c.wait.new.self.rounds c.look-2.new.self.rounds
-    looked c.in_ok-moment.ensures.turns c.in_ok-moment.ensures.second none c.in-None.ensures.turns
+    let waited = none_told c.in_ok-moment.field-0 c.args.self.now.rounds c.look.new.self.rounds c.wait.new.self.rounds looked c.in_ok-moment.ensures.turns c.in_ok-moment.ensures.second none in
+    came_of_none c.args.server.now Again c.args.self.now c.look-2.new.self tt refl
+    (nothing_more c.args.self.now.rounds c.wait.new.self.rounds c.look-2.new.self.rounds waited (nothing_found c.args.server.now None c.wait.new.self c.look-2.new.self c.in-None.ensures.turns))
+
+pub returns-in-None-clause-seats : goal.returns-in-None-clause-seats
+returns-in-None-clause-seats g c =
+    let still = same_seats c.args.self.now.clients.sockets c.reload.new.self.clients.sockets (ap (λ k. k.sockets) c.reload.ensures.1 ∙ c.in_default-shed.ensures.none refl ∙ ap (λ k. k.sockets) (c.in_default-admit.ensures.none refl)) in
+    let seated = seats_on c.args.self.now.clients.sockets c.reload.new.self.clients.sockets c.wait.new.self.clients.sockets still
+    (seats_on c.reload.new.self.clients.sockets c.look.new.self.clients.sockets c.wait.new.self.clients.sockets c.in_default-look.ensures.seats c.in_ok-moment.ensures.seats) in
+    seats_on c.args.self.now.clients.sockets c.wait.new.self.clients.sockets c.look-2.new.self.clients.sockets seated c.in-None.ensures.seats
 
 pub returns-in_err-moment-clause-kept : goal.returns-in_err-moment-clause-kept
 returns-in_err-moment-clause-kept g c =
-    let now = c.args.self.now.rounds in
-    let came = stays now c.reload.new.self.rounds (c.reload.ensures ∙ c.shed.ensures ∙ c.admit.ensures.turns) in
-    let before = c.look.new.self.clients.sockets in
-    let looked : ComesInTurn before Again now c.look.new.self.rounds =
-    in_turn before Again now c.reload.new.self.rounds c.look.new.self.rounds (none_came before now c.reload.new.self.rounds came) c.in_default-look.ensures.turns in
+    let yet = nothing_yet c.args.self.now.rounds c.reload.new.self.rounds (c.reload.ensures.0 ∙ c.shed.ensures.turns ∙ c.admit.ensures.turns) in
+    let looked = nothing_more c.args.self.now.rounds c.reload.new.self.rounds c.look.new.self.rounds yet (nothing_found c.args.server.now None c.reload.new.self c.look.new.self c.in_default-look.ensures.turns) in
     at_err c.from_residual.result
-    (turns_on now.ready c.look.new.self.rounds.ready c.wait.new.self.rounds.ready (looked.0.0, looked.0.1) ([], c.wait.ensures.turns))
+    (turns_on c.args.self.now.rounds.ready c.look.new.self.rounds.ready c.wait.new.self.rounds.ready (looked.0, looked.1) ([], c.wait.ensures.turns))
