@@ -93,6 +93,10 @@ class Tests(StageTests):
                 seen.add(place)
             expect(seen, {at for at, lines in starved.items() if lines is not None}, f"{run.name}: what took memory")
 
+    def test_a_monitor_for_which_there_is_no_memory(self):
+        answers = {lines[0] for _, lines, _ in self.stage.refused_in_turn([("monitor new", PRIMARY)]) if lines}
+        expect(answers, {NO_FILE, NO_MONITOR}, "what is said of a monitor that isn't made")
+
     def test_the_loop(self):
         # the bytes of a link and of its server end a line
         lines = [line + "%0A" if TAKES.match(line) else line for line in table("monitor_loop.txt")]
