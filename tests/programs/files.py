@@ -8,7 +8,7 @@ import sys
 import tempfile
 
 from tests.support import manual
-from tests.support.harness import ended_in_bytes, ensure, expect, play, spelled, table, write
+from tests.support.harness import ended_in_bytes, ensure, expect, play, sections, spelled, write
 
 
 # a password, which nothing ever shows
@@ -19,13 +19,12 @@ def rows_of_files():
     """Returns for each file the rows of file_faults.txt: a text of it, the line and the kind of its fault, or None if it has none, and
     for some what is said to be meant there."""
     found = {}
-    for line in table("file_faults.txt"):
-        if line.startswith("== "):
-            rows = found.setdefault(line[3:], [])
-            continue
-        text, *said = line.split(" | ")
-        fault, *meant = said or [None]
-        rows.append((spelled(text).encode("latin-1"), fault, *(spelled(it).replace("<TYPE>", manual.type_meant()) for it in meant)))
+    for name, lines in sections("file_faults.txt"):
+        rows = found.setdefault(name, [])
+        for line in lines:
+            text, *said = line.split(" | ")
+            fault, *meant = said or [None]
+            rows.append((spelled(text).encode("latin-1"), fault, *(spelled(it).replace("<TYPE>", manual.type_meant()) for it in meant)))
     return found
 
 

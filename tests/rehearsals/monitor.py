@@ -9,7 +9,7 @@ had been lost instead of the rest of the piece. That the loop does so in every w
 import re
 import sys
 
-from tests.support.harness import ensure, expect, play, table
+from tests.support.harness import ensure, expect, play, sections, table
 from tests.support.monitor_rows import MEMORY_RUNS, PRIMARY, RUNS, Starved, check_run, steps_of
 from tests.support.player import places
 from tests.support.stage import StageTests
@@ -106,8 +106,7 @@ class Tests(StageTests):
 
     def test_machines_halt(self):
         """They halt or fail, and tell all that they did, or nothing if memory for an act was refused."""
-        for run in "\n".join(table("machine_runs.txt")).removeprefix("== ").split("\n== "):
-            name, *lines = run.split("\n")
+        for name, lines in sections("machine_runs.txt"):
             steps = [(f"watch {it[2:]}",) for it in lines if it[0] == ">"]
             due = [it.encode() for it in lines if it[0] != ">"]
             expect(self.stage.play(steps)[len(steps) - 1 :], due, f"that {name}")

@@ -46,6 +46,13 @@ def table(name):
     return [line for line in read(os.path.join(HERE, name)).splitlines() if not line.startswith("--")]
 
 
+def sections(name):
+    """Yields the sections of such a table: a heading, which stands behind '== ', and the lines below it."""
+    for section in "\n".join(table(name)).removeprefix("== ").split("\n== "):
+        heading, *lines = section.split("\n")
+        yield heading, lines
+
+
 def spelled(text):
     """Returns what a table means by a text. Backslashes are those of Python; {COUNT*PART} repeats a part, in which %d is its number from
     0 on."""

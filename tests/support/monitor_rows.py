@@ -3,7 +3,7 @@
 import re
 
 from tests.support import manual
-from tests.support.harness import Failed, expect, spelled, table
+from tests.support.harness import Failed, expect, sections, spelled
 from tests.support.player import escaped
 
 
@@ -173,10 +173,9 @@ def step_of(text):
 
 def runs():
     """Returns the runs of monitor_runs.txt."""
-    rows = "\n".join(table("monitor_runs.txt")).removeprefix("== ").split("\n== ")
-    for heading, steps in (row.split("\n", 1) for row in rows):
+    for heading, lines in sections("monitor_runs.txt"):
         name, file = heading.split(" | ")
-        yield Run(name, bytes_of(file), *(step_of(step) for line in steps.splitlines() for step in line.split("; ")))
+        yield Run(name, bytes_of(file), *(step_of(step) for line in lines for step in line.split("; ")))
 
 
 PRIMARY = b"MONITOR su700@localhost 1 mon m1 primary\n"
