@@ -379,6 +379,24 @@ class Tests:
             out = self.printed("-n", "2", self.room(text.partition("battery")[0] + changes, config={"m1": CONFIG, "m2": CONFIG}, files=files))
             ensure(said in out, f"{said!r} isn't printed: {out}")
 
+    def test_a_switch_that_restarts(self):
+        """The server counts old logins beside the new ones until it hears of their end, so a primary may wait for HOSTSYNC though
+        the others were halted. If MAXCONN has no room for them, a link is made only once the old connection is closed."""
+        text = f"{PAIR}at 1 m1 cut\nat 1 m2 cut\nat 13 m1 back\nat 13 m2 back\nat 40 su700 OB LB\n"
+        path, full = self.room(text), self.room(text, config=Config(CONFIG.upses, CONFIG.users, 15, 3))
+        to = os.path.join(os.path.dirname(path), "steps")
+        self.printed("-n", "1", "-s", "1", "--steps", to, path)
+        self.expect_halts(f"{to}.files", to, [f"{number}.conf" for number in range(4)], 2)
+        waits = collections.defaultdict(list)
+        for it in (path, full):
+            room = read_room(it, Nutsim(self.nutsim))
+            runs = [play_run(room, Nutsim(self.nutsim), 1, number) for number in range(8)]
+            expect([story.is_wrong for _, stories in runs for story in stories], [False] * 16, "what passes a bound")
+            for plan, (first, second) in runs:
+                waits[it, any(step.startswith("link 3 ") for step in plan.steps)].append(first.final - max(first.begun, second.halted))
+        ensure(max(waits[path, True]) > 5000 > max(waits[full, False]), f"how long a primary waits for nobody: {waits}")
+        ensure((full, True) not in waits, "a full server has no old connections")
+
     def test_nothing_is_left_behind(self):
         """The files that are made for nutsim are removed in the end, also if it is interrupted."""
         folder = os.path.join(self.folder, "temporary")
@@ -498,7 +516,7 @@ class Tests:
             ensure(any(of == law for of, _ in margins), f"no halt {law} was there")
         for law in (PRIMARY_LAW, SECONDARY_LAW, FORCED_LAW):
             ensure(margins[law, 0] > 0, f"no halt {law} reaches its bound")
-        for what in ("machines that went on as promised", "machines at two servers", "other clients", "HOSTSYNC that was just enough"):
+        for what in ("machines that went on as promised", "machines at two servers", "other clients", "old connections", "HOSTSYNC that was just enough"):
             ensure(counts[what] > 0, f"not all was played: {counts}")
 
 
@@ -561,10 +579,11 @@ class RandomRoom:
         name, host = ups
         return name.decode() + f"@{host}" * (len(self.hosts) > 1)
 
-    def model(self):
-        """Returns the plain model of this room."""
+    def model(self, returning):
+        """Returns the plain model of this room, in which these machines have old connections."""
         clients = [Rules([Watched(name, "secondary", 0, b"client", b"x", host.encode())], MINSUPPLIES=0) for name, host in self.watched]
-        return RoomOfServers({host.encode(): it for host, it in self.configs.items()}, [*self.rules, *clients])
+        hosts = [*self.rules, *clients]
+        return RoomOfServers({host.encode(): it for host, it in self.configs.items()}, [*hosts, *(hosts[m] for m in returning)])
 
     def pick(self, *items):
         return self.random.choice(items)
@@ -622,6 +641,7 @@ def play_rooms(program, folder, seeds):
         counts["machines"] += len(stories)
         counts["machines at two servers"] += sum(len(room.servers_of(it)) > 1 for it in room.machines)
         counts["other clients"] += len(room.clients)
+        counts["old connections"] += sum(f"link {host.old} " in step for host in plan.hosts if host.old is not None for step in plan.steps)
         for machine, host, story, bound in zip(room.machines, plan.hosts, stories, room.bounds):
             ensure(not story.is_wrong, f"room {seed}: {machine.name} passes its bound: {bound}, {story}")
             counts["machines that went on as promised"] += bound is None and story.keeps_pace
@@ -673,7 +693,7 @@ def compare(made, room, plan, nutsim, seed):
     """Checks that the plain model plays the same steps and tells the same; that no step is skipped, and each step that moves
     bytes finds some; that each query on a link that isn't cut is answered within the machine's delay; and that clocks move
     on by one."""
-    model = made.model()
+    model = made.model([host.number for host in plan.hosts if host.old is not None])
     # how the UPSes are called that nutsim plays under names of their own
     names = {f"{name.decode()}@{host}": f"u{u}@localhost" for u, (name, host) in enumerate(made.upses)} if room.files else {}
     due = []

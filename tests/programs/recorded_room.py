@@ -33,6 +33,7 @@ CLOCK, SOON, FOREVER = {"HASTE": "4", "LEAP": "0.9"}, 60, 1_000_000
 DELAY = 0.03
 CONFIG = Config([(b"su700", b"Server room")], {b"mon": User(b"m1", (), (), "primary"), b"sec": User(b"m2", (), (), "secondary")})
 ON_BATTERY = b"ups.status: OB\nTIMER 1\nups.status: OB DISCHRG\nTIMER 86400\n"
+MONITORS = 3
 # how many runs with a fault are tried
 FAULTY_RUNS = 300
 SERVER = "server"
@@ -99,8 +100,11 @@ def run_of(record, joined):
 
 def schedule_of(run, network):
     """Returns the steps that follow a run, each with the bytes of its happening, and the notices, each with the number of the step
-    before it. Both ends of a link are made at once: when the monitor has its end. Connections that belong to no call are left out."""
+    before it. Both ends of a link are made at once: when the monitor has its end. If the server still has the old one, a link of
+    another monitor takes that over: it logs in and does nothing else. Connections that belong to no call are left out."""
     others, steps, notices, last, line = other_ends(network), [], [], {}, b""
+    # the connection of each monitor's link that the server has, and who took over an old one
+    open_ends, kept = {}, {}
     for it in run:
         is_server, new = it.at == SERVER, []
         m = it.at if not is_server else others.get(it.end, (None,))[0]
@@ -114,9 +118,20 @@ def schedule_of(run, network):
         elif is_server and it.end == 0 and it.event != "Took":
             new, line = [("up" if it.event == "Up" else "down", 0)], b""
         elif it.event == "Linked":
+            if m in open_ends:
+                keeper = kept[open_ends.pop(m)] = m + MONITORS
+                moves = [(verb, keeper, 0, 512) for verb in ("out", "reach", "back", "land")]
+                steps += [(step, None) for step in (("link", keeper, 0), *3 * moves, ("cut-server", m, 0))]
             # the server never took a call that the network doesn't know
             new = [("link", m, 0), ("cut-server", m, 0)][: 1 if it.end in others else 2]
+            if it.end in others:
+                open_ends[m] = others[it.end]
+        elif is_server and it.end in kept and it.event != "Up":
+            expect(it.event, "Lost", "what happens on an old connection")
+            new = [("cut-monitor", kept[it.end], 0), ("cut-server", kept.pop(it.end), 0)]
         elif m is not None and it.event == "Lost":
+            if is_server:
+                del open_ends[m]
             new = [("cut-server" if is_server else "cut-monitor", m, 0)]
         elif m is not None and it.bytes:
             new = [({"Took": ("out", "back"), "Bytes": ("land", "reach")}[it.event][is_server], m, 0, len(it.bytes))]
@@ -156,27 +171,38 @@ def faulty(run, network, kind, chance):
 
 
 class Network:
-    """The network between one monitor and the server, with a port for the monitor. It takes a call if it is up and both ends of the call
-    before are closed: `nutsim` makes no other."""
+    """The network between one monitor and the server, with a port for the monitor. It takes a call if it is up and the call before has
+    ended: both its ends are closed, or the monitor's, while the switch restarts."""
 
     def __init__(self, server_port, chance):
         self.port, self.server_port, self.chance = free_port(), server_port, chance
         # for each call the monitor's port, with the network's own at the server
         self.joined = {}
         self.is_up, self.loses, self.ends = True, (), ()
+        # whether the switch restarts, and the old end that the server has since
+        self.restarts, self.old = False, None
         threading.Thread(target=self.run, daemon=True).start()
 
     def run(self):
         while True:
-            with self.next_call() as monitor, socket.create_connection(("127.0.0.1", self.server_port)) as server:
-                self.joined[str(monitor.getpeername()[1])] = str(server.getsockname()[1])
-                self.loses, self.ends = (), (monitor, server)
-                carriers = [threading.Thread(target=self.carry, args=ends, daemon=True) for ends in (self.ends, self.ends[::-1])]
-                for it in carriers:
-                    it.start()
-                for it in carriers:
-                    it.join()
-                self.ends = ()
+            monitor, server = self.ends = self.next_call(), socket.create_connection(("127.0.0.1", self.server_port))
+            self.joined[str(monitor.getpeername()[1])] = str(server.getsockname()[1])
+            self.loses, self.restarts = (), False
+            carriers = [threading.Thread(target=self.carry, args=ends, daemon=True) for ends in (self.ends, self.ends[::-1])]
+            for it in carriers:
+                it.start()
+            carriers[0].join()
+            if self.restarts:
+                self.old = server
+            else:
+                carriers[1].join()
+                server.close()
+            monitor.close()
+            self.ends = ()
+
+    def restart(self):
+        """Loses all bytes until the monitor calls again. The server isn't told that the end of the old call is closed."""
+        self.restarts, self.loses = True, self.ends
 
     def next_call(self):
         while True:
@@ -194,13 +220,15 @@ class Network:
             return listener
 
     def carry(self, source, target):
-        """Carries what comes from one end to the other, late and in other pieces, and then has the other closed."""
+        """Carries what comes from one end to the other, late and in other pieces, and then has the other closed, unless the switch
+        restarts."""
         with contextlib.suppress(OSError):
             while piece := source.recv(self.chance.randrange(1, 64)):
                 time.sleep(self.chance.random() * DELAY)
                 if source not in self.loses:
                     target.sendall(piece)
-        close_later(target)
+        if not self.restarts:
+            close_later(target)
 
     def cut(self, closes, loses=()):
         """Has the ends at these places closed, 0 for the monitor's and 1 for the server's. What some of them send is lost."""
@@ -247,8 +275,8 @@ class Tests(MonitorTests):
 
     def go_on(self, count=8):
         """Waits until each monitor has read so many answers more: of a new link three or four, and then statuses."""
-        before = [self.answers(m) for m in range(3)]
-        for m in range(3):
+        before = [self.answers(m) for m in range(MONITORS)]
+        for m in range(MONITORS):
             until(lambda: self.answers(m) >= before[m] + count, f"monitor {m} has answers", SOON)
 
     @functools.cached_property
@@ -269,7 +297,7 @@ class Tests(MonitorTests):
             say(b"ups.status: OL\n")
             room.upsd(env=self.recorded(SERVER))
             room.until(STATUS, ONLINE, SOON)
-            self.networks = [Network(room.port, chance) for _ in range(3)]
+            self.networks = [Network(room.port, chance) for _ in range(MONITORS)]
             confs = [self.conf(m, it.port, halted) for m, it in enumerate(self.networks)]
             watches = [held.enter_context(self.watch(it, env=self.recorded(m))) for m, it in enumerate(confs)]
             self.go_on()
@@ -277,7 +305,7 @@ class Tests(MonitorTests):
                 for it in self.networks:
                     it.cut(closes, loses)
                 self.go_on()
-            # the switch restarts
+            # no network for a second
             for it in self.networks:
                 it.is_up = False
                 it.cut((0, 1), (0, 1))
@@ -285,6 +313,13 @@ class Tests(MonitorTests):
             for it in self.networks:
                 it.is_up = True
             self.go_on()
+            # the switch restarts
+            for it in self.networks:
+                it.restart()
+            until(lambda: all(it.old for it in self.networks), "the monitors have given the server up", SOON)
+            self.go_on()
+            for it in self.networks:
+                close_later(it.old)
             say(ON_BATTERY, "seq")
             for m, it in enumerate(watches):
                 it.until_printed(f"notice ONBATT {self.rules[m].lines[0].target.decode()}", SOON)
@@ -304,7 +339,7 @@ class Tests(MonitorTests):
         count = collections.Counter(it.event for it in run)
         print(f"   {len(run)} happenings: {len(network)} calls, {count['Took']} writes, {count['Bytes']} reads")
         expect(first_fault(run, network), None, "the first happening that can't be")
-        ensure(len(network) >= 15, f"only {len(network)} calls")
+        ensure(len(network) >= 18, f"only {len(network)} calls")
 
     def test_record_with_a_fault_is_no_run(self):
         run, network, _ = self.story
@@ -322,14 +357,16 @@ class Tests(MonitorTests):
     def test_schedule_is_played(self):
         run, network, halted = self.story
         steps, notices = schedule_of(run, network)
-        model, due = room_model.Room(CONFIG, self.rules), []
+        ensure([step[:2] for step, _ in steps].count(("link", MONITORS)) == 1, "the server had an old connection of the primary")
+        rules = 2 * self.rules
+        model, due = room_model.Room(CONFIG, rules), []
         for number, (step, moved) in enumerate(steps, 1):
-            if step[0] in ("out", "reach", "back", "land"):
+            if step[0] in ("out", "reach", "back", "land") and moved is not None:
                 expect(moved_by(model, *step), moved, f"step {number}, {step}")
             news = model.play(step)
             ensure(("skipped",) not in news, f"step {number}, {step}, can't be")
             due += [shown(number, told) for told in news]
-        room = RoomFiles(os.path.join(self.folder, "played"), CONFIG, self.rules)
+        room = RoomFiles(os.path.join(self.folder, "played"), CONFIG, rules)
         words = [self.nutsim, room.folder, "/dev/stdin", *room.monitors]
         status, out, err = ended(words, input=b"".join(line_of(step) for step, _ in steps))
         expect((status, err, out), (0, "", b"".join(due).decode()), "what nutsim tells, and the model")

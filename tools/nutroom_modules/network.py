@@ -8,6 +8,9 @@ from nutroom_modules.times import SECOND
 
 WATCHING, FORCING, FINAL, HALTED = "Watching", "Forcing", "Final", "Halted"
 
+# The queries by which the server counts a link.
+LOGIN = ("username", "password", "login")
+
 # upsmon gives up a server that leaves a query open for longer than this, in seconds, while no UPS is on battery.
 PATIENCE = 10
 
@@ -35,18 +38,21 @@ class Link:
         # whether no status was asked for since the machine was last cut off: the theorem counts from that query on
         self.is_broken = True
         self.call_at = 0
+        # whether the server has counted its login; and when the server hears that the monitor has closed its end
+        self.is_counted = False
+        self.heard_at = 0
         # since when it keeps pace, with the machine's clock then, if it does; and the earlier stretches of time in which it did
         self.pace = None
         self.stretches = []
 
     def opening(self):
-        return ["username", "password", "login"] + ["primary"] * self.line.is_primary
+        return [*LOGIN, *["primary"] * self.line.is_primary]
 
     def begin(self):
         """Makes a new link."""
         self.made += 1
         self.is_linked = self.is_open = True
-        self.asked, self.query, self.is_outstanding = 0, None, False
+        self.asked, self.query, self.is_outstanding, self.is_counted = 0, None, False, False
 
     def keep_pace(self, time, clock):
         if self.pace is None:
@@ -82,9 +88,12 @@ class Link:
 class Host:
     """A machine of a run."""
 
-    def __init__(self, number, machine, seed):
+    def __init__(self, number, machine, seed, old=None):
         self.number = number
         self.machine = machine
+        # the number of the monitor of nutsim that stands for its old connections, or None, and how many each of its links had
+        self.old = old
+        self.olds = [0] * len(machine.rules.lines)
         self.random = random.Random(seed)
         self.links = [Link(i, line, f"{seed} {i}") for i, line in enumerate(machine.rules.lines)]
         # clocks don't tick together, and monitors don't start together

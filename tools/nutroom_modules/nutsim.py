@@ -19,7 +19,7 @@ class Nutsim:
         """Returns what the steps tell: for each line the number of the step and the words behind it."""
         if room.files is None:
             return self.call(room.servers[0].folder, [it.conf for it in room.machines], "".join(steps))
-        confs = [os.path.join(room.files.name, f"{number}.conf") for number in range(len(room.hosts))]
+        confs = [os.path.join(room.files.name, f"{number}.conf") for number in range(len(room.monitors))]
         return self.call(room.files.name, confs, "".join(steps))
 
     def check(self, folder, machine):

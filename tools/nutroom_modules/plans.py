@@ -3,7 +3,7 @@
 import heapq
 
 from nutroom_modules.bounds import halts_within, knows_within
-from nutroom_modules.network import HALTED, Host
+from nutroom_modules.network import HALTED, LOGIN, Host
 from nutroom_modules.times import SECOND
 
 
@@ -36,7 +36,8 @@ class Plan:
         self.steps, self.times, self.events = [], [], []
         self.queue, self.queued = [], 0
         self.now = 0
-        self.hosts = [Host(m, machine, f"{seed} {m}") for m, machine in enumerate(room.hosts)]
+        olds = {machine.name: m for m, machine in enumerate(room.returning, len(room.hosts))}
+        self.hosts = [Host(m, machine, f"{seed} {m}", olds.get(machine.name)) for m, machine in enumerate(room.hosts)]
         # the outage begins once each machine knows the status of its UPSes
         self.zero = (max(host.ready() for host in self.hosts) // SECOND + 1) * SECOND
         self.end = self.zero + room.changes[-1].time + longest_halt(room)
@@ -137,6 +138,7 @@ class Plan:
 
     def make_link(self, host, link):
         if link.is_open:
+            self.keep_old(host, link)
             self.close(host, link)
         if link.made:
             self.mark(host, "link back", link)
@@ -162,7 +164,33 @@ class Plan:
         link.is_broken = True
         link.lose_pace(self.time)
         link.call_at = self.now + (CLIENT_PAUSE if host.machine.is_client else 1)
-        self.at(self.now + self.delay(host, link), link.random.random(), self.hear_close, host, link, link.made)
+        self.hear_later(host, link, self.now + self.delay(host, link))
+
+    def hear_later(self, host, link, time):
+        link.heard_at = time
+        self.at(time, link.random.random(), self.hear_close, host, link, link.made)
+
+    # The server may still have the old connection of a link that is made again: it counts its login until it hears of the end, or
+    # notices that nobody is there. A link of nutsim has one connection, so another monitor takes over the old one: its links log in,
+    # do nothing else, and are cut.
+
+    def keep_old(self, host, link):
+        if host.old is None or not link.is_counted:
+            return
+        if host.olds[link.number]:
+            self.drop_old(host, link, host.olds[link.number])
+        host.olds[link.number] = link.made
+        self.step(f"link {host.old} {link.number}")
+        for _ in LOGIN:
+            for verb in ("out", "reach", "back", "land"):
+                self.step(f"{verb} {host.old} {link.number} 512")
+        self.at(max(link.heard_at, self.now), CHANGES_FIRST, self.drop_old, host, link, link.made)
+
+    def drop_old(self, host, link, made):
+        if host.olds[link.number] == made:
+            host.olds[link.number] = 0
+            self.step(f"cut-monitor {host.old} {link.number}")
+            self.step(f"cut-server {host.old} {link.number}")
 
     def hear_close(self, host, link, made):
         if link.made == made and link.is_open and not self.holds(host, link, self.hear_close, made):
@@ -202,6 +230,7 @@ class Plan:
             return
         self.step(f"reach {host.number} {link.number} 512")
         self.step(f"back {host.number} {link.number} 512")
+        link.is_counted = link.is_counted or link.query == "login"
         link.coming = self.statuses[link.line.ups]
         if link.query == "fsd":
             self.forced.setdefault(link.line.ups, self.time)
@@ -250,7 +279,13 @@ class Plan:
         self.mark(host, "back")
         held, host.held = host.held, []
         for link, action, rest in held:
-            self.at(self.now + self.delay(host, link), link.random.random(), action, host, link, *rest)
+            time = self.now + self.delay(host, link)
+            if action == self.hear_close:
+                # what is sent again comes later and later, and the server notices in the end
+                noticed = self.zero + host.cuts[-1] + PROBE_TIME
+                self.hear_later(host, link, time + part_of(max(noticed - time, 0), link.random))
+            else:
+                self.at(time, link.random.random(), action, host, link, *rest)
         for link in host.links:
             if link.is_linked and not link.is_open:
                 self.lose(host, link)
@@ -260,7 +295,7 @@ class Plan:
 
 
 def part_of(delay, chance):
-    """Returns how much of a delay the way to the server takes: nothing, all of it, or something between."""
+    """Returns how much of a delay is taken, as by the way to the server: nothing, all of it, or something between."""
     at = chance.random()
     if at < 0.5:
         return 0 if at < 0.25 else delay

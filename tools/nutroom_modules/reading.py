@@ -197,17 +197,24 @@ def read_room(path, nutsim):
         for server in room.servers:
             nutsim.check(server.folder, machine)
         room.machines[at] = dataclasses.replace(machine, rules=read_rules(room, machine))
-    for number, server in enumerate(room.servers):
-        check_server(room, number, server)
+    spare = [check_server(room, number, server) for number, server in enumerate(room.servers)]
+    room.returning = returning_machines(room, spare)
     room.bounds = [bound_of(room, machine) for machine in room.machines]
-    if room.clients or room.servers[0].name is not None:
+    if room.clients or room.returning or room.servers[0].name is not None:
         room.files = tempfile.TemporaryDirectory(prefix="nutroom-")
         stage(room, room.files.name)
     return room
 
 
+def returning_machines(room, spare):
+    """Returns the machines that are cut off and come back, if each server has room for their old connections beside all links."""
+    numbers = sorted({it.machine for it in room.changes if it.machine is not None and not it.is_cut})
+    owners = [room.owners[line.ups] for number in numbers for line in room.machines[number].rules.lines]
+    return [room.machines[it] for it in numbers] if all(owners.count(it) <= most for it, most in enumerate(spare)) else []
+
+
 def check_server(room, number, server):
-    """Checks that a server accepts each machine, with the rights that its file needs, and all links."""
+    """Checks that a server accepts each machine, with the rights that its file needs, and all links. Returns how many more it takes."""
     lines = [(host, line) for host in room.hosts for line in host.rules.lines if room.owners[line.ups] == number]
     path, users = server.path("upsd.users"), sections(server.path("upsd.users"))
     for machine, line in lines:
@@ -221,3 +228,4 @@ def check_server(room, number, server):
     most = next((int(words[1]) for words in conf_lines(server.path("upsd.conf")) if words[:1] == ["MAXCONN"]), 256)
     if len(lines) > most:
         raise Fault(f"{server.path('upsd.conf')}: MAXCONN {most} lets no {len(lines)} links in")
+    return most - len(lines)

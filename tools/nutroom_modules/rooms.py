@@ -92,6 +92,8 @@ class Room:
         self.changes = []
         # each UPS as the description names it, and the number of its server
         self.upses, self.owners = [], []
+        # the machines that are cut off and come back, while the server may still have their old connections
+        self.returning = []
         # the files that were made for nutsim, or None if it takes those of the room
         self.files = None
         # the bound of each machine, or None
@@ -101,6 +103,11 @@ class Room:
     def hosts(self):
         """Returns whoever calls servers: the machines and then the clients."""
         return [*self.machines, *self.clients]
+
+    @property
+    def monitors(self):
+        """Returns whose upsmon.conf each monitor of nutsim has: that of a host, or of a machine whose old connections it stands for."""
+        return [*self.hosts, *self.returning]
 
     def servers_of(self, *machines):
         """Returns the numbers of the servers at which machines have UPSes."""

@@ -1,4 +1,4 @@
-"""The files with which nutsim plays a room of several servers, or with other clients.
+"""The files with which nutsim plays a room of several servers, with other clients, or with machines that come back.
 
 nutsim has one server. It plays several by one that has all their UPSes, and nobody can tell: what a server answers depends on
 the connection, on the UPS and its driver, and on the user's rights, which were checked before. UPSes of two servers may have
@@ -25,8 +25,8 @@ def stage(room, folder):
     """Writes the files of a room into a folder, which is made if it isn't there."""
     write(folder, "ups.conf", "".join(f"[u{ups}]\n" for ups in range(len(room.upses))))
     write(folder, "upsd.users", "".join(f"[{role}]\npassword = x\nupsmon {role}\n" for role in ROLES))
-    write(folder, "upsd.conf", f"MAXCONN {sum(len(it.rules.lines) for it in room.hosts)}\n")
-    for number, host in enumerate(room.hosts):
+    write(folder, "upsd.conf", f"MAXCONN {sum(len(it.rules.lines) for it in room.monitors)}\n")
+    for number, host in enumerate(room.monitors):
         write(folder, f"{number}.conf", conf_of(host))
 
 
