@@ -128,7 +128,7 @@ def schedule_of(run, network):
                 open_ends[m] = others[it.end]
         elif is_server and it.end in kept and it.event != "Up":
             expect(it.event, "Lost", "what happens on an old connection")
-            new = [("cut-monitor", kept[it.end], 0), ("cut-server", kept.pop(it.end), 0)]
+            new = [("cut-server", kept.pop(it.end), 0)]
         elif m is not None and it.event == "Lost":
             if is_server:
                 del open_ends[m]
