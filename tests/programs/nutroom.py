@@ -382,20 +382,20 @@ class Tests:
     def test_a_switch_that_restarts(self):
         """The server counts old logins beside the new ones until it hears of their end, so a primary may wait for HOSTSYNC though
         the others were halted. If MAXCONN has no room for them, a link is made only once the old connection is closed."""
-        text = f"{PAIR}at 1 m1 cut\nat 1 m2 cut\nat 13 m1 back\nat 13 m2 back\nat 40 su700 OB LB\n"
+        text = f"{PAIR}at 1 m1 cut\nat 1 m2 cut\nat 20 m1 back\nat 20 m2 back\nat 40 su700 OB LB\n"
         path, full = self.room(text), self.room(text, config=Config(CONFIG.upses, CONFIG.users, 15, 3))
         to = os.path.join(os.path.dirname(path), "steps")
         self.printed("-n", "1", "-s", "1", "--steps", to, path)
         self.expect_halts(f"{to}.files", to, [f"{number}.conf" for number in range(4)], 2)
-        waits = collections.defaultdict(list)
+        waits, kept = [], []
         for it in (path, full):
             room = read_room(it, Nutsim(self.nutsim))
             runs = [play_run(room, Nutsim(self.nutsim), 1, number) for number in range(8)]
             expect([story.is_wrong for _, stories in runs for story in stories], [False] * 16, "what passes a bound")
-            for plan, (first, second) in runs:
-                waits[it, any(step.startswith("link 3 ") for step in plan.steps)].append(first.final - max(first.begun, second.halted))
-        ensure(max(waits[path, True]) > 5000 > max(waits[full, False]), f"how long a primary waits for nobody: {waits}")
-        ensure((full, True) not in waits, "a full server has no old connections")
+            waits.append(max(first.final - max(first.begun, second.halted) for _, (first, second) in runs))
+            kept.append(any(step.startswith(("link 2 ", "link 3 ")) for plan, _ in runs for step in plan.steps))
+        ensure(waits[0] > waits[1] + 3000, f"how long a primary waits though the other was halted: {waits} ms")
+        expect(kept, [True, False], "whether a server keeps old connections")
 
     def test_nothing_is_left_behind(self):
         """The files that are made for nutsim are removed in the end, also if it is interrupted."""
