@@ -620,7 +620,7 @@ class RandomRoom:
         if self.random.random() < 0.75:
             return []
         name, time = f"m{self.random.randrange(len(self.rules))}", self.random.randint(0, 20)
-        back = [f"at {time + self.random.randint(1, 15)} {name} back"] if self.random.random() < 0.7 else []
+        back = [f"at {time + self.random.randint(1, 40)} {name} back"] if self.random.random() < 0.7 else []
         return [f"at {time} {name} cut", *back]
 
 
