@@ -1,11 +1,12 @@
 -- A dump is its lines, and leads an empty table to the driver's own.
 use Rattle.std.proofs.Common.{◌≡◌, ℕ, ◌+◌, ◌*◌, ◌≤◌, ◌&&◌, true, List, [], ◌∷◌, ◌++◌, Option, Some, None, length, map, nat_le, refl, sym, ap, subst, ◌∙◌, arith, append_assoc, length-append, codes, rules}
+use Rattle.std.specs.Fmt.{digits}
 use Rattle.std.specs.List.{AllByRecursion, concat, flat_map, list_all}
 use Rattle.std.specs.Option.{option_map_or}
 use Rattle.std.proofs.lemmas.Bool.Decides.{nat_tests}
-use Rattle.std.proofs.lemmas.List.{append-nil, map-append, nil_from_length}
+use Rattle.std.proofs.lemmas.List.{append-nil, map-append}
 use Rattle.std.proofs.lemmas.Bool.{and_parts, leb-true, cond_both}
-use Rattle.nut_words.specs.Lines.{LineText, Text, as_line, lines, lines_after, rest, rest_after}
+use Rattle.nut_words.specs.Lines.{Text, as_line, lines, lines_after, rest, rest_after}
 use Rattle.nut_words.specs.Name.{is_name_byte}
 use Rattle.nut_words.specs.Quoting.{IsPrintable, quoted, stands_bare, word_text}
 use Rattle.nut_words.specs.Spelling.{is_printing}
@@ -13,8 +14,6 @@ use Rattle.nut_words.proofs.StreamGrowth.{lines-append, rest-append}
 use Rattle.nut_words.proofs.PlainLemmas.{all_printable}
 use Rattle.nut_words.proofs.WrittenLine.{all-append, line_printable, lines_of_printable, quoted_printable, rest_of_printable}
 use Rattle.nut_words.specs.declared.limits.TheConstants.{LINE_MAX, NAME_MAX, VALUE_MAX}
-use Rattle.nut_proto.specs.declared.driver_ask.DriverAsk.{DriverAsk}
-use Rattle.nut_proto.specs.declared.driver_ask.DriverAsk.TheVariants as asks
 use Rattle.nut_proto.specs.Lines.{line, message}
 use Rattle.nut_proto.proofs.Lengths.{length-quoted}
 use Rattle.nut_state.specs.Change.{Change, set_info}
@@ -23,43 +22,32 @@ use Rattle.nut_state.specs.Table.{Table, empty}
 use Rattle.nut_state.specs.Text.{is_name}
 use Rattle.nut_dummy.specs.declared.writable.Writable.{Writable}
 use Rattle.nut_dummy.specs.declared.writable.Writable.TheVariants.{ChargeLow}
-use Rattle.nut_dummy.specs.Dummy.{Content, told_bytes, waits_of}
-use Rattle.nut_dummy.specs.Dump.{Listener, table_after, after_piece, after_pieces, LeadTo, dump_messages, IsDump, OwesDump, DumpIsTheTable, DumpsWhereAsked}
+use Rattle.nut_dummy.specs.Dummy.{timelines}
+use Rattle.nut_dummy.specs.Dump.{table_after, lines_in, LeadTo, dump_messages, IsDump, DumpIsTheTable}
 use Rattle.nut_dummy.specs.Heard.{heard_in}
-use Rattle.nut_dummy.specs.History.{driver}
+use Rattle.nut_dummy.specs.History.{by_lines, deeds, seen}
 use Rattle.nut_dummy.specs.Item.{is_value}
 use Rattle.nut_dummy.specs.Table.{table_of}
-use Rattle.nut_dummy.specs.Teller.{Variable, Teller, answered, asked_by, dump, dumped, dumped_all, heard, heard_all, lines_of}
+use Rattle.nut_dummy.specs.Teller.{Variable, dump, lines_of}
 use Rattle.nut_dummy.specs.Telling.{Message, text, value_message, limits, limits_of, variable_messages, closing_messages}
 use Rattle.nut_dummy.specs.Writable.{writable_of}
 use Rattle.nut_dummy.proofs.FilledLemmas.{followed, limiting, writable_named, changes_of, closing_changes, dump_fills}
 use Rattle.nut_dummy.proofs.HeardLemmas.{told_lines_are_heard}
-use Rattle.nut_dummy.proofs.LimitLemmas.{IsSound, IsValued, AreSound, driver_sound, heard_all_sound, answered_sound}
+use Rattle.nut_dummy.proofs.LimitLemmas.{IsSound, IsValued, AreSound, deeds_sound, lines_sound}
 use Rattle.nut_dummy.proofs.TextLemmas.{text_nil, text_cons, text_append}
 
 -- ---- in pieces
 
-table_after-append : (a b : List LineText) (t : Table) → table_after (a ++ b) t ≡ table_after b (table_after a t)
-table_after-append [] b t = refl
-table_after-append (l ∷ a) b t = table_after-append a b _
+lines_of_pieces : (b : List ℕ) (pieces : List (List ℕ)) → lines b ++ lines_in (rest b) pieces ≡ lines (b ++ concat pieces)
+lines_of_pieces b [] = append-nil (lines b) ∙ ap lines (sym (append-nil b))
+lines_of_pieces b (piece ∷ pieces) =
+    sym (append_assoc (lines b) (lines_after (rest b) piece) (lines_in (rest_after (rest b) piece) pieces))
+    ∙ ap (λ ls. ls ++ lines_in (rest_after (rest b) piece) pieces) (sym (lines-append b piece))
+    ∙ ap (λ r. lines (b ++ piece) ++ lines_in r pieces) (sym (rest-append b piece))
+    ∙ lines_of_pieces (b ++ piece) pieces ∙ ap lines (append_assoc b piece (concat pieces))
 
--- what a server has after some bytes
-abbrev listening : List ℕ → Listener
-listening b = record { rest = rest b; table = table_after (lines b) empty }
-
-one_piece : (b piece : List ℕ) → after_piece piece (listening b) ≡ listening (b ++ piece)
-one_piece b piece =
-    ap (λ r. record { rest = r; table = table_after (lines_after (rest b) piece) (table_after (lines b) empty) }) (sym (rest-append b piece))
-    ∙ ap (λ t. record { rest = rest (b ++ piece); table = t })
-    (sym (ap (λ ls. table_after ls empty) (lines-append b piece) ∙ table_after-append (lines b) (lines_after (rest b) piece) empty))
-
-all_pieces : (b : List ℕ) (pieces : List (List ℕ)) → after_pieces pieces (listening b) ≡ listening (b ++ concat pieces)
-all_pieces b [] = ap listening (sym (append-nil b))
-all_pieces b (piece ∷ pieces) =
-    ap (after_pieces pieces) (one_piece b piece) ∙ all_pieces (b ++ piece) pieces ∙ ap listening (append_assoc b piece (concat pieces))
-
-in_pieces : (bytes : List ℕ) (table : Table) → listening bytes ≡ record { rest = Text []; table = table } → LeadTo table bytes
-in_pieces bytes table is pieces joined = all_pieces [] pieces ∙ ap listening joined ∙ is
+in_pieces : (bytes : List ℕ) (table : Table) → rest bytes ≡ Text [] → table_after (lines bytes) empty ≡ table → LeadTo table bytes
+in_pieces bytes table ended led = (ended, λ pieces joined. ap (λ ls. table_after ls empty) (lines_of_pieces [] pieces ∙ ap lines joined) ∙ led)
 
 -- ---- lines
 
@@ -119,7 +107,7 @@ value_line name value named_so valued =
     (omega (arith, length-append (word_text name) (32 ∷ (quoted value ++ [])), length-append (quoted value) [], length-word name, length-quoted value))
 
 limits_lines : (w : Writable) → AreLines (limits_of w)
-unfolding text line
+unfolding digits text line
 limits_lines ChargeLow = (refl, refl)
 limits_lines _ = (refl, refl)
 
@@ -202,35 +190,10 @@ dump_is variables h =
       in_order = in_order;
       variables_ascend = h.ascending;
       commands_ascend = search rules;
-      is_table = in_pieces (dump variables) (table_of variables)
-          (ap (λ r. record { rest = r; table = table_after (lines (dump variables)) empty }) ended ∙ ap (λ t. record { rest = Text []; table = t }) led);
+      is_table = in_pieces (dump variables) (table_of variables) ended led;
     }
 
--- marking variables as told changes nothing else of them
-dump_marked : (variables : List Variable) → flat_map (λ v. lines_of true v.name v.value) (map dumped variables) ≡ flat_map (λ v. lines_of true v.name v.value) variables
-dump_marked [] = refl
-dump_marked (v ∷ variables) = ap (λ t. lines_of true v.name v.value ++ t) (dump_marked variables)
-
-owes_dump : (t : Teller) → AreSound (dumped_all t).variables → OwesDump t (dumped_all t)
-owes_dump t h =
-    (dump t.variables, refl, subst (IsDump (dumped_all t).variables) (ap (λ b. b ++ text closing_messages) (dump_marked t.variables)) (dump_is (dumped_all t).variables h))
-
-line_owes : (t : Teller) (line : LineText) → asked_by line ≡ Some asks.DumpAll → AreSound t.variables → OwesDump t (heard line t)
-line_owes t line is h =
-    subst (λ (ask : Option DriverAsk). OwesDump t (answered ask t)) (sym is) (owes_dump t (answered_sound (Some asks.DumpAll) t h))
-
 pub dump_is_the_table : DumpIsTheTable
-dump_is_the_table kind script_text script start h before line reads is =
-    let t = (driver script start h).teller in
-    line_owes (heard_all before t) line is (heard_all_sound before t (driver_sound kind script_text script start h reads))
-
--- ---- at a call
-
-pub dumps_where_asked : (piece : List ℕ) (old new : Content) → length (waits_of old) ≤ 0 → new ≡ told_bytes piece old → DumpsWhereAsked piece old new
-dumps_where_asked piece old new none is kind script_text script start h line reads was brings asks_it =
-    let sound : AreSound old.teller.variables = subst (λ (s : Content). AreSound s.teller.variables) (sym was) (driver_sound kind script_text script start h reads) in
-    let owes : OwesDump old.teller (heard line old.teller) = line_owes old.teller line asks_it sound in
-    let now : new.teller ≡ heard line old.teller = ap (λ (s : Content). s.teller) is ∙ ap (λ ls. heard_all ls old.teller) brings in
-    let alone : owes.0 ≡ waits_of new =
-    ap (λ w. w ++ owes.0) (sym (nil_from_length (waits_of old) (omega (arith, none)))) ∙ sym owes.1 ∙ ap (λ (t : Teller). t.waits) (sym now) in
-    subst (λ (t : Teller). IsDump t.variables (waits_of new)) (sym now) (subst (IsDump (heard line old.teller).variables) alone owes.2)
+dump_is_the_table kind script_text script start h before reads =
+    let past = deeds script.round start h in
+    dump_is (map (seen (by_lines before past)) (timelines script)) (lines_sound (timelines script) before past (deeds_sound kind script_text script start h reads))

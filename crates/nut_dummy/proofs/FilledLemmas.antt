@@ -24,9 +24,9 @@ use Rattle.nut_dummy.specs.declared.writable.Writable.{Writable}
 use Rattle.nut_dummy.specs.declared.writable.Writable.TheVariants.{ChargeLow, RuntimeLow, Sensitivity, ShutdownDelay, Id}
 use Rattle.nut_dummy.specs.Command.{command_name, all_commands}
 use Rattle.nut_dummy.specs.Heard.{attribute_changes}
-use Rattle.nut_dummy.specs.Table.{with_attributes, entry, entries, table_of}
+use Rattle.nut_dummy.specs.Table.{entries, table_of}
 use Rattle.nut_dummy.specs.Teller.{Variable}
-use Rattle.nut_dummy.specs.Writable.{all_writable, attributes, name_of, attributes_of, number_up_to, text_of, writable_of}
+use Rattle.nut_dummy.specs.Writable.{Attributes, all_writable, attributes, name_of, attributes_of, number_up_to, text_of, writable_of}
 use Rattle.nut_dummy.proofs.LimitLemmas.{AreSound, IsSound, IsValued}
 
 -- ---- a list with one more behind it
@@ -73,6 +73,13 @@ module _ {X : Type 0} (name_of : X → List ℕ) (name : List ℕ) where
   put_again xs e new low own = λ i. lower_but_last xs e low own i ++ (new ∷ higher_but_last xs e low own i)
 
 -- ---- a table with one variable more
+
+-- a variable with its attributes
+abbrev with_attributes : List ℕ → List ℕ → Attributes → Entry
+with_attributes name value a = record { name = name; value = value; flags = a.flags; aux = a.aux; enums = a.enums; ranges = a.ranges }
+
+abbrev entry : List ℕ → List ℕ → Entry
+entry name value = with_attributes name value (attributes_of (writable_of name))
 
 abbrev pub filled : List Entry → Table
 filled xs = record { variables = xs; commands = []; dump_done = false; data_ok = false }

@@ -1,6 +1,7 @@
 -- The lines told are read as what they say.
 use Rattle.std.proofs.Common.{◌≡◌, ℕ, ◌<◌, ◌≤◌, ◌^◌, Bool, true, false, List, [], ◌∷◌, ◌++◌, Some, length, refl, sym, ap, ◌∙◌, arith, map, codes, decimal, append_assoc}
 use Rattle.std.specs.Prelude.{nat_lt, if◌then◌else◌}
+use Rattle.std.specs.Fmt.{digits}
 use Rattle.std.specs.List.{AllByRecursion, list_all}
 use Rattle.std.specs.Int.{IsInRange}
 use Rattle.std.proofs.lemmas.Bool.Decides.{nat_tests}
@@ -24,7 +25,7 @@ use Rattle.nut_dummy.specs.Command.{command_name, all_commands}
 use Rattle.nut_dummy.specs.Telling.{Message, value_message, limits_of, closing_messages}
 use Rattle.nut_dummy.specs.Writable.{attributes, name_of}
 use Rattle.nut_dummy.specs.Teller.{ended}
-use Rattle.nut_dummy.specs.Heard.{heard_in, attribute_changes, ended_line, ToldLinesAreHeard}
+use Rattle.nut_dummy.specs.Heard.{heard_in, attribute_changes, ToldLinesAreHeard}
 
 -- a message is heard by its words
 by_words : (m : Message) → AreWritable m → length m ≤ 32 → heard_in m ≡ asked (message_words m)
@@ -36,7 +37,7 @@ unfolding asked verb_of
 value_heard name value n v = by_words (value_message name value) ((refl, (refl, (refl, (refl, (refl, (refl, (refl, tt))))))), (n, (v, tt))) (omega arith)
 
 limits_heard : (w : Writable) → map heard_in (limits_of w) ≡ map (λ change. Some change) (attribute_changes (name_of w) (attributes w))
-unfolding heard asked verb_of read
+unfolding digits heard asked verb_of read
 limits_heard ChargeLow = refl
 limits_heard _ = refl
 
@@ -59,6 +60,9 @@ number_bare n small =
     let all : list_all is_bare (decimal n) ≡ true =
     digits_bare (decimal n) (digits_decimal (numerals_by_value (λ text. AllByRecursion (λ c. IsInRange 48 57 c) text) digits_test) n small) in
     rw (is, all) refl
+
+abbrev ended_line : ℕ → Bool → List ℕ
+ended_line number done = codes "TRACKING " ++ (decimal number ++ (if done then codes " 0" else codes " 1"))
 
 abbrev ended_message : ℕ → Bool → Message
 ended_message number done = Word (codes "TRACKING") ∷ Number number ∷ Word (if done then codes "0" else codes "1") ∷ []
@@ -89,4 +93,4 @@ unfolding heard asked verb_of read
 pong_heard = refl
 
 pub told_lines_are_heard : ToldLinesAreHeard
-told_lines_are_heard = (value_heard, limits_heard, closing_heard, λ n done h. (ended_with_feed n done, ended_heard n done h), pong_heard)
+told_lines_are_heard = (value_heard, limits_heard, closing_heard, λ n done h. (ended_line n done, ended_with_feed n done, ended_heard n done h), pong_heard)

@@ -1,21 +1,24 @@
 -- A driver holds what looking back over deeds says.
-use Rattle.std.proofs.Common.{◌≡◌, ℕ, ◌-◌, ◌≤◌, Bool, true, false, cond, List, [], ◌∷◌, ◌++◌, Option, Some, None, length, take, drop, refl, sym, ap, subst, ◌∙◌, arith, append_assoc, max, codes}
+use Rattle.std.proofs.Common.{◌≡◌, ℕ, ◌-◌, ◌≤◌, ◌||◌, Bool, true, false, cond, List, [], ◌∷◌, ◌++◌, Option, Some, None, IsTrue, length, slice_get, take, drop, refl, sym, ap, subst, ◌∙◌, arith, append_assoc, max, codes}
 use Rattle.std.specs.Prelude.{map}
+use Rattle.std.specs.Option.{option_map_or}
 use Rattle.std.proofs.lemmas.Bool.Decides.{nat_tests}
 use Rattle.std.proofs.lemmas.Bool.{false≢true}
 use Rattle.std.proofs.lemmas.List.{append-nil, drop_all, take_all, drop-append-le, drop-drop, length-append, length-drop, take-append-le, take-append-drop}
 use Rattle.std.proofs.Math.Seq.{take-add}
-use Rattle.nut_words.specs.Lines.{LineText, lines_after, rest, rest_after}
+use Rattle.nut_words.specs.Lines.{LineText, lines_after, rest}
+use Rattle.nut_words.specs.Reader.{with_backslash}
 use Rattle.nut_words.proofs.StreamGrowth.{rest-append}
 use Rattle.nut_proto.specs.declared.driver_ask.DriverAsk.{DriverAsk}
 use Rattle.nut_proto.specs.declared.driver_ask.DriverAsk.TheVariants as asks
 use Rattle.nut_dummy.specs.declared.dummy.DummyFault.TheVariants as faults
 use Rattle.nut_dummy.specs.declared.command.KnownCommand.{KnownCommand}
 use Rattle.nut_dummy.specs.Command.{variable_set, value_set, command_of}
+use Rattle.nut_dummy.specs.Dummy.{Content, timelines}
 use Rattle.nut_dummy.specs.Script.{Script, Timeline}
-use Rattle.nut_dummy.specs.Teller.{Teller, Change, Passing, Assigning, Doing, followed, dumped, untold, changed, dumped_all, commanded, answered, heard_all, relinked, asked_by}
-use Rattle.nut_dummy.specs.Dummy.{Content, bytes_refusal, cut_behind, moment_refusal, passed, told_bytes, took_refusal, waits_of}
-use Rattle.nut_dummy.specs.History.{Deed, Fresh, Changes, Fails, Dumps, Pongs, has_asked, seen, owed, told, by_command, by_ask, by_lines, Call, Linked, Moment, Bytes, Lost, Took, clock, input, count_taken, deeds, driver, step, refusal, IsAccepted, told_by, is_linked, left_by_cut, received, timelines, Stands, LooksBack}
+use Rattle.nut_dummy.specs.Teller.{Change, Passing, Assigning, Doing, asked_by}
+use Rattle.nut_dummy.specs.inside.Machine.{followed, dumped, untold, changed, dumped_all, commanded, answered, heard, heard_all, relinked, tells_more, may_take_memory, step, MayStop}
+use Rattle.nut_dummy.specs.History.{Deed, Fresh, Changes, Fails, Dumps, Pongs, has_asked, seen, owed, told, by_ask, by_lines, Call, Linked, Moment, Bytes, Lost, Took, clock, input, count_taken, deeds, told_by, driver, bytes_refusal, refusal, IsAccepted, is_linked, owes_more, MayRunOut, Stands, received, reported, LooksBack}
 
 map_map : {A B C : Type 0} (f : B → C) (g : A → B) (xs : List A) → map f (map g xs) ≡ map (λ x. f (g x)) xs
 map_map f g [] = refl
@@ -24,6 +27,10 @@ map_map f g (x ∷ xs) = ap (λ ys. f (g x) ∷ ys) (map_map f g xs)
 -- while nothing was told and DUMPALL wasn't asked, a change tells nothing
 untold_change : (ts : List Timeline) (past : List Deed) (change : Change) → told ts past ≡ [] → has_asked past ≡ false → told ts (Changes None change ∷ past) ≡ []
 untold_change ts past change nothing unasked = rw (unasked, nothing) refl
+
+-- the deeds after a command
+abbrev by_command : Option ℕ → Option KnownCommand → List Deed → List Deed
+by_command number command past = option_map_or (λ c. Changes number (Doing (variable_set c) (value_set c))) command (Fails number) ∷ past
 
 module _ (ts : List Timeline) where
   fresh_is : (past : List Deed) (n : ℕ) → relinked (told_by ts past n) ≡ told_by ts (Fresh ∷ past) 0
@@ -105,7 +112,7 @@ module _ (ts : List Timeline) where
       sym (ap (take n) tells.1 ∙ take-append-le n (told ts past) tells.0 room)
 
 -- bytes that were taken had to wait
-taken_waits : (n : ℕ) (s : Content) → took_refusal n s ≡ None → n ≤ length s.teller.waits
+taken_waits : (n : ℕ) (s : Content) → refusal (Took n) s ≡ None → n ≤ length s.teller.waits
 taken_waits n s h = grind (arith, nat_tests)
 
 -- bytes are heard only if there is a link
@@ -118,174 +125,184 @@ heard_linked piece s h = by s.linked refl h where
     by_test h = cc
 
 module _ (script : Script) (start : ℕ) where
+  abbrev owes : List Call → List ℕ
+  owes h = told (timelines script) (deeds script.round start h)
+
   record Keeps (h : List Call) : Type 0 where
-    begins : (driver script start h).start ≡ start
-    rounds : (driver script start h).round ≡ script.round
-    clock_is : (driver script start h).clock ≡ clock start h
-    rest_is : (driver script start h).rest ≡ rest (input h)
-    teller_is : (driver script start h).teller ≡ told_by (timelines script) (deeds script.round start h) (count_taken h)
-    room : count_taken h ≤ length (told (timelines script) (deeds script.round start h))
-    linked_is : (driver script start h).linked ≡ is_linked h
-    on_link : is_linked h ≡ true → received script start h ≡ take (count_taken h) (told (timelines script) (deeds script.round start h))
-    cut_off : is_linked h ≡ false → received script start h ≡ left_by_cut (timelines script) script.round start h
-    nothing : is_linked h ≡ false → told (timelines script) (deeds script.round start h) ≡ []
+    room : count_taken h ≤ length (owes h)
+    on_link : is_linked h ≡ true → received script start h ≡ take (count_taken h) (owes h)
+    cut_off : is_linked h ≡ false → received script start h ≡ reported script start h
+    nothing : is_linked h ≡ false → owes h ≡ []
     unasked : is_linked h ≡ false → has_asked (deeds script.round start h) ≡ false
 
-  stands : (h : List Call) → IsAccepted script start h → Keeps h
-  stands [] a = record {
-    begins = refl;
-    rounds = refl;
-    clock_is = refl;
-    rest_is = refl;
-    teller_is = refl;
+  -- while there is no link, a call leaves what was reported
+  still_cut : (old : List ℕ) (new : List ℕ) (b : Bool) → b ≡ false → cond b old new ≡ new
+  still_cut old new true e = absurd (cc)
+  still_cut old new false e = refl
+
+  keeps : (h : List Call) → IsAccepted script start h → Keeps h
+  keeps [] a = record {
     room = omega arith;
-    linked_is = refl;
     on_link = λ e. absurd (cc);
     cut_off = λ e. refl;
     nothing = λ e. refl;
     unasked = λ e. refl;
   }
-  stands (Linked ∷ h) a =
-      let b = stands h a.0 in
+  keeps (Linked ∷ h) a = record {
+    room = omega arith;
+    on_link = λ e. refl;
+    cut_off = λ e. absurd (cc);
+    nothing = λ e. absurd (cc);
+    unasked = λ e. absurd (cc);
+  }
+  keeps (Moment t ∷ h) a =
+      let b = keeps h a.0 in
       let vs = timelines script in
-      record {
-        begins = b.begins;
-        rounds = b.rounds;
-        clock_is = b.clock_is;
-        rest_is = refl;
-        teller_is = ap relinked b.teller_is ∙ fresh_is vs (deeds script.round start h) (count_taken h);
-        room = omega arith;
-        linked_is = refl;
-        on_link = λ e. refl;
-        cut_off = λ e. absurd (cc);
-        nothing = λ e. absurd (cc);
-        unasked = λ e. absurd (cc);
-      }
-  stands (Moment t ∷ h) a =
-      let b = stands h a.0 in
-      let vs = timelines script in
-      let s = driver script start h in
+      let past = deeds script.round start h in
       let change = Passing script.round (clock start h - start) (max (clock start h) t - start) in
-      let same : Passing s.round (s.clock - s.start) (max s.clock t - s.start) ≡ change = rw (b.begins, b.rounds, b.clock_is) refl in
       record {
-        begins = b.begins;
-        rounds = b.rounds;
-        clock_is = ap (λ c. max c t) b.clock_is;
-        rest_is = b.rest_is;
-        teller_is = ap (λ c. changed None c s.teller) same ∙ ap (changed None change) b.teller_is ∙ change_is vs (deeds script.round start h) (count_taken h) b.room None change;
-        room = change_room vs (deeds script.round start h) (count_taken h) b.room None change;
-        linked_is = b.linked_is;
-        on_link = λ e. b.on_link e ∙ sym (take-append-le (count_taken h) (told vs (deeds script.round start h)) (owed vs (Changes None change) (deeds script.round start h)) b.room);
-        cut_off = b.cut_off;
-        nothing = λ e. untold_change vs (deeds script.round start h) change (b.nothing e) (b.unasked e);
+        room = change_room vs past (count_taken h) b.room None change;
+        on_link = λ e. b.on_link e ∙ sym (take-append-le (count_taken h) (owes h) (owed vs (Changes None change) past) b.room);
+        cut_off = λ e. b.cut_off e ∙ sym (still_cut (owes (Moment t ∷ h)) (reported script start h) (is_linked h) e);
+        nothing = λ e. untold_change vs past change (b.nothing e) (b.unasked e);
         unasked = b.unasked;
       }
-  stands (Bytes piece ∷ h) a =
-      let b = stands h a.0 in
+  keeps (Bytes piece ∷ h) a =
+      let b = keeps h a.0 in
       let vs = timelines script in
-      let s = driver script start h in
       let ls = lines_after (rest (input h)) piece in
+      let linked : is_linked h ≡ true = heard_linked piece (driver script start h) a.1 in
       record {
-        begins = b.begins;
-        rounds = b.rounds;
-        clock_is = b.clock_is;
-        rest_is = ap (λ r. rest_after r piece) b.rest_is ∙ sym (rest-append (input h) piece);
-        teller_is = ap (λ r. heard_all (lines_after r piece) s.teller) b.rest_is ∙ ap (heard_all ls) b.teller_is ∙ lines_are vs ls (deeds script.round start h) (count_taken h) b.room;
         room = lines_room vs ls (deeds script.round start h) (count_taken h) b.room;
-        linked_is = b.linked_is;
         on_link = λ e. b.on_link e ∙ still_front vs ls (deeds script.round start h) (count_taken h) b.room;
-        cut_off = λ e. absurd (false≢true (sym e ∙ sym b.linked_is ∙ heard_linked piece s a.1));
-        nothing = λ e. absurd (false≢true (sym e ∙ sym b.linked_is ∙ heard_linked piece s a.1));
-        unasked = λ e. absurd (false≢true (sym e ∙ sym b.linked_is ∙ heard_linked piece s a.1));
+        cut_off = λ e. absurd (false≢true (sym e ∙ linked));
+        nothing = λ e. absurd (false≢true (sym e ∙ linked));
+        unasked = λ e. absurd (false≢true (sym e ∙ linked));
       }
-  stands (Lost k piece ∷ h) a =
-      let b = stands h a.0 in
-      let vs = timelines script in
-      let s = driver script start h in
+  keeps (Lost k piece ∷ h) a =
+      let b = keeps h a.0 in
       let ls = take k (lines_after (rest (input h)) piece) in
       record {
-        begins = b.begins;
-        rounds = b.rounds;
-        clock_is = b.clock_is;
-        rest_is = refl;
-        teller_is = ap relinked (ap (λ r. heard_all (take k (lines_after r piece)) s.teller) b.rest_is ∙ ap (heard_all ls) b.teller_is ∙ lines_are vs ls (deeds script.round start h) (count_taken h) b.room)
-            ∙ fresh_is vs (by_lines ls (deeds script.round start h)) (count_taken h);
         room = omega arith;
-        linked_is = refl;
         on_link = λ e. absurd (cc);
-        cut_off = λ e. b.on_link (sym b.linked_is ∙ heard_linked piece s a.1) ∙ still_front vs ls (deeds script.round start h) (count_taken h) b.room;
+        cut_off = λ e.
+            b.on_link (heard_linked piece (driver script start h) a.1)
+            ∙ still_front (timelines script) ls (deeds script.round start h) (count_taken h) b.room;
         nothing = λ e. refl;
         unasked = λ e. refl;
       }
-  stands (Took n ∷ h) a =
-      let b = stands h a.0 in
-      let vs = timelines script in
-      let s = driver script start h in
+  keeps (Took n ∷ h) a =
+      let b = keeps h a.0 in
       let m = count_taken h in
-      let past = deeds script.round start h in
-      let waited : n ≤ length s.teller.waits = taken_waits n s a.1 in
+      let waited : n ≤ length (drop m (owes h)) = taken_waits n (driver script start h) a.1 in
       record {
-        begins = b.begins;
-        rounds = b.rounds;
-        clock_is = b.clock_is;
-        rest_is = b.rest_is;
-        teller_is = ap (λ (t : Teller). record t { waits = drop n t.waits }) b.teller_is
-            ∙ ap (λ w. record { variables = map (seen past) vs; asked = has_asked past; waits = w }) (drop-drop n m (told vs past));
-        room = omega (arith, waited, ap (λ (t : Teller). length t.waits) b.teller_is, length-drop m (told vs past), b.room);
-        linked_is = b.linked_is;
-        on_link = λ e.
-            ap (λ r. r ++ take n s.teller.waits) (b.on_link e) ∙ ap (λ w. take m (told vs past) ++ take n w) (ap (λ (t : Teller). t.waits) b.teller_is)
-            ∙ sym (take-add m n (told vs past));
+        room = omega (arith, waited, length-drop m (owes h), b.room);
+        on_link = λ e. ap (λ r. r ++ take n (drop m (owes h))) (b.on_link e) ∙ sym (take-add m n (owes h));
         cut_off = λ e.
-            ap (λ w. received script start h ++ take n w) (ap (λ (t : Teller). t.waits) b.teller_is ∙ ap (drop m) (b.nothing e) ∙ drop_all m [] (omega arith))
-            ∙ ap (λ r. received script start h ++ r) (take_all n [] (omega arith)) ∙ append-nil (received script start h) ∙ b.cut_off e;
+            ap (λ w. received script start h ++ take n w) (ap (drop m) (b.nothing e) ∙ drop_all m [] (omega arith))
+            ∙ ap (λ r. received script start h ++ r) (take_all n [] (omega arith)) ∙ append-nil (received script start h) ∙ b.cut_off e
+            ∙ sym (still_cut (owes h) (reported script start h) (is_linked h) e);
         nothing = b.nothing;
         unasked = b.unasked;
       }
 
+  -- on a link, all that was reported is owed
+  reported_is : (h : List Call) → is_linked h ≡ true → reported script start h ≡ owes h
+  reported_is [] e = absurd (cc)
+  reported_is (Linked ∷ h) e = refl
+  reported_is (Lost k piece ∷ h) e = absurd (cc)
+  reported_is (call ∷ h) e = by (is_linked (call ∷ h)) e where
+    by : (b : Bool) → b ≡ true → cond b (owes (call ∷ h)) (reported script start h) ≡ owes (call ∷ h)
+    by true e = refl
+    by false e = absurd (cc)
+
   -- the bytes taken and those that wait
-  told_by_link : (h : List Call) → IsAccepted script start h → (b : Bool) → is_linked h ≡ b
-      → received script start h ++ waits_of (driver script start h) ≡ cond b (told (timelines script) (deeds script.round start h)) (left_by_cut (timelines script) script.round start h)
-  told_by_link h a true e =
-      let k = stands h a in
-      let owes = told (timelines script) (deeds script.round start h) in
-      ap (λ r. r ++ waits_of (driver script start h)) (k.on_link e) ∙ ap (λ w. take (count_taken h) owes ++ w) (ap (λ (t : Teller). t.waits) k.teller_is)
-      ∙ take-append-drop (count_taken h) owes
-  told_by_link h a false e =
-      let k = stands h a in
+  taken_and_waiting : (h : List Call) → IsAccepted script start h → (b : Bool) → is_linked h ≡ b
+      → received script start h ++ drop (count_taken h) (owes h) ≡ reported script start h
+  taken_and_waiting h a true e =
+      ap (λ r. r ++ drop (count_taken h) (owes h)) ((keeps h a).on_link e) ∙ take-append-drop (count_taken h) (owes h) ∙ sym (reported_is h e)
+  taken_and_waiting h a false e =
       let n = count_taken h in
-      ap (λ w. received script start h ++ w) (ap (λ (t : Teller). t.waits) k.teller_is ∙ ap (drop n) (k.nothing e) ∙ drop_all n [] (omega arith))
+      let k = keeps h a in
+      ap (λ w. received script start h ++ w) (ap (drop n) (k.nothing e) ∙ drop_all n [] (omega arith))
       ∙ append-nil (received script start h) ∙ k.cut_off e
 
+  -- a call that isn't refused makes one step
+  steps : (h : List Call) → IsAccepted script start h → (call : Call) → refusal call (driver script start h) ≡ None
+      → step call (driver script start h) ≡ driver script start (call ∷ h)
+  steps h a Linked accepted =
+      ap (λ t. record { start = start; clock = clock start h; round = script.round; linked = true; rest = rest []; teller = t })
+      (fresh_is (timelines script) (deeds script.round start h) (count_taken h))
+  steps h a (Moment t) accepted =
+      ap (λ s. record { start = start; clock = max (clock start h) t; round = script.round; linked = is_linked h; rest = rest (input h); teller = s })
+      (change_is (timelines script) (deeds script.round start h) (count_taken h) (keeps h a).room None (Passing script.round (clock start h - start) (max (clock start h) t - start)))
+  steps h a (Bytes piece) accepted =
+      let vs = timelines script in
+      let past = deeds script.round start h in
+      let ls = lines_after (rest (input h)) piece in
+      ap (λ r. record { start = start; clock = clock start h; round = script.round; linked = is_linked h; rest = r; teller = heard_all ls (told_by vs past (count_taken h)) })
+      (sym (rest-append (input h) piece))
+      ∙ ap (λ t. record { start = start; clock = clock start h; round = script.round; linked = is_linked h; rest = rest (input h ++ piece); teller = t })
+      (lines_are vs ls past (count_taken h) (keeps h a).room)
+  steps h a (Lost k piece) accepted =
+      let vs = timelines script in
+      let past = deeds script.round start h in
+      let ls = take k (lines_after (rest (input h)) piece) in
+      ap (λ t. record { start = start; clock = clock start h; round = script.round; linked = false; rest = rest []; teller = t })
+      (ap relinked (lines_are vs ls past (count_taken h) (keeps h a).room) ∙ fresh_is vs (by_lines ls past) (count_taken h))
+  steps h a (Took n) accepted =
+      let vs = timelines script in
+      let past = deeds script.round start h in
+      ap (λ w. record {
+        start = start;
+        clock = clock start h;
+        round = script.round;
+        linked = is_linked h;
+        rest = rest (input h);
+        teller = record { variables = map (seen past) vs; asked = has_asked past; waits = w };
+      })
+      (drop-drop n (count_taken h) (owes h))
+
 pub looks_back : LooksBack
-looks_back script start h a =
-    let k = stands script start h a in record {
-      accepted = a;
-      is_driver = refl;
-      clock_is = k.clock_is;
-      linked_is = k.linked_is;
-      rest_is = k.rest_is;
-      teller_is = k.teller_is;
-      told_is = told_by_link script start h a (is_linked h) refl;
-    }
+looks_back script start h a = taken_and_waiting script start h a (is_linked h) refl
+
+-- ---- where memory may run out
+
+-- more waits only if more is owed
+more_owed : (ts : List Timeline) (before after : List Deed) (n : ℕ) → n ≤ length (told ts before)
+    → IsTrue (tells_more (told_by ts before n) (told_by ts after n)) → IsTrue (owes_more ts before after)
+more_owed ts before after n room more = grind (arith, nat_tests, length-drop n (told ts before), length-drop n (told ts after))
+
+takes_memory : (ts : List Timeline) (past : List Deed) (n : ℕ) (line : LineText) → n ≤ length (told ts past) → IsTrue (may_take_memory line (told_by ts past n))
+    → IsTrue (with_backslash line || owes_more ts past (by_ask (asked_by line) past))
+takes_memory ts past n line room takes = by (with_backslash line) takes where
+  by : (b : Bool) → IsTrue (b || tells_more (told_by ts past n) (heard line (told_by ts past n))) → IsTrue (b || owes_more ts past (by_ask (asked_by line) past))
+  by true is = is
+  by false is =
+      more_owed ts past (by_ask (asked_by line) past) n room
+      (subst (λ t. IsTrue (tells_more (told_by ts past n) t)) (ask_is ts past n room (asked_by line)) is)
+
+stops_there : (ts : List Timeline) (past : List Deed) (n : ℕ) (found : Option LineText) → n ≤ length (told ts past)
+    → IsTrue (option_map_or (λ line. may_take_memory line (told_by ts past n)) found false)
+    → IsTrue (option_map_or (λ line. with_backslash line || owes_more ts past (by_ask (asked_by line) past)) found false)
+stops_there ts past n None room takes = takes
+stops_there ts past n (Some line) room takes = takes_memory ts past n line room takes
 
 -- ---- one call more
 
 module _ (script : Script) (start : ℕ) (h : List Call) (old : Content) (s : Stands script start h old) where
-  one_more : (call : Call) (new : Content) → refusal call old ≡ None → new ≡ step call old → Stands script start (call ∷ h) new
+  pub one_more : (call : Call) (new : Content) → refusal call old ≡ None → new ≡ step call old → Stands script start (call ∷ h) new
   one_more call new accepted moved =
-      let done : refusal call (driver script start h) ≡ None = subst (λ (c : Content). refusal call c ≡ None) s.is_driver accepted in
-      let same : new ≡ step call (driver script start h) = moved ∙ ap (step call) s.is_driver in
-      subst (Stands script start (call ∷ h)) (sym same) (looks_back script start (call ∷ h) (s.accepted, done))
+      let done : refusal call (driver script start h) ≡ None = subst (λ (c : Content). refusal call c ≡ None) s.1 accepted in
+      ((s.0, done), moved ∙ ap (step call) s.1 ∙ steps script start h s.0 call done)
 
-  pub linked_stands : (new : Content) → new ≡ step Linked old → Stands script start (Linked ∷ h) new
-  linked_stands new moved = one_more Linked new refl moved
-
-  pub moment_moves : (t : ℕ) (new : Content) → moment_refusal old ≡ None → new ≡ passed t old → Stands script start (Moment t ∷ h) new
-  moment_moves t new idle moved = one_more (Moment t) new idle moved
-
-  pub bytes_move : (piece : List ℕ) (new : Content) → bytes_refusal piece old ≡ None → new ≡ told_bytes piece old → Stands script start (Bytes piece ∷ h) new
-  bytes_move piece new idle moved = one_more (Bytes piece) new idle moved
-
-  pub bytes_cut : (k : ℕ) (piece : List ℕ) (new : Content) → bytes_refusal piece old ≡ None → new ≡ cut_behind k piece old → Stands script start (Lost k piece ∷ h) new
-  bytes_cut k piece new idle moved = one_more (Lost k piece) new idle moved
+  pub lost : (k : ℕ) (piece : List ℕ) → MayStop k piece old → MayRunOut script start h k piece
+  lost k piece stops =
+      let vs = timelines script in
+      let past = deeds script.round start h in
+      let n = count_taken h in
+      let ls = lines_after (rest (input h)) piece in
+      let room = (keeps script start h s.0).room in
+      let here : MayStop k piece (driver script start h) = subst (MayStop k piece) s.1 stops in
+      stops_there vs (by_lines (take k ls) past) n (slice_get ls k) (lines_room vs (take k ls) past n room)
+      (subst (λ t. IsTrue (option_map_or (λ line. may_take_memory line t) (slice_get ls k) false)) (lines_are vs (take k ls) past n room) here)

@@ -9,7 +9,7 @@ use Rattle.std.proofs.lemmas.List.{length-map}
 use Rattle.std.proofs.lemmas.List.Elements.{All-nil, All-cons, recursion_from_All}
 use Rattle.std.proofs.lemmas.Bool.{and_parts, cond_both}
 use Rattle.nut_words.specs.declared.words.WordFault.{WordFault}
-use Rattle.nut_words.specs.Lines.{LineText}
+use Rattle.nut_words.specs.Lines.{LineText, lines_after, rest}
 use Rattle.nut_words.specs.Name.{is_name_byte}
 use Rattle.nut_words.specs.Reader.{spelled}
 use Rattle.nut_words.specs.Spelling.{is_comment, is_printing}
@@ -30,12 +30,12 @@ use Rattle.nut_dummy.specs.declared.item.ScriptKind.TheVariants.{Dev, Seq}
 use Rattle.nut_dummy.specs.declared.writable.Writable.{Writable}
 use Rattle.nut_dummy.specs.declared.limits.TheConstants.{SCRIPT_LINE_MAX, SCRIPT_VARIABLES_MAX}
 use Rattle.nut_dummy.specs.Command.{command_of, command_variables, variable_set, value_set}
-use Rattle.nut_dummy.specs.Dummy.{all_declared, beginning, begun, brought, declared}
+use Rattle.nut_dummy.specs.Dummy.{all_declared, declared, timelines}
 use Rattle.nut_dummy.specs.Due.{is_due, latest, newest, newest_up_to}
-use Rattle.nut_dummy.specs.History.{Call, Linked, Moment, Bytes, Lost, Took, driver}
+use Rattle.nut_dummy.specs.History.{Deed, Fresh, Changes, Fails, Dumps, Call, Linked, Moment, Bytes, Lost, Took, by_ask, by_lines, clock, deeds, input, seen, value}
 use Rattle.nut_dummy.specs.Item.{Item, Timer, Setting, is_skipped, is_value, item, parted, setting, timed, timer, timer_in, trimmed}
 use Rattle.nut_dummy.specs.Script.{Script, Step, Timeline, at_line, extended, has_room, no_script, read_lines, read_script, steps_of, taken_in, timeline, whole, with_line, with_step}
-use Rattle.nut_dummy.specs.Teller.{Change, Passing, Assigning, Doing, Teller, Variable, answered, asked_by, changed, commanded, dumped, followed, heard, heard_all, is_assigned, relinked, untold, value_after}
+use Rattle.nut_dummy.specs.Teller.{Change, Passing, Assigning, Doing, Variable, asked_by, is_assigned, value_after}
 use Rattle.nut_dummy.specs.Writable.{attributes, fits, may_be, writable_of}
 
 -- ---- tests
@@ -253,76 +253,86 @@ after_valued (Assigning name value) own steps before proper h k =
     (λ is. may_be_valued own value (and_parts (bytes_eq own name && is_some before) (may_be own value) is).1) (λ _. k)
 after_valued (Doing name value) own steps before proper h k = cond_both (bytes_eq own name) (Some value) before IsValued (λ _. proper) (λ _. k)
 
--- a function on variables that changes neither names nor soundness
-module _ (f : Variable → Variable) (same_name : (v : Variable) → (f v).name ≡ v.name) (same : (v : Variable) → IsSound v → IsSound (f v)) where
-  names_kept : (variables : List Variable) → map (λ v. v.name) (map f variables) ≡ map (λ v. v.name) variables
+-- two views of variables, the second of which has the names of the first and is sound where the first is
+module _ {X : Type 0} (a b : X → Variable) (same_name : (x : X) → (b x).name ≡ (a x).name) (same : (x : X) → IsSound (a x) → IsSound (b x)) where
+  names_kept : (xs : List X) → map (λ v. v.name) (map b xs) ≡ map (λ v. v.name) (map a xs)
   names_kept [] = refl
-  names_kept (v ∷ variables) = (λ i. same_name v i ∷ names_kept variables i)
+  names_kept (x ∷ xs) = (λ i. same_name x i ∷ names_kept xs i)
 
-  each_kept : (variables : List Variable) → AllByRecursion IsSound variables → AllByRecursion IsSound (map f variables)
+  each_kept : (xs : List X) → AllByRecursion IsSound (map a xs) → AllByRecursion IsSound (map b xs)
   each_kept [] h = tt
-  each_kept (v ∷ variables) h = (same v h.0, each_kept variables h.1)
+  each_kept (x ∷ xs) h = (same x h.0, each_kept xs h.1)
 
-  kept : (variables : List Variable) → AreSound variables → AreSound (map f variables)
-  kept variables h = record {
-    ascending = subst IsAscending (sym (names_kept variables)) h.ascending;
-    few = omega (arith, h.few, length-map variables f);
-    each = each_kept variables h.each;
+  kept : (xs : List X) → AreSound (map a xs) → AreSound (map b xs)
+  kept xs h = record {
+    ascending = subst IsAscending (sym (names_kept xs)) h.ascending;
+    few = omega (arith, h.few, length-map xs a, length-map xs b);
+    each = each_kept xs h.each;
   }
-
-changed_sound : (number : Option ℕ) (change : Change) (t : Teller) → IsProper change → AreSound t.variables → AreSound (changed number change t).variables
-changed_sound number change t proper h =
-    kept (followed t.asked change) (λ v. refl) (λ v s. (s.0, s.1, after_valued change v.name v.steps v.value proper s.1 s.2)) t.variables h
 
 proper_command : (c : KnownCommand) → is_value (value_set c) ≡ true
 proper_command BeeperDisable = refl
 proper_command _ = refl
 
-commanded_sound : (number : Option ℕ) (command : Option KnownCommand) (t : Teller) → AreSound t.variables → AreSound (commanded number command t).variables
-commanded_sound number None t h = h
-commanded_sound number (Some c) t h = changed_sound number (Doing (variable_set c) (value_set c)) t (proper_command c) h
+-- ---- what deeds leave
 
-pub answered_sound : (ask : Option DriverAsk) (t : Teller) → AreSound t.variables → AreSound (answered ask t).variables
-answered_sound (Some asks.DumpAll) t h = kept dumped (λ v. refl) (λ v s. s) t.variables h
-answered_sound (Some (asks.Set name value number)) t h = changed_sound number (Assigning name value) t tt h
-answered_sound (Some (asks.InstCmd name parameter number)) t h = commanded_sound number (command_of name) t h
-answered_sound _ t h = h
+module _ (ts : List Timeline) where
+  abbrev StaySound : List Deed → Type 0
+  StaySound past = AreSound (map (seen past) ts)
 
-pub heard_all_sound : (lines : List LineText) (t : Teller) → AreSound t.variables → AreSound (heard_all lines t).variables
-heard_all_sound [] t h = h
-heard_all_sound (line ∷ lines) t h = heard_all_sound lines (heard line t) (answered_sound (asked_by line) t h)
+  changes_sound : (number : Option ℕ) (change : Change) (past : List Deed) → IsProper change → StaySound past → StaySound (Changes number change ∷ past)
+  changes_sound number change past proper h =
+      kept (seen past) (seen (Changes number change ∷ past)) (λ t. refl)
+      (λ t s. (s.0, s.1, after_valued change t.name t.steps (value t past) proper s.1 s.2)) ts h
 
-relinked_sound : (t : Teller) → AreSound t.variables → AreSound (relinked t).variables
-relinked_sound t h = kept untold (λ v. refl) (λ v s. s) t.variables h
+  fresh_sound : (past : List Deed) → StaySound past → StaySound (Fresh ∷ past)
+  fresh_sound past h = kept (seen past) (seen (Fresh ∷ past)) (λ t. refl) (λ t s. s) ts h
 
-begun_each : (variables : List Timeline) → AllByRecursion IsGood variables → AllByRecursion IsSound (map begun variables)
+  command_sound : (number : Option ℕ) (command : Option KnownCommand) (past : List Deed) → StaySound past
+      → StaySound (option_map_or (λ c. Changes number (Doing (variable_set c) (value_set c))) command (Fails number) ∷ past)
+  command_sound number None past h = h
+  command_sound number (Some c) past h = changes_sound number (Doing (variable_set c) (value_set c)) past (proper_command c) h
+
+  ask_sound : (ask : Option DriverAsk) (past : List Deed) → StaySound past → StaySound (by_ask ask past)
+  ask_sound (Some asks.DumpAll) past h = kept (seen past) (seen (Dumps ∷ past)) (λ t. refl) (λ t s. s) ts h
+  ask_sound (Some (asks.Set name text number)) past h = changes_sound number (Assigning name text) past tt h
+  ask_sound (Some (asks.InstCmd name parameter number)) past h = command_sound number (command_of name) past h
+  ask_sound _ past h = h
+
+  pub lines_sound : (lines : List LineText) (past : List Deed) → StaySound past → StaySound (by_lines lines past)
+  lines_sound [] past h = h
+  lines_sound (line ∷ lines) past h = lines_sound lines (by_ask (asked_by line) past) (ask_sound (asked_by line) past h)
+
+begun_each : (variables : List Timeline) → AllByRecursion IsGood variables → AllByRecursion IsSound (map (seen []) variables)
 begun_each [] h = tt
 begun_each (t ∷ variables) h = ((h.0.0, h.0.1, newest_valued _ t.steps h.0.1), begun_each variables h.1)
 
-begun_names : (variables : List Timeline) → map (λ v. v.name) (map begun variables) ≡ map (λ t. t.name) variables
+begun_names : (variables : List Timeline) → map (λ v. v.name) (map (seen []) variables) ≡ map (λ t. t.name) variables
 begun_names [] = refl
 begun_names (t ∷ variables) = ap (λ names. t.name ∷ names) (begun_names variables)
 
-beginning_sound : (script : Script) (start : ℕ) → IsGoodScript script → AreSound (beginning script start).teller.variables
-beginning_sound script start h =
+beginning_sound : (script : Script) → IsGoodScript script → StaySound (timelines script) []
+beginning_sound script h =
     let all = all_declared_good command_variables script.variables (refl, (refl, (refl, tt))) h.good in
-    let variables = all_declared command_variables script.variables in
+    let variables = timelines script in
     record {
       ascending = subst IsAscending (sym (begun_names variables)) all.0.ascending;
-      few = omega (arith, all.1, h.few, length-map variables begun);
+      few = omega (arith, all.1, h.few, length-map variables (seen []));
       each = begun_each variables (recursion_from_All IsGood variables all.0.each);
     }
 
 -- Whatever calls are made, the variables of a driver are sound.
-pub driver_sound : (kind : ScriptKind) (text : List ℕ) (script : Script) (start : ℕ) (h : List Call) → read_script kind text ≡ Ok script → AreSound (driver script start h).teller.variables
-driver_sound kind text script start [] is = beginning_sound script start (script_good kind text script is)
-driver_sound kind text script start (Linked ∷ h) is = relinked_sound (driver script start h).teller (driver_sound kind text script start h is)
-driver_sound kind text script start (Moment t ∷ h) is =
-    let s = driver script start h in
-    changed_sound None (Passing s.round (s.clock - s.start) (max s.clock t - s.start)) s.teller tt (driver_sound kind text script start h is)
-driver_sound kind text script start (Bytes piece ∷ h) is =
-    heard_all_sound (brought piece (driver script start h)) (driver script start h).teller (driver_sound kind text script start h is)
-driver_sound kind text script start (Lost k piece ∷ h) is =
-    relinked_sound (heard_all (take k (brought piece (driver script start h))) (driver script start h).teller)
-    (heard_all_sound (take k (brought piece (driver script start h))) (driver script start h).teller (driver_sound kind text script start h is))
-driver_sound kind text script start (Took n ∷ h) is = driver_sound kind text script start h is
+pub deeds_sound : (kind : ScriptKind) (text : List ℕ) (script : Script) (start : ℕ) (h : List Call) → read_script kind text ≡ Ok script
+    → AreSound (map (seen (deeds script.round start h)) (timelines script))
+deeds_sound kind text script start [] is = beginning_sound script (script_good kind text script is)
+deeds_sound kind text script start (Linked ∷ h) is = fresh_sound (timelines script) (deeds script.round start h) (deeds_sound kind text script start h is)
+deeds_sound kind text script start (Moment t ∷ h) is =
+    changes_sound (timelines script) None (Passing script.round (clock start h - start) (max (clock start h) t - start)) (deeds script.round start h) tt
+    (deeds_sound kind text script start h is)
+deeds_sound kind text script start (Bytes piece ∷ h) is =
+    lines_sound (timelines script) (lines_after (rest (input h)) piece) (deeds script.round start h) (deeds_sound kind text script start h is)
+deeds_sound kind text script start (Lost k piece ∷ h) is =
+    let ls = take k (lines_after (rest (input h)) piece) in
+    fresh_sound (timelines script) (by_lines ls (deeds script.round start h))
+    (lines_sound (timelines script) ls (deeds script.round start h) (deeds_sound kind text script start h is))
+deeds_sound kind text script start (Took n ∷ h) is = deeds_sound kind text script start h is

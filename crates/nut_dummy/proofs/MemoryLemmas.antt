@@ -10,7 +10,8 @@ use Rattle.nut_words.specs.Hearing.{StopsAt}
 use Rattle.nut_words.specs.Lines.{LineText}
 use Rattle.nut_proto.specs.Lines.{line}
 use Rattle.nut_dummy.specs.Telling.{text, limits, variable_messages, closing_messages}
-use Rattle.nut_dummy.specs.Teller.{Change, Teller, Variable, dump, heard, heard_all, is_told, lines_of, may_take_memory, says, value_after}
+use Rattle.nut_dummy.specs.Teller.{Change, Teller, Variable, dump, is_told, lines_of, says, value_after}
+use Rattle.nut_dummy.specs.inside.Machine.{heard, heard_all, may_take_memory}
 use Rattle.nut_dummy.proofs.TextLemmas.{text_value, with_limits}
 
 -- The lines of a value are not empty.

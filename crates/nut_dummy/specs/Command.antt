@@ -4,37 +4,25 @@ use Rattle.std.specs.Str.{bytes_eq}
 use Rattle.nut_dummy.specs.declared.command.KnownCommand.{KnownCommand}
 use Rattle.nut_dummy.specs.declared.command.KnownCommand.TheVariants.{BeeperDisable, BeeperEnable, LoadOff, LoadOn, BatteryTestStart, BatteryTestStop, FailureStart, FailureStop}
 
+-- the name of a command, the variable that it sets, and the value
+abbrev pub row : KnownCommand → List ℕ × List ℕ × List ℕ
+row BeeperDisable = (codes "beeper.disable", codes "ups.beeper.status", codes "disabled")
+row BeeperEnable = (codes "beeper.enable", codes "ups.beeper.status", codes "enabled")
+row LoadOff = (codes "load.off", codes "ups.status", codes "OFF")
+row LoadOn = (codes "load.on", codes "ups.status", codes "OL")
+row BatteryTestStart = (codes "test.battery.start", codes "ups.test.result", codes "In progress")
+row BatteryTestStop = (codes "test.battery.stop", codes "ups.test.result", codes "Aborted")
+row FailureStart = (codes "test.failure.start", codes "ups.status", codes "OB")
+row FailureStop = (codes "test.failure.stop", codes "ups.status", codes "OL")
+
 abbrev pub command_name : KnownCommand → List ℕ
-command_name BeeperDisable = codes "beeper.disable"
-command_name BeeperEnable = codes "beeper.enable"
-command_name LoadOff = codes "load.off"
-command_name LoadOn = codes "load.on"
-command_name BatteryTestStart = codes "test.battery.start"
-command_name BatteryTestStop = codes "test.battery.stop"
-command_name FailureStart = codes "test.failure.start"
-command_name FailureStop = codes "test.failure.stop"
+command_name c = (row c).0
 
--- the variable that a command sets
 abbrev pub variable_set : KnownCommand → List ℕ
-variable_set BeeperDisable = codes "ups.beeper.status"
-variable_set BeeperEnable = codes "ups.beeper.status"
-variable_set LoadOff = codes "ups.status"
-variable_set LoadOn = codes "ups.status"
-variable_set BatteryTestStart = codes "ups.test.result"
-variable_set BatteryTestStop = codes "ups.test.result"
-variable_set FailureStart = codes "ups.status"
-variable_set FailureStop = codes "ups.status"
+variable_set c = (row c).1
 
--- the value that a command sets
 abbrev pub value_set : KnownCommand → List ℕ
-value_set BeeperDisable = codes "disabled"
-value_set BeeperEnable = codes "enabled"
-value_set LoadOff = codes "OFF"
-value_set LoadOn = codes "OL"
-value_set BatteryTestStart = codes "In progress"
-value_set BatteryTestStop = codes "Aborted"
-value_set FailureStart = codes "OB"
-value_set FailureStop = codes "OL"
+value_set c = (row c).2
 
 -- all commands, ascending by name
 abbrev pub all_commands : List KnownCommand

@@ -1,5 +1,6 @@
 -- How a server hears the lines that a dummy driver sends.
-use Rattle.std.specs.Prelude.{◌≡◌, ℕ, ◌==◌, Bool, List, [], ◌∷◌, ◌++◌, Option, Some, codes, decimal, if◌then◌else◌, map}
+use Rattle.std.specs.Prelude.{◌≡◌, ℕ, ◌==◌, Bool, List, [], ◌∷◌, ◌++◌, Option, Some, codes, if◌then◌else◌, map}
+use Rattle.nut_words.specs.Bytes.{line_feed}
 use Rattle.nut_words.specs.Quoting.{IsPrintable}
 use Rattle.nut_proto.specs.Lines.{message}
 use Rattle.nut_proto.specs.Tracking.{IsTrackingNumber}
@@ -21,10 +22,6 @@ attribute_changes name a =
     ∷ ((if a.aux == 0 then [] else set_aux name (Some a.aux) ∷ [])
     ++ (map (λ value. add_enum name value) a.enums ++ map (λ range. add_range name (Some range)) a.ranges))
 
--- the line that says how the request with this number ended
-abbrev pub ended_line : ℕ → Bool → List ℕ
-ended_line number done = codes "TRACKING " ++ (decimal number ++ (if done then codes " 0" else codes " 1"))
-
 -- The line of a value is heard as that value; the lines that limit a variable as exactly its attributes; the end of a dump
 -- as all commands, current data and a dump that is done; how a tracked request ended as 0 or 1 with its number; and the
 -- answer to PING as such.
@@ -34,6 +31,6 @@ ToldLinesAreHeard =
     × ((w : Writable) → map heard_in (limits_of w) ≡ map (λ change. Some change) (attribute_changes (name_of w) (attributes w)))
     × (map heard_in closing_messages ≡ map (λ change. Some change) (map (λ c. add_command (command_name c)) all_commands ++ data_ok ∷ dump_done ∷ []))
     × ((number : ℕ) (done : Bool) → IsTrackingNumber number →
-    (ended (Some number) done ≡ ended_line number done ++ 10 ∷ [])
-    × (heard (ended_line number done) ≡ Some (tracking (Some number) (Some (if done then 0 else 1)))))
+    (line : List ℕ) × (ended (Some number) done ≡ line ++ line_feed ∷ [])
+    × (heard line ≡ Some (tracking (Some number) (Some (if done then 0 else 1)))))
     × (heard (codes "PONG") ≡ Some pong)

@@ -1,18 +1,20 @@
--- The inputs of a dummy driver, and what looking back over it says: the values, and the lines that are owed to a link.
+-- The inputs of a dummy driver, and what looking back over them says: the values, and the lines that are owed to a link.
 -- Histories and lists of deeds have the newest first.
-use Rattle.std.specs.Prelude.{◌≡◌, ℕ, ◌+◌, ◌-◌, ◌||◌, ◌&&◌, Bool, true, false, List, [], ◌∷◌, ◌++◌, Option, Some, None, Result, Ok, Err, if◌then◌else◌, codes, drop, is_some, map, max, take}
+use Rattle.std.specs.Prelude.{◌≡◌, ℕ, ◌+◌, ◌-◌, ◌||◌, ◌&&◌, Bool, true, false, not, IsTrue, List, [], ◌∷◌, ◌++◌, Option, Some, None, Result, Ok, Err, if◌then◌else◌, codes, drop, is_some, length, map, max, take, nat_lt, slice_get}
 use Rattle.std.specs.List.{flat_map}
+use Rattle.std.specs.Option.{option_map_or}
 use Rattle.nut_words.specs.Lines.{LineText, lines_after, rest}
+use Rattle.nut_words.specs.Reader.{with_backslash}
+use Rattle.nut_words.specs.declared.limits.TheConstants.{PIECE_MAX}
 use Rattle.nut_proto.specs.declared.driver_ask.DriverAsk.{DriverAsk}
 use Rattle.nut_proto.specs.declared.driver_ask.DriverAsk.TheVariants as asks
 use Rattle.nut_dummy.specs.declared.dummy.DummyFault.{DummyFault}
 use Rattle.nut_dummy.specs.declared.dummy.DummyFault.TheVariants as faults
-use Rattle.nut_dummy.specs.declared.command.KnownCommand.{KnownCommand}
-use Rattle.nut_dummy.specs.Command.{variable_set, value_set, command_of, command_variables}
+use Rattle.nut_dummy.specs.Command.{variable_set, value_set, command_of}
 use Rattle.nut_dummy.specs.Due.{at_start}
+use Rattle.nut_dummy.specs.Dummy.{Content, timelines}
 use Rattle.nut_dummy.specs.Script.{Script, Timeline}
 use Rattle.nut_dummy.specs.Teller.{Variable, Teller, Change, Passing, Assigning, Doing, value_after, is_told, is_done, says, ended, dump, asked_by}
-use Rattle.nut_dummy.specs.Dummy.{Content, all_declared, beginning, linked, passed, told_bytes, cut_behind, taken, waits_of, moment_refusal, bytes_refusal, took_refusal}
 
 -- ---- deeds
 
@@ -68,17 +70,14 @@ told ts (deed ∷ past) = told ts past ++ owed ts deed past
 
 -- ---- what calls do
 
--- the deeds after one that was asked
-abbrev pub by_command : Option ℕ → Option KnownCommand → List Deed → List Deed
-by_command number None past = Fails number ∷ past
-by_command number (Some c) past = Changes number (Doing (variable_set c) (value_set c)) ∷ past
-
+-- The deeds after one that was asked. A command that the driver knows sets its variable, whatever its parameter.
 abbrev pub by_ask : Option DriverAsk → List Deed → List Deed
 by_ask None past = past
 by_ask (Some asks.Ping) past = Pongs ∷ past
 by_ask (Some asks.DumpAll) past = Dumps ∷ past
 by_ask (Some (asks.Set name text number)) past = Changes number (Assigning name text) ∷ past
-by_ask (Some (asks.InstCmd name parameter number)) past = by_command number (command_of name) past
+by_ask (Some (asks.InstCmd name parameter number)) past =
+    option_map_or (λ c. Changes number (Doing (variable_set c) (value_set c))) (command_of name) (Fails number) ∷ past
 
 abbrev pub by_lines : List LineText → List Deed → List Deed
 by_lines [] past = past
@@ -123,38 +122,6 @@ deeds round start (Bytes piece ∷ h) = by_lines (lines_after (rest (input h)) p
 deeds round start (Lost k piece ∷ h) = Fresh ∷ by_lines (take k (lines_after (rest (input h)) piece)) (deeds round start h)
 deeds round start (Took n ∷ h) = deeds round start h
 
--- ---- the driver after a history
-
-abbrev pub step : Call → Content → Content
-step Linked s = linked s
-step (Moment t) s = passed t s
-step (Bytes piece) s = told_bytes piece s
-step (Lost k piece) s = cut_behind k piece s
-step (Took n) s = taken n s
-
-abbrev pub driver : Script → ℕ → List Call → Content
-driver script start [] = beginning script start
-driver script start (call ∷ h) = step call (driver script start h)
-
--- the fault with which a call is refused, if it is; a lack of memory is no refusal
-abbrev pub refusal : Call → Content → Option DummyFault
-refusal Linked s = None
-refusal (Moment t) s = moment_refusal s
-refusal (Bytes piece) s = bytes_refusal piece s
-refusal (Lost k piece) s = bytes_refusal piece s
-refusal (Took n) s = took_refusal n s
-
--- no call of the history was refused
-abbrev pub IsAccepted : Script → ℕ → List Call → Type 0
-IsAccepted script start [] = Unit {0}
-IsAccepted script start (call ∷ h) = IsAccepted script start h × (refusal call (driver script start h) ≡ None)
-
--- what a driver holds and reports, by looking back over deeds, after n bytes were taken
-abbrev pub told_by : List Timeline → List Deed → ℕ → Teller
-told_by ts past n = record { variables = map (seen past) ts; asked = has_asked past; waits = drop n (told ts past) }
-
--- ---- what was reported and accepted
-
 -- whether there is a link
 abbrev pub is_linked : List Call → Bool
 is_linked [] = false
@@ -162,48 +129,99 @@ is_linked (Linked ∷ h) = true
 is_linked (Lost k piece ∷ h) = false
 is_linked (call ∷ h) = is_linked h
 
--- What a cut left of the bytes owed to the link: those that were taken.
-abbrev pub left_by_cut : List Timeline → ℕ → ℕ → List Call → List ℕ
-left_by_cut ts round start [] = []
-left_by_cut ts round start (Linked ∷ h) = []
-left_by_cut ts round start (Lost k piece ∷ h) =
-    take (count_taken h) (told ts (by_lines (take k (lines_after (rest (input h)) piece)) (deeds round start h)))
-left_by_cut ts round start (call ∷ h) = left_by_cut ts round start h
+-- ---- the driver after a history
 
--- The bytes reported on the last link: those owed to it; after a cut, those of them that were accepted.
-abbrev pub told_on_link : List Timeline → ℕ → ℕ → List Call → List ℕ
-told_on_link ts round start h = if is_linked h then told ts (deeds round start h) else left_by_cut ts round start h
+-- what a driver holds and reports, by looking back over deeds, after n bytes were taken
+abbrev pub told_by : List Timeline → List Deed → ℕ → Teller
+told_by ts past n = record { variables = map (seen past) ts; asked = has_asked past; waits = drop n (told ts past) }
+
+-- The driver after a history. The bytes that wait are those owed to the link without those taken.
+abbrev pub driver : Script → ℕ → List Call → Content
+driver script start h = record {
+  start = start;
+  clock = clock start h;
+  round = script.round;
+  linked = is_linked h;
+  rest = rest (input h);
+  teller = told_by (timelines script) (deeds script.round start h) (count_taken h);
+}
+
+-- ---- what is refused, in the order of the tests
+
+abbrev pub bytes_refusal : List ℕ → Content → Option DummyFault
+bytes_refusal piece s =
+    if not s.linked then Some faults.NotLinked else
+    if nat_lt 0 (length s.teller.waits) then Some faults.Busy else
+    if nat_lt PIECE_MAX (length piece) then Some faults.PieceTooLong else None
+
+-- The fault of the first test that refuses a call, if one does. A lack of memory is no refusal.
+abbrev pub refusal : Call → Content → Option DummyFault
+refusal Linked s = None
+refusal (Moment t) s = if nat_lt 0 (length s.teller.waits) then Some faults.Busy else None
+refusal (Bytes piece) s = bytes_refusal piece s
+refusal (Lost k piece) s = bytes_refusal piece s
+refusal (Took n) s = if nat_lt (length s.teller.waits) n then Some faults.TooMuchTaken else None
+
+-- no call of the history was refused
+abbrev pub IsAccepted : Script → ℕ → List Call → Type 0
+IsAccepted script start [] = Unit {0}
+IsAccepted script start (call ∷ h) = IsAccepted script start h × (refusal call (driver script start h) ≡ None)
+
+-- This history of accepted calls led to the driver.
+abbrev pub Stands : Script → ℕ → List Call → Content → Type 0
+Stands script start h s = IsAccepted script start h × (s ≡ driver script start h)
+
+-- ---- what a call leads to
+
+-- whether more is owed after deeds than before them
+abbrev pub owes_more : List Timeline → List Deed → List Deed → Bool
+owes_more ts before after = nat_lt (length (told ts before)) (length (told ts after))
+
+-- The line with the number k, counted from 0, of those that a piece completes may take memory, behind the lines before it:
+-- it holds a backslash, or something is reported for it.
+abbrev pub MayRunOut : Script → ℕ → List Call → ℕ → List ℕ → Type 0
+MayRunOut script start h k piece =
+    let lines : List LineText = lines_after (rest (input h)) piece in
+    let past : List Deed = by_lines (take k lines) (deeds script.round start h) in
+    let takes : LineText → Bool = λ line. with_backslash line || owes_more (timelines script) past (by_ask (asked_by line) past) in
+    IsTrue (option_map_or takes (slice_get lines k) false)
+
+-- Memory runs out only at a moment for which something is reported, and then nothing changes; or at such a line of a piece,
+-- and then the lines before it have taken effect, and the link is cut.
+abbrev pub Lacks : Script → ℕ → List Call → Call → ℕ → Content → Type 0
+Lacks script start h (Moment t) k new =
+    (k ≡ 0) × (refusal (Moment t) (driver script start h) ≡ None)
+    × IsTrue (owes_more (timelines script) (deeds script.round start h) (deeds script.round start (Moment t ∷ h)))
+    × Stands script start h new
+Lacks script start h (Bytes piece) k new = MayRunOut script start h k piece × Stands script start (Lost k piece ∷ h) new
+Lacks script start h call k new = ⊥
+
+-- What a call leads to after this history: it enters the history, or a fault names the first test that refuses it, and
+-- nothing changes, or memory runs out.
+abbrev pub LeadsTo : {U : Type 0} → Script → ℕ → List Call → Call → Content → Result U DummyFault → Type 0
+LeadsTo script start h call new (Ok u) = Stands script start (call ∷ h) new
+LeadsTo script start h call new (Err (faults.Memory k)) = Lacks script start h call k new
+LeadsTo script start h call new (Err fault) = (refusal call (driver script start h) ≡ Some fault) × Stands script start h new
+
+-- ---- what was reported and taken
+
+-- The bytes reported on the last link: those owed to it; after a cut, those of them that were taken.
+abbrev pub reported : Script → ℕ → List Call → List ℕ
+reported script start [] = []
+reported script start (Lost k piece ∷ h) =
+    take (count_taken h) (told (timelines script) (by_lines (take k (lines_after (rest (input h)) piece)) (deeds script.round start h)))
+reported script start (call ∷ h) =
+    if is_linked (call ∷ h) then told (timelines script) (deeds script.round start (call ∷ h)) else reported script start h
 
 -- The bytes that the server took on the last link: at each call the first of those that waited.
 abbrev pub received : Script → ℕ → List Call → List ℕ
 received script start [] = []
 received script start (Linked ∷ h) = []
-received script start (Took n ∷ h) = received script start h ++ take n (waits_of (driver script start h))
+received script start (Took n ∷ h) = received script start h ++ take n (driver script start h).teller.waits
 received script start (call ∷ h) = received script start h
 
--- ---- after a history of accepted calls
-
--- the variables that the script names, and those that commands set
-abbrev pub timelines : Script → List Timeline
-timelines script = all_declared command_variables script.variables
-
--- This history of accepted calls led to the driver. Its values are those that looking back gives. The bytes that wait
--- are those owed to the link without those taken. The bytes taken, followed by those that wait, are the bytes reported.
-pub record Stands (script : Script) (start : ℕ) (h : List Call) (s : Content) : Type 0 where
-  pub accepted : IsAccepted script start h
-  pub is_driver : s ≡ driver script start h
-  pub clock_is : s.clock ≡ clock start h
-  pub linked_is : s.linked ≡ is_linked h
-  pub rest_is : s.rest ≡ rest (input h)
-  pub teller_is : s.teller ≡ told_by (timelines script) (deeds script.round start h) (count_taken h)
-  pub told_is : received script start h ++ waits_of s ≡ told_on_link (timelines script) script.round start h
-
--- This holds after every history of accepted calls.
+-- After every history of accepted calls, the bytes taken, followed by those that wait, are the bytes reported.
 abbrev pub LooksBack : Type 0
-LooksBack = (script : Script) (start : ℕ) (h : List Call) → IsAccepted script start h → Stands script start h (driver script start h)
-
--- If memory ran out at a piece, the lines before and the cut enter the history. A refused piece doesn't.
-abbrev pub BytesStand : {U : Type 0} → List ℕ → Script → ℕ → List Call → Content → Result U DummyFault → Type 0
-BytesStand piece script start h s (Ok u) = Stands script start (Bytes piece ∷ h) s
-BytesStand piece script start h s (Err (faults.Memory k)) = Stands script start (Lost k piece ∷ h) s
-BytesStand piece script start h s (Err fault) = Stands script start h s
+LooksBack =
+    (script : Script) (start : ℕ) (h : List Call) → IsAccepted script start h →
+    received script start h ++ (driver script start h).teller.waits ≡ reported script start h

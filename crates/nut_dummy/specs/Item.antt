@@ -58,10 +58,7 @@ timer kind (Some seconds) = if nat_lt 0 seconds && nat_le seconds TIMER_MAX then
 -- what a line without a colon says: a timer, if its words are `TIMER` and one more
 abbrev pub timed : ScriptKind → Result (List (List ℕ)) WordFault → Result Item ScriptFaultKind
 timed kind (Ok (first ∷ second ∷ [])) = if bytes_eq first (codes "TIMER") then timer kind (natural second) else Err BadLine
-timed kind (Ok []) = Err BadLine
-timed kind (Ok (first ∷ [])) = Err BadLine
-timed kind (Ok (first ∷ second ∷ third ∷ more)) = Err BadLine
-timed kind (Err fault) = Err BadLine
+timed kind words = Err BadLine
 
 -- the tests of a name and of a value, in order
 abbrev pub setting : List ℕ → List ℕ → Result Item ScriptFaultKind

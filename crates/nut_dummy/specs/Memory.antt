@@ -1,12 +1,12 @@
 -- At which lines memory may run out while a script is read.
-use Rattle.std.specs.Prelude.{◌≡◌, ◌⊎◌, ◌==◌, ℕ, ◌+◌, ◌≤◌, Bool, false, List, ◌∷◌, ◌++◌, length, IsTrue, None, Result, Ok, Err}
+use Rattle.std.specs.Prelude.{◌≡◌, ◌⊎◌, ◌==◌, ℕ, ◌+◌, ◌≤◌, Bool, false, List, ◌∷◌, ◌++◌, length, IsTrue, None, Result, Ok}
 use Rattle.std.specs.List.{position}
 use Rattle.nut_words.specs.Lines.{parts}
 use Rattle.nut_words.specs.Reader.{has_backslash}
 use Rattle.nut_dummy.specs.declared.fault.ScriptFaultKind.{ScriptFaultKind}
 use Rattle.nut_dummy.specs.declared.item.ScriptKind.{ScriptKind}
 use Rattle.nut_dummy.specs.declared.limits.TheConstants.{SCRIPT_LINE_MAX}
-use Rattle.nut_dummy.specs.Item.{Item, Timer, Setting, is_skipped, item}
+use Rattle.nut_dummy.specs.Item.{Item, Setting, is_skipped, item}
 use Rattle.nut_dummy.specs.Script.{Script, has_room, no_script, read_lines}
 
 -- Splitting a line into words may allocate only if the line isn't too long, and has a backslash and no colon.
@@ -16,8 +16,7 @@ IsEscaped line = (length line ≤ SCRIPT_LINE_MAX) × (position (λ c. c == 58) 
 -- whether a line sets a value for which there is room
 abbrev pub grows : Script → Result Item ScriptFaultKind → Bool
 grows s (Ok (Setting name value)) = has_room s (Setting name value)
-grows s (Ok (Timer seconds)) = false
-grows s (Err fault) = false
+grows s said = false
 
 -- Taking in a line may allocate only if the line isn't skipped, and either splitting it may allocate or it sets a value
 -- for which there is room.

@@ -6,17 +6,12 @@ use Rattle.nut_dummy.specs.Command.{command_name, all_commands}
 use Rattle.nut_dummy.specs.Teller.{Variable}
 use Rattle.nut_dummy.specs.Writable.{Attributes, attributes_of, writable_of}
 
--- a variable of the table, with its attributes
-abbrev pub with_attributes : List ℕ → List ℕ → Attributes → Entry
-with_attributes name value a = record { name = name; value = value; flags = a.flags; aux = a.aux; enums = a.enums; ranges = a.ranges }
-
-abbrev pub entry : List ℕ → List ℕ → Entry
-entry name value = with_attributes name value (attributes_of (writable_of name))
-
--- a variable is in the table only if it has a value
+-- A variable is in the table, with its attributes, only if it has a value.
 abbrev pub entries : List ℕ → Option (List ℕ) → List Entry
 entries name None = []
-entries name (Some value) = entry name value ∷ []
+entries name (Some value) =
+    let a : Attributes = attributes_of (writable_of name) in
+    record { name = name; value = value; flags = a.flags; aux = a.aux; enums = a.enums; ranges = a.ranges } ∷ []
 
 -- The variables that have a value, and all commands. A dummy's dump is always done and its data are always current.
 abbrev pub table_of : List Variable → Table

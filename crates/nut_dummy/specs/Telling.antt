@@ -1,13 +1,13 @@
 -- The lines that a driver sends (NUT developer guide, on a driver and its server on one machine).
-use Rattle.std.specs.Prelude.{ℕ, Bool, List, [], ◌∷◌, ◌++◌, if◌then◌else◌, codes, map}
+use Rattle.std.specs.Prelude.{ℕ, ◌==◌, Bool, List, [], ◌∷◌, ◌++◌, if◌then◌else◌, codes, decimal, map}
+use Rattle.std.specs.Fmt.{signed_decimal}
 use Rattle.std.specs.List.{flat_map}
 use Rattle.std.specs.Option.{option_map_or}
 use Rattle.nut_proto.specs.declared.part.Part.{Part}
 use Rattle.nut_proto.specs.declared.part.Part.TheVariants.{Word, Quoted}
 use Rattle.nut_proto.specs.Lines.{line}
 use Rattle.nut_dummy.specs.declared.writable.Writable.{Writable}
-use Rattle.nut_dummy.specs.declared.writable.Writable.TheVariants.{ChargeLow, RuntimeLow, Sensitivity, ShutdownDelay, Id}
-use Rattle.nut_dummy.specs.Writable.{name_of, writable_of}
+use Rattle.nut_dummy.specs.Writable.{Attributes, attributes, name_of, writable_of}
 use Rattle.nut_dummy.specs.Command.{command_name, all_commands}
 
 abbrev pub Message : Type 0
@@ -16,27 +16,17 @@ Message = List Part
 abbrev pub value_message : List ℕ → List ℕ → Message
 value_message name value = Word (codes "SETINFO") ∷ Word name ∷ Quoted value ∷ []
 
--- the limits of a number from 0 to this one
-abbrev pub number_limits : List ℕ → List ℕ → List Message
-number_limits name most =
-    (Word (codes "SETFLAGS") ∷ Word name ∷ Word (codes "RW") ∷ Word (codes "NUMBER") ∷ [])
-    ∷ (Word (codes "ADDRANGE") ∷ Word name ∷ Word (codes "0") ∷ Word most ∷ []) ∷ []
+-- The lines that report flags, aux, enum values and ranges of a variable that clients may set.
+abbrev pub attribute_messages : List ℕ → Attributes → List Message
+attribute_messages name a =
+    (Word (codes "SETFLAGS") ∷ Word name ∷ Word (codes "RW") ∷ Word (if a.flags.string then codes "STRING" else codes "NUMBER") ∷ [])
+    ∷ ((if a.aux == 0 then [] else (Word (codes "SETAUX") ∷ Word name ∷ Word (decimal a.aux) ∷ []) ∷ [])
+    ++ (map (λ value. Word (codes "ADDENUM") ∷ Word name ∷ Quoted value ∷ []) a.enums
+    ++ map (λ r. Word (codes "ADDRANGE") ∷ Word name ∷ Word (signed_decimal r.minimum) ∷ Word (signed_decimal r.maximum) ∷ []) a.ranges))
 
--- the limits of a text of at most this many bytes, and its enum values if there are any
-abbrev pub text_limits : List ℕ → List ℕ → List (List ℕ) → List Message
-text_limits name most enums =
-    (Word (codes "SETFLAGS") ∷ Word name ∷ Word (codes "RW") ∷ Word (codes "STRING") ∷ [])
-    ∷ (Word (codes "SETAUX") ∷ Word name ∷ Word most ∷ [])
-    ∷ map (λ value. Word (codes "ADDENUM") ∷ Word name ∷ Quoted value ∷ []) enums
-
--- The lines that report the flags, aux, enum values and ranges of a writable variable. That they say exactly its
--- attributes is the law `told_lines_are_heard`.
+-- That these say exactly its attributes is the law `told_lines_are_heard`.
 abbrev pub limits_of : Writable → List Message
-limits_of ChargeLow = number_limits (name_of ChargeLow) (codes "100")
-limits_of RuntimeLow = number_limits (name_of RuntimeLow) (codes "86400")
-limits_of Sensitivity = text_limits (name_of Sensitivity) (codes "8") (codes "low" ∷ codes "medium" ∷ codes "high" ∷ [])
-limits_of ShutdownDelay = number_limits (name_of ShutdownDelay) (codes "600")
-limits_of Id = text_limits (name_of Id) (codes "16") []
+limits_of w = attribute_messages (name_of w) (attributes w)
 
 -- A variable that no client may set has no limits.
 abbrev pub limits : List ℕ → List Message

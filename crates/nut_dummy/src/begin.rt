@@ -1,9 +1,10 @@
 //! The variables that a driver has at its start.
-ghost use Rattle.std.specs.Prelude.{◌≡◌, map, IfOk, IsTrue};
+ghost use Rattle.std.specs.Prelude.{◌≡◌, [], map, IfOk, IsTrue};
 ghost use Rattle.nut_state.specs.Sorted.{IsAscending};
 ghost use Rattle.nut_state.specs.Text.{is_name};
 ghost use Rattle.nut_dummy.specs.Command.{command_variables};
-ghost use Rattle.nut_dummy.specs.Dummy.{declared, all_declared, begun};
+ghost use Rattle.nut_dummy.specs.Dummy.{declared, all_declared, timelines};
+ghost use Rattle.nut_dummy.specs.History.{seen};
 
 use crate::script::Script;
 use crate::text::Name;
@@ -44,7 +45,7 @@ fn all_declared(alloc: Global, variables: Vec<Timeline>) -> Result<Vec<Timeline>
 
 /// Returns the variables that a driver of this script has at its start.
 pub fn into_variables(alloc: Global, script: Script) -> Result<Vec<Variable>, AllocError>
-    ensures { IfOk result (λ v. v.items ≡ map begun (all_declared command_variables script.variables)) }
+    ensures { IfOk result (λ v. v.items ≡ map (seen []) (timelines script)) }
 {
     let timelines = all_declared(alloc, script.into_timelines())?;
     timelines

@@ -1,10 +1,8 @@
 //! The dummy driver.
-ghost use Rattle.std.specs.Prelude.{◌≡◌, ℕ, List, [], ◌∷◌, MatchResult, IfOk, OnOk, OnErr, IfErr, IsTrue, length};
-ghost use Rattle.nut_dummy.specs.Dump.{DumpsWhereAsked};
-ghost use Rattle.nut_dummy.specs.History.{BytesStand, Call, Linked, Moment, Stands, Took};
+ghost use Rattle.std.specs.Prelude.{◌≡◌, ℕ, List, [], ◌∷◌, MatchResult, OnOk, OnErr, IfErr, IsTrue, Option, Some, Result, Err, length};
+ghost use Rattle.nut_dummy.specs.History.{Bytes, Call, LeadsTo, Linked, Moment, Stands, Took, refusal};
 ghost use Rattle.nut_dummy.specs.Script.{Script as ScriptValue};
-ghost use Rattle.nut_dummy.specs.Dummy.{beginning, linked, passed, waits_of, told_bytes, cut, cut_behind, MayRunOut, Passes, Hears, Takes};
-ghost use Rattle.nut_dummy.specs.Teller.{tells_more};
+ghost use Rattle.nut_dummy.specs.inside.Machine.{passed, told_bytes, cut, cut_behind, MayStop, tells_more};
 
 use crate::begin::into_variables;
 use crate::script::Script;
@@ -88,8 +86,7 @@ impl Dummy {
     ///
     /// `Memory(0)` if memory cannot be allocated.
     pub fn new(alloc: Global, script: Script, start: u64) -> Result<Dummy, DummyFault>
-        ensures begins { MatchResult result (λ d. d ≡ beginning script start) (λ fault. fault ≡ DummyFault.Memory 0) }
-        ensures stands { IfOk result (λ d. Stands script start [] d) }
+        ensures { MatchResult result (λ d. Stands script start [] d) (λ fault. fault ≡ DummyFault.Memory 0) }
     {
         let round = script.round();
         let Ok(variables) = into_variables(alloc, script) else {
@@ -108,10 +105,8 @@ impl Dummy {
 
     /// Makes a new link: bytes that wait and an unfinished line are dropped. It allocates nothing.
     pub fn linked(&mut self)
-        ensures linked { self.new ≡ linked self.old }
-
         // If a history of accepted calls led to the driver, this history and this call lead to it now.
-        ensures stands { (script : ScriptValue) (start : ℕ) (h : List Call) → Stands script start h self.old
+        ensures { (script : ScriptValue) (start : ℕ) (h : List Call) → Stands script start h self.old
             → Stands script start (Linked ∷ h) self.new }
     {
         self.linked = true;
@@ -128,9 +123,13 @@ impl Dummy {
     /// `Busy` exactly while bytes wait. `Memory(0)` if memory cannot be allocated, which comes only if something has to
     /// be reported. Nothing changed then.
     pub fn moment(&mut self, t: u64) -> Result<(), DummyFault>
-        ensures passes { Passes t self.old self.new result }
-        ensures stands { (script : ScriptValue) (start : ℕ) (h : List Call) → Stands script start h self.old
-            → OnOk result (Stands script start (Moment t ∷ h) self.new) }
+        // What the call leads to, if a history of accepted calls led to the driver.
+        ensures leads { (script : ScriptValue) (start : ℕ) (h : List Call) → Stands script start h self.old
+            → LeadsTo script start h (Moment t) self.new result }
+
+        // A refusal by a test changes nothing.
+        ensures refused { (fault : DummyFault) → refusal (Moment t) self.old ≡ Some fault
+            → (result ≡ Err fault) × (self.new ≡ self.old) }
     {
         if self.teller.outbox.len() > 0 {
             return Err(DummyFault::Busy);
@@ -161,7 +160,7 @@ impl Dummy {
     /// Takes in a piece. An `Err` has the number of lines that took effect before memory could not be allocated.
     fn hear(&mut self, piece: &[u8]) -> Result<(), usize>
         ensures heard { OnOk result (self.new ≡ told_bytes piece.now self.old) }
-        ensures stopped { IfErr result (λ k. MayRunOut k piece.now self.old × (cut self.new ≡ cut_behind k piece.now self.old)) }
+        ensures stopped { IfErr result (λ k. MayStop k piece.now self.old × (cut self.new ≡ cut_behind k piece.now self.old)) }
     {
         let alloc = self.alloc;
         match hear_lines(&mut self.cutter, &mut self.teller, alloc, piece) {
@@ -179,8 +178,8 @@ impl Dummy {
         self.teller.relink();
     }
 
-    /// Takes in a piece of the server's bytes and answers each line that it completes. If the piece completes one line,
-    /// `DUMPALL`, then a dump waits: lines that lead a server from an empty table to the driver's own.
+    /// Takes in a piece of the server's bytes and answers each line that it completes. `DUMPALL` is answered by lines that
+    /// lead a server from an empty table to the driver's own (`dump_is_the_table`).
     ///
     /// # Errors
     ///
@@ -188,10 +187,13 @@ impl Dummy {
     /// bytes. These change nothing. `Memory` with the number of lines that were done, which stand; then the link is cut.
     /// It comes only at a line that holds a backslash, or for which something is reported.
     pub fn server_bytes(&mut self, piece: &[u8]) -> Result<(), DummyFault>
-        ensures heard { Hears piece.now self.old self.new result }
-        ensures stands { (script : ScriptValue) (start : ℕ) (h : List Call) → Stands script start h self.old
-            → BytesStand piece.now script start h self.new result }
-        ensures dump { OnOk result (DumpsWhereAsked piece.now self.old self.new) }
+        // What the call leads to, if a history of accepted calls led to the driver.
+        ensures leads { (script : ScriptValue) (start : ℕ) (h : List Call) → Stands script start h self.old
+            → LeadsTo script start h (Bytes piece.now) self.new result }
+
+        // A refusal by a test changes nothing.
+        ensures refused { (fault : DummyFault) → refusal (Bytes piece.now) self.old ≡ Some fault
+            → (result ≡ Err fault) × (self.new ≡ self.old) }
     {
         if !self.linked {
             return Err(DummyFault::NotLinked);
@@ -215,9 +217,13 @@ impl Dummy {
     ///
     /// `TooMuchTaken` if fewer than `n` bytes wait. Nothing changed then.
     pub fn took(&mut self, n: usize) -> Result<(), DummyFault>
-        ensures takes { Takes n self.old self.new result }
-        ensures stands { (script : ScriptValue) (start : ℕ) (h : List Call) → Stands script start h self.old
-            → OnOk result (Stands script start (Took n ∷ h) self.new) }
+        // What the call leads to, if a history of accepted calls led to the driver.
+        ensures leads { (script : ScriptValue) (start : ℕ) (h : List Call) → Stands script start h self.old
+            → LeadsTo script start h (Took n) self.new result }
+
+        // A refusal by a test changes nothing.
+        ensures refused { (fault : DummyFault) → refusal (Took n) self.old ≡ Some fault
+            → (result ≡ Err fault) × (self.new ≡ self.old) }
     {
         if !self.teller.outbox.took(n) {
             return Err(DummyFault::TooMuchTaken);
@@ -227,14 +233,14 @@ impl Dummy {
 
     /// Returns all bytes that wait.
     pub fn waiting(&self) -> &[u8]
-        ensures { result.now ≡ waits_of self.now }
+        ensures { result.now ≡ self.now.teller.waits }
     {
         self.teller.outbox.front()
     }
 
     /// Returns how many bytes wait.
     pub fn waits(&self) -> usize
-        ensures { result ≡ length (waits_of self.now) }
+        ensures { result ≡ length self.now.teller.waits }
     {
         self.teller.outbox.len()
     }

@@ -6,9 +6,8 @@ ghost use Rattle.nut_dummy.specs.History.{LooksBack};
 
 use crate::limits::{SCRIPT_LINE_MAX, SCRIPT_VARIABLES_MAX, STEPS_MAX, TIMER_MAX};
 
-/// States a law and does nothing when called: after any history of accepted calls, each variable has the newest of its
-/// values: those of steps that became due, of clients' SETs and of commands. The bytes taken on the link, followed by
-/// those that wait, are the lines owed to it; after a cut, the bytes taken are a beginning of these.
+/// States a law and does nothing when called: after any history of accepted calls, the bytes taken on the last link,
+/// followed by those that wait, are the lines owed to it; after a cut, the bytes taken are a beginning of these.
 pub fn looks_back()
     ensures { LooksBack }
 {}

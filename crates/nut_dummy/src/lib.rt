@@ -9,8 +9,9 @@
 //!
 //! Definitions are in `specs/`. `Item.antt` has what a line of a script says, `Script.antt` what a script means,
 //! and `Due.antt` which value is due. `Writable.antt` and `Command.antt` have what clients may set and what
-//! commands do. `Telling.antt` has the lines that the driver sends. `Teller.antt` and `Dummy.antt` have how each
-//! call changes the driver, and `Dump.antt` what a server makes of a dump.
+//! commands do. `Telling.antt` and `Teller.antt` have the lines that the driver sends, and when it sends them.
+//! `History.antt` has what each call leads to, by looking back over all calls, and `Dump.antt` what a server makes of a
+//! dump.
 #![tactic(auto)]
 
 mod begin;

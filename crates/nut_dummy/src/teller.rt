@@ -2,7 +2,8 @@
 ghost use Rattle.std.specs.Prelude.{◌≡◌, ◌<◌, [], ◌++◌, Some, ⊤, false, if◌then◌else◌, length, IsTrue, OnErr, OnOk};
 ghost use Rattle.std.specs.List.{flat_map};
 ghost use Rattle.nut_dummy.specs.Command.{command_of};
-ghost use Rattle.nut_dummy.specs.Teller.{changed, commanded, dumped_all, answered, ended, heard, is_done, may_take_memory, relinked, says, tells_more};
+ghost use Rattle.nut_dummy.specs.Teller.{ended, is_done, says};
+ghost use Rattle.nut_dummy.specs.inside.Machine.{changed, commanded, dumped_all, answered, heard, may_take_memory, relinked, tells_more};
 ghost use Rattle.nut_dummy.specs.inside.Changes.{change_of};
 
 use crate::command::KnownCommand;

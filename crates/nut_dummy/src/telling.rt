@@ -2,8 +2,9 @@
 ghost use Rattle.std.specs.Prelude.{◌≡◌, ◌<◌, ◌++◌, true, length, map, OnErr, OnOk};
 ghost use Rattle.std.specs.List.{flat_map, list_any};
 ghost use Rattle.nut_dummy.specs.Telling.{text, closing_messages};
-ghost use Rattle.nut_dummy.specs.Teller.{says, followed, lines_of, dump, dumped, ended, is_assigned, is_done, untold};
+ghost use Rattle.nut_dummy.specs.Teller.{says, lines_of, dump, ended, is_assigned, is_done};
 ghost use Rattle.nut_dummy.specs.inside.Changes.{change_of};
+ghost use Rattle.nut_dummy.specs.inside.Machine.{followed, dumped, untold};
 
 use crate::variable::{Change, Variable};
 use arrayvec::ArrayVec;

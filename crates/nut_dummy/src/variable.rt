@@ -3,9 +3,10 @@ ghost use Rattle.std.specs.Prelude.{◌≡◌, ◌<◌, ◌++◌, [], ◌∷◌,
 ghost use Rattle.nut_dummy.specs.Item.{is_value};
 ghost use Rattle.nut_dummy.specs.Due.{at_start};
 ghost use Rattle.nut_dummy.specs.Telling.{text, limits, variable_messages};
-ghost use Rattle.nut_dummy.specs.Teller.{value_after, is_assigned, differ, is_told, lines_of, says, followed, dumped, untold};
+ghost use Rattle.nut_dummy.specs.Teller.{value_after, is_assigned, differ, is_told, lines_of, says};
+ghost use Rattle.nut_dummy.specs.History.{seen};
 ghost use Rattle.nut_dummy.specs.inside.Changes.{change_of};
-ghost use Rattle.nut_dummy.specs.Dummy.{begun};
+ghost use Rattle.nut_dummy.specs.inside.Machine.{followed, dumped, untold};
 
 use crate::due::latest;
 use crate::text::{Name, Text};
@@ -119,7 +120,7 @@ fn at_start(steps: &[DueValue]) -> Option<Text>
 impl Variable {
     /// Makes the variable that a driver has at the start.
     pub(crate) fn begin(timeline: Timeline) -> Variable
-        ensures { result ≡ begun timeline }
+        ensures { result ≡ seen [] timeline }
     {
         let Timeline { name, steps } = timeline;
         let value = at_start(&steps);

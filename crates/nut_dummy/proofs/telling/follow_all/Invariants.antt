@@ -1,5 +1,5 @@
 use Rattle.std.proofs.Common.{◌≡◌}
-use Rattle.nut_dummy.specs.Teller.{followed}
+use Rattle.nut_dummy.specs.inside.Machine.{followed}
 use Rattle.nut_dummy.specs.inside.Changes.{change_of}
 use Rattle.nut_dummy.proofs.SweptLemmas.{swept}
 use Rattle.nut_dummy.proofs.telling.follow_all.Given as goal

@@ -1,5 +1,5 @@
 use Rattle.std.proofs.Common.{◌≡◌}
-use Rattle.nut_dummy.specs.Teller.{untold}
+use Rattle.nut_dummy.specs.inside.Machine.{untold}
 use Rattle.nut_dummy.proofs.SweptLemmas.{swept}
 use Rattle.nut_dummy.proofs.telling.forget_link.Given as goal
 

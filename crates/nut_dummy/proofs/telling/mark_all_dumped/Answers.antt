@@ -1,5 +1,5 @@
 use Rattle.std.proofs.Common.{◌∙◌}
-use Rattle.nut_dummy.specs.Teller.{dumped}
+use Rattle.nut_dummy.specs.inside.Machine.{dumped}
 use Rattle.nut_dummy.proofs.SweptLemmas.{swept-step, swept-all}
 use Rattle.nut_dummy.proofs.telling.mark_all_dumped.Goals as goal
 

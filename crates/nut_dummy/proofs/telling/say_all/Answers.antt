@@ -1,5 +1,3 @@
-use Rattle.std.proofs.Common.{arith}
-use Rattle.std.proofs.lemmas.Grind.{common_steps}
 use Rattle.nut_words.proofs.Written.{at_err}
 use Rattle.nut_dummy.specs.Teller.{says}
 use Rattle.nut_dummy.specs.inside.Changes.{change_of}

@@ -1,7 +1,7 @@
 use Rattle.std.proofs.Common.{ap}
 use Rattle.std.proofs.lemmas.Result.{IfErr-at_err}
 use Rattle.nut_words.specs.Lines.{lines_after}
-use Rattle.nut_dummy.specs.Dummy.{cut}
+use Rattle.nut_dummy.specs.inside.Machine.{cut}
 use Rattle.nut_dummy.specs.contracts.dummy.Dummy.{the_view}
 use Rattle.nut_dummy.proofs.MemoryLemmas.{runs_out}
 use Rattle.nut_dummy.proofs.dummy.Dummy.hear.Goals as goal

@@ -1,5 +1,5 @@
-use Rattle.std.proofs.Common.{◌≡◌, ℕ, ◌+◌, ◌≤◌, [], ◌∷◌, ◌++◌, Err, length, refl, sym, ap, ◌∙◌, subst, arith, append_assoc, length-append}
-use Rattle.nut_dummy.specs.Script.{read_lines, IsFaultOf}
+use Rattle.std.proofs.Common.{◌≡◌, ℕ, ◌+◌, ◌≤◌, [], ◌∷◌, ◌++◌, length, sym, ap, ◌∙◌, subst, arith, append_assoc, length-append}
+use Rattle.nut_dummy.specs.Script.{IsFaultOf}
 use Rattle.nut_words.proofs.CutLemmas.{pending, left, left-shorter}
 use Rattle.nut_dummy.proofs.ScriptLemmas.{read_lines-fault, read_lines-done, makes_more, reads_on}
 use Rattle.nut_dummy.proofs.script.Script.add_lines.Goals as goal

@@ -1,6 +1,7 @@
 use Rattle.std.proofs.Common.{Some, IsTrue, arith, codes, sym, ap, subst}
 use Rattle.std.proofs.lemmas.Result.{on_err_weaker}
-use Rattle.nut_dummy.specs.Teller.{answered, dump, tells_more}
+use Rattle.nut_dummy.specs.Teller.{dump}
+use Rattle.nut_dummy.specs.inside.Machine.{answered, tells_more}
 use Rattle.nut_dummy.proofs.MemoryLemmas.{dump_some, longer}
 use Rattle.nut_dummy.proofs.teller.Teller.obey.Goals as goal
 
