@@ -1,5 +1,5 @@
 -- Losses that are held, and what comes behind them.
-use Rattle.std.proofs.Common.{◌≡◌, ◌≢◌, ◌<◌, ◌≤◌, ◌+◌, ℕ, suc, Bool, true, false, not, cond, List, [], ◌∷◌, ◌++◌, Option, Some, None, map, length, ap, sym, subst, ◌∙◌, arith, refl, nat_lt, eqb}
+use Rattle.std.proofs.Common.{◌≡◌, ◌≢◌, ◌<◌, ◌≤◌, ◌+◌, ℕ, suc, Bool, true, false, not, cond, List, [], ◌∷◌, ◌++◌, Some, None, map, length, ap, sym, subst, ◌∙◌, arith, refl, nat_lt, eqb}
 use Rattle.std.specs.List.{AllByRecursion, position, position_or_len, prefix_len, remove}
 use Rattle.std.proofs.lemmas.List.{map-append}
 use Rattle.std.proofs.lemmas.Bool.{eqb-true}

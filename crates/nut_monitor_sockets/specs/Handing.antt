@@ -1,5 +1,5 @@
 -- Which of its notices the world of a monitor hands on, and in which order.
-use Rattle.std.specs.Prelude.{◌≢◌, ℕ, List, [], ◌∷◌, ◌++◌, Some, map}
+use Rattle.std.specs.Prelude.{◌≢◌, ℕ, List, ◌∷◌, ◌++◌, Some, map}
 use Rattle.nut_conf.specs.declared.notice.Notice.TheVariants.{Commbad, Commok, Shutdown}
 use Rattle.nut_monitor_spec.specs.declared.Notice.{Notice}
 

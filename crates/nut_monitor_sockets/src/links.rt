@@ -1,11 +1,13 @@
 //! All links of a monitor, watched by one poll.
 
-ghost use Rattle.std.specs.Prelude.{◌≡◌, ◌≢◌, ◌≤◌, ◌+◌, ℕ, true, if◌then◌else◌, [], length, unwrap_or, vec_len, IfSome, IfOk, OnErr, Some, None};
+ghost use Rattle.std.specs.Prelude.{◌≡◌, ◌≢◌, ◌≤◌, ◌+◌, ℕ, true, false, if◌then◌else◌, [], length, slice_get, unwrap_or, vec_len, IfSome, IfOk, OnErr, Some, None};
 ghost use Rattle.nut_io.specs.Writes.{IsWithin};
 ghost use Rattle.nut_monitor_loop.specs.declared.types.Next.TheVariants as next;
 ghost use Rattle.nut_monitor_sockets.specs.Silence.{IsSilent};
-ghost use Rattle.nut_monitor_sockets.specs.Turns.{ComesInTurn, IsGivenBy};
-ghost use Rattle.nut_poll.specs.Queue.{Looks, TakesTurns};
+ghost use Rattle.nut_monitor_sockets.specs.Turns.{ComesInTurn, IsGivenBy, IsNoted, LeavesNone, WaitsUnread};
+ghost use Rattle.mio.specs.Events.{items};
+ghost use Rattle.nut_poll.specs.Queue.{is_waiting, reported};
+ghost use Rattle.nut_poll.specs.Turns.{Heeds, TakesTurns};
 
 use crate::dialler::Dialler;
 use crate::inquiry::outstanding;
@@ -19,7 +21,7 @@ use nut_io::{Piece, Written};
 use nut_monitor::{LastAnswer, Monitor, Phase, Query};
 use nut_monitor_loop::Next;
 use nut_poll::{
-    Found, HOST_UNKNOWN, Heard, LookUps, Ready, Reports, Rounds, SOCKETS_MAX, Seconds, text_of,
+    Found, HOST_UNKNOWN, Heard, LookUps, Reports, Rounds, SOCKETS_MAX, Seconds, text_of,
 };
 use std::alloc::{AllocError, Global};
 use std::net::Net;
@@ -93,8 +95,6 @@ pub struct LinkServices<'r, 'e, R: Processes> {
 pub struct Links {
     rounds: Rounds,
     upstreams: Vec<Upstream>,
-    /// The second that was handed out last.
-    clock: u64,
     /// Whether the clock was found to have moved on since that was last asked.
     has_moved_on: bool,
     /// How long a server may take at present.
@@ -113,7 +113,6 @@ impl Links {
         Ok(Links {
             rounds: Rounds::new(rt, alloc, 0)?,
             upstreams: Vec::new(alloc),
-            clock: 0,
             has_moved_on: false,
             limits: CALM,
             is_ending: false,
@@ -132,7 +131,7 @@ impl Links {
         services: &mut LinkServices<'_, '_, R>,
         links: NewLinks,
     ) -> io::Result<()>
-        ensures { Looks [] self.old.rounds.ready self.new.rounds.ready }
+        ensures { Heeds [] self.old.rounds self.new.rounds }
     {
         match Seconds::start(services.rt) {
             Ok(seconds) => {
@@ -151,7 +150,7 @@ impl Links {
     /// Begins with these links, and with a clock that was just started.
     #[tactic(auto, using(crate::proofs::InTurn::turned))]
     fn begin_at(&mut self, seconds: Seconds, links: NewLinks)
-        ensures { Looks [] self.old.rounds.ready self.new.rounds.ready }
+        ensures { Heeds [] self.old.rounds self.new.rounds }
     {
         let mut upstreams = links.into_upstreams();
         for upstream in upstreams.iter_mut() {
@@ -162,7 +161,6 @@ impl Links {
         self.rounds.ready.insert_first(upstreams.len());
         self.upstreams = upstreams;
         self.rounds.begin();
-        self.clock = 0;
         self.has_moved_on = false;
         self.limits = CALM;
         self.is_ending = false;
@@ -185,7 +183,7 @@ impl Links {
     /// # Errors
     ///
     /// The error of the wait or of the clock.
-    #[tactic(auto, using(crate::proofs::InTurn::in_turn, crate::proofs::InTurn::waited))]
+    #[tactic(auto, using(crate::proofs::InTurn::comes_then, crate::proofs::InTurn::waited))]
     pub fn next<R: Net + Clock + Processes>(
         &mut self,
         services: &mut LinkServices<'_, '_, R>,
@@ -193,8 +191,8 @@ impl Links {
         piece: &mut Piece,
     ) -> io::Result<Next>
         ensures goes_on { IfOk result (λ n. n ≢ next.End) }
-        ensures turns { IfOk result (λ n. ComesInTurn n self.old.rounds.ready self.new.rounds.ready) }
-        ensures kept { OnErr result (TakesTurns self.old.rounds.ready self.new.rounds.ready) }
+        ensures turns { IfOk result (λ n. ComesInTurn n self.old self.new) }
+        ensures kept { OnErr result (TakesTurns self.old.rounds self.new.rounds) }
     {
         self.follow(monitor, &mut services.look_ups);
         if let Some(next) = self.come(monitor, piece, services) {
@@ -213,14 +211,13 @@ impl Links {
         services: &mut LinkServices<'_, '_, R>,
     ) -> Option<Next>
         ensures goes_on { IfSome result (λ n. n ≢ next.End) }
-        ensures turns { ComesInTurn (unwrap_or result next.Again) self.old.rounds.ready self.new.rounds.ready }
+        ensures turns { ComesInTurn (unwrap_or result next.Again) self.old self.new }
     {
         if let Some(next) = self.look(monitor, piece, services.rt, &mut services.reports) {
             return Some(next);
         }
         let all = self.may_catch_up(monitor);
-        self.clock = self.rounds.seconds.next(all)?;
-        Some(Next::Moment(self.clock))
+        Some(Next::Moment(self.rounds.seconds.next(all)?))
     }
 
     /// Whether the clock was found to have moved on since this was last asked. Of several seconds that come at once,
@@ -244,7 +241,8 @@ impl Links {
 
     /// Closes a link on which a write failed.
     pub fn close(&mut self, i: usize, reports: &mut Reports<'_>)
-        ensures { self.new.rounds.ready ≡ self.old.rounds.ready }
+        ensures turns { self.new.rounds ≡ self.old.rounds }
+        ensures waits { LeavesNone i self.old self.new }
     {
         self.end(i, Loss::Closed, reports);
     }
@@ -252,15 +250,15 @@ impl Links {
     /// Reports what the monitor heard in a piece of a link, if it has to be reported. Closes the link if the monitor dropped it at
     /// that piece, or if its server still owes an answer, and has for too long. The monitor hears of the latter when the link is
     /// looked at again.
-    #[tactic(auto, using(crate::proofs::InTurn::stays, crate::proofs::InTurn::comes_on))]
     pub fn told(&mut self, monitor: &Monitor, i: usize, reports: &mut Reports<'_>)
-        ensures { Looks [] self.old.rounds.ready self.new.rounds.ready }
+        ensures { Heeds [] self.old.rounds self.new.rounds }
     {
         let due = self.due();
         if let (Some(upstream), Some(answer)) = (self.upstreams.get_mut(i), monitor.last_answer(i))
-            && upstream.note_answer(answer, due.saturating_sub(answer.asked.moment))
+            && upstream.note_answer(answer)
         {
-            tell_answer(upstream, answer, monitor.linked(i), reports);
+            let took = due.saturating_sub(answer.asked.moment);
+            tell_answer(upstream, answer, took, monitor.linked(i), reports);
         }
         if !monitor.linked(i) {
             self.end(i, Loss::Unread, reports);
@@ -271,16 +269,18 @@ impl Links {
 
     /// Returns the second that is handed out next if it is over, or else the one that was handed out last.
     fn due(&self) -> u64
-        ensures { result ≤ self.now.clock + (if self.now.has_moved_on then 1 else 0) }
+        ensures { result ≤ self.now.rounds.seconds.told + (if self.now.has_moved_on then 1 else 0) }
     {
-        self.clock.saturating_add(u64::from(self.has_moved_on))
+        let told = self.rounds.seconds.told();
+        told.saturating_add(u64::from(self.has_moved_on))
     }
 
     /// Ends a link whose server owes an answer, and has for too long. Returns whether it did.
     fn end_silent(&mut self, monitor: &Monitor, i: usize, reports: &mut Reports<'_>) -> bool
-        ensures turns { self.new.rounds.ready ≡ self.old.rounds.ready }
+        ensures turns { self.new.rounds ≡ self.old.rounds }
+        ensures waits { (k : ℕ) → WaitsUnread k self.old → WaitsUnread k self.new }
         ensures silent { result ≡ true
-            → IsSilent self.old.limits.answer (self.old.clock + (if self.old.has_moved_on then 1 else 0)) monitor.now.content i }
+            → IsSilent self.old.limits.answer (self.old.rounds.seconds.told + (if self.old.has_moved_on then 1 else 0)) monitor.now.content i }
     {
         let (Some(query), Some(upstream)) = (outstanding(monitor, i), self.upstreams.get(i)) else {
             return false;
@@ -297,7 +297,8 @@ impl Links {
     /// Closes a link and reports it: a server that has served is lost, and of any other it is reported once that there
     /// is no server yet.
     fn end(&mut self, i: usize, loss: Loss, reports: &mut Reports<'_>)
-        ensures { self.new.rounds.ready ≡ self.old.rounds.ready }
+        ensures turns { self.new.rounds ≡ self.old.rounds }
+        ensures waits { LeavesNone i self.old self.new }
     {
         let Some(upstream) = self.upstreams.get_mut(i) else {
             return;
@@ -317,7 +318,7 @@ impl Links {
     /// other machines hear nothing: seconds that are missed then are forgotten, too. If the others did hear and are logged
     /// out, Forcing is over without these seconds.
     fn follow(&mut self, monitor: &Monitor, look_ups: &mut LookUps<'_, impl Processes>)
-        ensures { self.new.rounds.ready ≡ self.old.rounds.ready }
+        ensures { (self.new.rounds.ready ≡ self.old.rounds.ready) × (self.new.rounds.events ≡ self.old.rounds.events) }
     {
         let phase = monitor.phase();
         let begins = !self.is_ending && phase != Phase::Watching;
@@ -347,7 +348,8 @@ impl Links {
         reports: &mut Reports<'_>,
     ) -> Option<Next>
         ensures goes_on { IfSome result (λ n. n ≢ next.End) }
-        ensures turns { ComesInTurn (unwrap_or result next.Again) self.old.rounds.ready self.new.rounds.ready }
+        ensures turns { ComesInTurn (unwrap_or result next.Again) self.old self.new }
+        ensures waits { ((i : ℕ) → WaitsUnread i self.old) → (i : ℕ) → WaitsUnread i self.new }
     {
         for _ in 0..SOCKETS_MAX {
             let Token(i) = self.rounds.ready.take()?;
@@ -369,7 +371,8 @@ impl Links {
     ) -> Option<Next>
         ensures goes_on { IfSome result (λ n. n ≢ next.End) }
         ensures given { IfSome result (λ n. IsGivenBy i n) }
-        ensures turns { Looks [] self.old.rounds.ready self.new.rounds.ready }
+        ensures turns { Heeds [] self.old.rounds self.new.rounds }
+        ensures waits { LeavesNone i self.old self.new }
     {
         match (self.upstreams.get(i)?.is_up(), monitor.linked(i)) {
             (true, true) => self.hear(monitor, i, piece, reports),
@@ -393,7 +396,8 @@ impl Links {
     ) -> Option<Next>
         ensures goes_on { IfSome result (λ n. n ≢ next.End) }
         ensures given { IfSome result (λ n. IsGivenBy i n) }
-        ensures turns { Looks [] self.old.rounds.ready self.new.rounds.ready }
+        ensures turns { Heeds [] self.old.rounds self.new.rounds }
+        ensures waits { LeavesNone i self.old self.new }
     {
         let upstream = self.upstreams.get_mut(i)?;
         let heard = upstream.hear(piece);
@@ -432,7 +436,8 @@ impl Links {
     ) -> Option<Next>
         ensures goes_on { IfSome result (λ n. n ≢ next.End) }
         ensures given { IfSome result (λ n. IsGivenBy i n) }
-        ensures turns { Looks [] self.old.rounds.ready self.new.rounds.ready }
+        ensures turns { Heeds [] self.old.rounds self.new.rounds }
+        ensures waits { LeavesNone i self.old self.new }
     {
         let upstream = self.upstreams.get_mut(i)?;
         let token = Token(i);
@@ -466,7 +471,7 @@ impl Links {
         monitor: &Monitor,
         services: &mut LinkServices<'_, '_, R>,
     ) -> io::Result<()>
-        ensures { Looks [] self.old.rounds.ready self.new.rounds.ready }
+        ensures { Heeds [] self.old.rounds self.new.rounds }
     {
         let patience = if self.look_at_clock(monitor, services)? {
             Duration::ZERO
@@ -474,14 +479,10 @@ impl Links {
             self.patience(&services.look_ups)
         };
         self.rounds.wait_for(patience)?;
+        note(&self.rounds.events, &mut self.upstreams);
         if self.rounds.events.is_empty() {
             self.look_at_clock(monitor, services)?;
         }
-        note(
-            &self.rounds.events,
-            &mut self.rounds.ready,
-            &mut self.upstreams,
-        );
         self.take_look_up(&mut services.look_ups, &mut services.reports);
         self.rounds.begin();
         Ok(())
@@ -497,22 +498,19 @@ impl Links {
         }
     }
 
-    /// Looks at the clock, and returns whether one more second is over. It is counted then, and each link is looked at in the
-    /// next round, whether or not an event came.
+    /// Looks at the clock, and returns whether one more second is over. It is counted then.
     fn look_at_clock<R: Clock + Processes>(
         &mut self,
         monitor: &Monitor,
         services: &mut LinkServices<'_, '_, R>,
     ) -> io::Result<bool>
-        ensures { Looks [] self.old.rounds.ready self.new.rounds.ready }
+        ensures { Heeds [] self.old.rounds self.new.rounds }
     {
-        let passed = self.rounds.seconds.elapsed(services.rt)?;
-        let is_full = self.rounds.seconds.look_at(passed);
-        if is_full {
-            self.rounds.ready.insert_first(self.rounds.fixed);
+        let is_over = self.rounds.look_at_clock(services.rt)?;
+        if is_over {
             self.second(monitor, &mut services.look_ups, &mut services.reports);
         }
-        Ok(is_full)
+        Ok(is_over)
     }
 
     /// Counts a second that has passed, or several in which this process was stopped.
@@ -560,7 +558,7 @@ impl Links {
         look_ups: &mut LookUps<'_, impl Processes>,
         reports: &mut Reports<'_>,
     )
-        ensures { Looks [] self.old.rounds.ready self.new.rounds.ready }
+        ensures { Heeds [] self.old.rounds self.new.rounds }
     {
         let found = look_ups.take();
         if let Some(found) = &found
@@ -572,7 +570,7 @@ impl Links {
 
     /// Hands the result of a look-up to the links to its host.
     fn take_found(&mut self, found: &Found, reports: &mut Reports<'_>)
-        ensures { Looks [] self.old.rounds.ready self.new.rounds.ready }
+        ensures { Heeds [] self.old.rounds self.new.rounds }
     {
         for (i, upstream) in self.upstreams.iter_mut().enumerate() {
             if upstream.host_name() == found.name.as_str() {
@@ -613,6 +611,7 @@ fn next_look_up<R: Processes>(upstreams: &[Upstream], look_ups: &LookUps<'_, R>)
 fn tell_answer(
     upstream: &mut Upstream,
     answer: &LastAnswer,
+    took: u64,
     is_kept: bool,
     reports: &mut Reports<'_>,
 ) {
@@ -625,7 +624,7 @@ fn tell_answer(
     if is_kept && is_after_opening && upstream.begins_to_serve() {
         reports.tell(ServerReport::Reached(upstream.name()));
     }
-    if upstream.begins_to_be_late() {
+    if upstream.begins_to_be_late(took) {
         reports.warn(ServerReport::Late(upstream.name()));
     }
     if is_kept && upstream.begins_to_wait(answer) {
@@ -646,7 +645,9 @@ fn tell_answer(
 }
 
 /// Reports that a server can't be reached, unless that was reported since it last served.
-fn tell_unreachable(upstream: &mut Upstream, error: io::Error, reports: &mut Reports<'_>) {
+fn tell_unreachable(upstream: &mut Upstream, error: io::Error, reports: &mut Reports<'_>)
+    ensures { upstream.new.stage ≡ upstream.old.stage }
+{
     if upstream.misses() {
         reports.tell(ServerReport::Unreachable(upstream.name(), error));
     }
@@ -681,16 +682,13 @@ fn unserved(name: &str, loss: Loss) -> ServerReport<'_> {
 }
 
 /// Notes the events of the links.
-#[tactic(auto, using(crate::proofs::InTurn::stays, crate::proofs::InTurn::comes_on))]
-fn note(events: &Events, ready: &mut Ready, upstreams: &mut [Upstream])
-    ensures { Looks [] ready.old ready.new }
+fn note(events: &Events, upstreams: &mut Vec<Upstream>)
+    ensures { (i : ℕ) → is_waiting i (reported (items events.now)) ≡ true → IsNoted (slice_get upstreams.new.items i) }
 {
     for event in events.iter() {
         let Token(i) = event.token();
         if let Some(upstream) = upstreams.get_mut(i) {
-            if upstream.note(event) {
-                ready.insert(event.token());
-            }
+            upstream.note(event);
         }
     }
 }

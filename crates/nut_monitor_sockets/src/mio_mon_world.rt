@@ -5,7 +5,7 @@ ghost use Rattle.nut_io.specs.Writes.{IsWithin, late_after};
 ghost use Rattle.nut_monitor_loop.specs.Record.{written_by};
 ghost use Rattle.nut_monitor_loop.specs.Watched.{handed};
 ghost use Rattle.nut_poll.specs.Late.{is_noted};
-ghost use Rattle.nut_poll.specs.Queue.{TakesTurns};
+ghost use Rattle.nut_poll.specs.Turns.{TakesTurns};
 ghost use Rattle.nut_poll.specs.inside.TurnLaws.{turns_on, turns_self};
 ghost use Rattle.nut_monitor_sockets.specs.Handing.{HandsOn};
 ghost use Rattle.nut_monitor_sockets.specs.inside.HandingLaws.{hands_on_twice, none_handed};
@@ -111,7 +111,7 @@ impl<'r, 'e, R: Net + Clock + Processes, H: Herald> MioMonWorld<'r, 'e, R, H> {
         ensures counted { self.new.faults ≡ (if is_ok result then self.old.faults else self.old.faults + 1) }
         ensures herald { self.new.herald ≡ self.old.herald }
         ensures held { OnOk result (self.new.held_losses.lines.items ≡ []) }
-        ensures turns { TakesTurns self.old.links.rounds.ready self.new.links.rounds.ready }
+        ensures turns { TakesTurns self.old.links.rounds self.new.links.rounds }
     {
         if self.links.begin(&mut self.services, links).is_err() {
             self.faults += 1;
@@ -126,7 +126,7 @@ impl<'r, 'e, R: Net + Clock + Processes, H: Herald> MioMonWorld<'r, 'e, R, H> {
     pub fn leave(&mut self)
         ensures herald { self.new.herald ≡ self.old.herald }
         ensures faults { self.new.faults ≡ self.old.faults }
-        ensures turns { TakesTurns self.old.links.rounds.ready self.new.links.rounds.ready }
+        ensures turns { TakesTurns self.old.links.rounds self.new.links.rounds }
     {
         self.links.leave(&mut self.services.look_ups);
     }
@@ -137,11 +137,11 @@ ghost use Rattle.std.specs.Prelude.{◌≢◌, ◌<◌, ◌≤◌, IfOk, IfSome,
 impl<'r, 'e, R: Net + Clock + Processes, H: Herald> MonWorld for MioMonWorld<'r, 'e, R, H> {
     ghost did = { λ config a b entries.
         HandsOn (H.told config a.herald b.herald) a.held_losses.lines.items b.held_losses.lines.items (handed entries)
-        × TakesTurns a.links.rounds.ready b.links.rounds.ready };
+        × TakesTurns a.links.rounds b.links.rounds };
 
     ghost awaits = { λ config a b entries.
         HandsOn (H.told config a.herald b.herald) a.held_losses.lines.items b.held_losses.lines.items (handed entries)
-        × TakesTurns a.links.rounds.ready b.links.rounds.ready };
+        × TakesTurns a.links.rounds b.links.rounds };
 
     ghost late = { λ w i. is_noted w.late.items i };
 
@@ -153,21 +153,21 @@ impl<'r, 'e, R: Net + Clock + Processes, H: Herald> MonWorld for MioMonWorld<'r,
 
     ghost did_self = { λ config w. (
       none_handed (H.told config w.herald w.herald) w.held_losses.lines.items (H.told_self config w.herald),
-      turns_self w.links.rounds.ready,
+      turns_self w.links.rounds,
     ) };
 
     ghost did_on = { λ config a b c xs ys first second. (
       hands_on_twice (H.told config a.herald b.herald) (H.told config b.herald c.herald)
           (H.told config a.herald c.herald) (H.told_on config a.herald b.herald c.herald)
           a.held_losses.lines.items b.held_losses.lines.items c.held_losses.lines.items xs ys first.0 second.0,
-      turns_on a.links.rounds.ready b.links.rounds.ready c.links.rounds.ready first.1 second.1,
+      turns_on a.links.rounds b.links.rounds c.links.rounds first.1 second.1,
     ) };
 
     ghost awaits_on = { λ config a b c xs ys first second. (
       hands_on_twice (H.told config a.herald b.herald) (H.told config b.herald c.herald)
           (H.told config a.herald c.herald) (H.told_on config a.herald b.herald c.herald)
           a.held_losses.lines.items b.held_losses.lines.items c.held_losses.lines.items xs ys first.0 second.0,
-      turns_on a.links.rounds.ready b.links.rounds.ready c.links.rounds.ready first.1 second.1,
+      turns_on a.links.rounds b.links.rounds c.links.rounds first.1 second.1,
     ) };
 
     fn faults(&self) -> u64 {
@@ -207,10 +207,10 @@ impl<'r, 'e, R: Net + Clock + Processes, H: Herald> MonWorld for MioMonWorld<'r,
         ensures count { self.new.faults ≡ self.old.faults }
         ensures ok { IfOk result (λ w. HandsOn (H.told _monitor.now.config self.old.herald self.new.herald)
             self.old.held_losses.lines.items self.new.held_losses.lines.items
-            (handed (written_by w i bytes.now ∷ [])) × TakesTurns self.old.links.rounds.ready self.new.links.rounds.ready) }
+            (handed (written_by w i bytes.now ∷ [])) × TakesTurns self.old.links.rounds self.new.links.rounds) }
         ensures err { OnErr result (HandsOn (H.told _monitor.now.config self.old.herald self.new.herald)
             self.old.held_losses.lines.items self.new.held_losses.lines.items []
-            × TakesTurns self.old.links.rounds.ready self.new.links.rounds.ready) }
+            × TakesTurns self.old.links.rounds self.new.links.rounds) }
         ensures within { IfOk result (λ w. IsWithin w (length bytes.now)) }
         ensures late { IfOk result (λ w. (j : ℕ)
             → is_noted self.new.late.items j ≡ late_after w i (is_noted self.old.late.items) j) }
@@ -225,10 +225,10 @@ impl<'r, 'e, R: Net + Clock + Processes, H: Herald> MonWorld for MioMonWorld<'r,
         ensures count { self.new.faults ≡ self.old.faults }
         ensures ok { OnOk result (HandsOn (H.told _monitor.now.config self.old.herald self.new.herald)
             self.old.held_losses.lines.items self.new.held_losses.lines.items []
-            × TakesTurns self.old.links.rounds.ready self.new.links.rounds.ready) }
+            × TakesTurns self.old.links.rounds self.new.links.rounds) }
         ensures err { OnErr result (HandsOn (H.told _monitor.now.config self.old.herald self.new.herald)
             self.old.held_losses.lines.items self.new.held_losses.lines.items []
-            × TakesTurns self.old.links.rounds.ready self.new.links.rounds.ready) }
+            × TakesTurns self.old.links.rounds self.new.links.rounds) }
         ensures late { (j : ℕ) → is_noted self.new.late.items j ≡ is_noted self.old.late.items j }
     {
         self.links.close(i, &mut self.services.reports);
@@ -241,10 +241,10 @@ impl<'r, 'e, R: Net + Clock + Processes, H: Herald> MonWorld for MioMonWorld<'r,
         ensures count { self.new.faults ≡ self.old.faults }
         ensures ok { OnOk result (HandsOn (H.told monitor.now.config self.old.herald self.new.herald)
             self.old.held_losses.lines.items self.new.held_losses.lines.items (notice ∷ [])
-            × TakesTurns self.old.links.rounds.ready self.new.links.rounds.ready) }
+            × TakesTurns self.old.links.rounds self.new.links.rounds) }
         ensures err { OnErr result (HandsOn (H.told monitor.now.config self.old.herald self.new.herald)
             self.old.held_losses.lines.items self.new.held_losses.lines.items []
-            × TakesTurns self.old.links.rounds.ready self.new.links.rounds.ready) }
+            × TakesTurns self.old.links.rounds self.new.links.rounds) }
         ensures late { (j : ℕ) → is_noted self.new.late.items j ≡ is_noted self.old.late.items j }
     {
         self.held_losses.tell(&mut self.herald, monitor, notice);

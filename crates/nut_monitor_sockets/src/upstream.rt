@@ -1,7 +1,9 @@
 //! The link to the server of a UPS that is watched.
 
-ghost use Rattle.std.specs.Prelude.{length};
+ghost use Rattle.std.specs.Prelude.{◌≡◌, ◌≢◌, length, is_some, Some, None, Ok, true, false};
 ghost use Rattle.nut_io.specs.Writes.{IsWithin};
+ghost use Rattle.nut_poll.specs.declared.link.Heard.TheVariants as heard;
+ghost use Rattle.nut_monitor_sockets.specs.Turns.{unread};
 
 use crate::dialler::Dialler;
 use crate::host::DialledHost;
@@ -15,7 +17,7 @@ use nut_conf::Monitored;
 use nut_io::{Piece, Written};
 use nut_link::Outcome;
 use nut_monitor::{LastAnswer, LastQuery, Query};
-use nut_poll::{Heard, Link, may_be_read, text_of};
+use nut_poll::{Heard, Link, text_of};
 use nut_words::LINE_MAX;
 use std::alloc::{AllocError, Global};
 use std::io::ErrorKind;
@@ -54,8 +56,6 @@ pub struct Upstream {
     waiting: Waiting,
     /// Whether a link on which the server served was lost, and none was made since.
     is_gone: bool,
-    /// Whether the last answer took longer than a server may take while a UPS is on battery.
-    was_late: bool,
     /// Whether it was noted, since a server was lost that served, that an answer did.
     is_late_noted: bool,
     /// How many seconds the server has owed a status.
@@ -81,7 +81,6 @@ impl Upstream {
             refusals: Refusals::none(),
             waiting: Waiting::none(),
             is_gone: false,
-            was_late: false,
             is_late_noted: false,
             owed: 0,
             is_missed: false,
@@ -99,7 +98,9 @@ impl Upstream {
     }
 
     /// Whether the link is made.
-    pub fn is_up(&self) -> bool {
+    pub fn is_up(&self) -> bool
+        ensures { result ≡ is_some (unread self.now.stage) }
+    {
         matches!(self.stage, LinkStage::Up(_, _))
     }
 
@@ -158,7 +159,9 @@ impl Upstream {
     /// # Errors
     ///
     /// The error of the last address: the call has failed.
-    pub fn reach(&mut self, dialler: &Dialler<'_, impl Net>) -> io::Result<bool> {
+    pub fn reach(&mut self, dialler: &Dialler<'_, impl Net>) -> io::Result<bool>
+        ensures { result ≢ Ok true → unread self.new.stage ≡ None }
+    {
         match mem::replace(&mut self.stage, LinkStage::Down) {
             LinkStage::Down => {
                 if self.pause.is_over() && self.host.has_addresses() {
@@ -171,13 +174,15 @@ impl Upstream {
             LinkStage::Calling(link, waited) => self.go_on(dialler, link, waited),
             LinkStage::Up(link, answered) => {
                 self.stage = LinkStage::Up(link, answered);
-                Ok(false)
+                Ok(true)
             }
         }
     }
 
     /// Dials the next address. Returns `error` if none is left.
-    fn call(&mut self, dialler: &Dialler<'_, impl Net>, error: io::Error) -> io::Result<()> {
+    fn call(&mut self, dialler: &Dialler<'_, impl Net>, error: io::Error) -> io::Result<()>
+        ensures { unread self.old.stage ≡ None → unread self.new.stage ≡ None }
+    {
         let stream = self.host.dial(dialler, error)?;
         self.stage = LinkStage::Calling(Link::new(stream), 0);
         Ok(())
@@ -189,7 +194,9 @@ impl Upstream {
         dialler: &Dialler<'_, impl Net>,
         link: Link<TcpStream>,
         waited: u8,
-    ) -> io::Result<bool> {
+    ) -> io::Result<bool>
+        ensures { unread self.old.stage ≡ None → result ≢ Ok true → unread self.new.stage ≡ None }
+    {
         match is_answered(link.stream(), waited) {
             Ok(true) => {
                 self.unended = 0;
@@ -208,12 +215,16 @@ impl Upstream {
     }
 
     /// Notes that a call failed. Returns whether it is the first one since the server last served.
-    pub fn misses(&mut self) -> bool {
+    pub fn misses(&mut self) -> bool
+        ensures { self.new.stage ≡ self.old.stage }
+    {
         !mem::replace(&mut self.is_missed, true)
     }
 
     /// Reads from the server.
-    pub fn hear(&mut self, piece: &mut Piece) -> Heard {
+    pub fn hear(&mut self, piece: &mut Piece) -> Heard
+        ensures { unread self.new.stage ≡ Some true → result ≡ heard.Part }
+    {
         let heard = match &mut self.stage {
             LinkStage::Up(link, _) => link.hear(piece),
             LinkStage::Down | LinkStage::Calling(_, _) => Heard::Nothing,
@@ -234,11 +245,10 @@ impl Upstream {
         self.unended > LINE_MAX
     }
 
-    /// Notes the last answer on the link, which took so many seconds. Returns whether it wasn't noted before.
-    pub fn note_answer(&mut self, answer: &LastAnswer, took: u64) -> bool {
+    /// Notes the last answer on the link. Returns whether it wasn't noted before.
+    pub fn note_answer(&mut self, answer: &LastAnswer) -> bool {
         match &mut self.stage {
             LinkStage::Up(_, answered) => {
-                self.was_late = took > u64::from(ANSWER_ON_BATTERY);
                 // A query and its moment tell it from all others on its link: none is put again within a second.
                 answered.replace(answer.asked) != Some(answer.asked)
             }
@@ -246,10 +256,10 @@ impl Upstream {
         }
     }
 
-    /// Whether the last answer took longer than a server may take while a UPS is on battery, and none did before, since a
-    /// server was lost that served.
-    pub fn begins_to_be_late(&mut self) -> bool {
-        self.was_late && !mem::replace(&mut self.is_late_noted, true)
+    /// Whether an answer that took so many seconds took longer than a server may take while a UPS is on battery, and none did
+    /// before, since a server was lost that served.
+    pub fn begins_to_be_late(&mut self, took: u64) -> bool {
+        took > u64::from(ANSWER_ON_BATTERY) && !mem::replace(&mut self.is_late_noted, true)
     }
 
     /// Returns the name of the error, if this answer is a refusal that is now to be reported.
@@ -270,7 +280,9 @@ impl Upstream {
     }
 
     /// Notes that the link is made. Returns whether it is the first one since a link was lost on which the server served.
-    pub fn returns(&mut self) -> bool {
+    pub fn returns(&mut self) -> bool
+        ensures { self.new.stage ≡ self.old.stage }
+    {
         mem::take(&mut self.is_gone)
     }
 
@@ -295,24 +307,22 @@ impl Upstream {
         }
     }
 
-    /// Notes an event of the socket, and returns whether the link is to be looked at.
-    pub fn note(&mut self, event: &Event) -> bool {
+    /// Notes an event of the socket.
+    pub fn note(&mut self, event: &Event)
+        ensures { unread self.new.stage ≢ Some false }
+    {
         match &mut self.stage {
-            LinkStage::Down => false,
-            LinkStage::Calling(link, _) => {
-                link.note(event);
-                true
-            }
-            LinkStage::Up(link, _) => {
-                link.note(event);
-                may_be_read(event)
-            }
+            LinkStage::Down => {}
+            LinkStage::Calling(link, _) => link.note(event),
+            LinkStage::Up(link, _) => link.note(event),
         }
     }
 
     /// Closes the link, and returns whether its server has served on it. If it has, the server is called again in the
     /// next second. Otherwise it is called after a pause, which grows from one loss to the next, at its next address.
-    pub fn close(&mut self, limits: Limits) -> bool {
+    pub fn close(&mut self, limits: Limits) -> bool
+        ensures { unread self.new.stage ≡ None }
+    {
         self.stage = LinkStage::Down;
         let served = mem::replace(&mut self.serves, false);
         if served {

@@ -219,10 +219,8 @@ impl<'r, R: Net + Clock + Processes> Visits<'r, R> {
     fn note(&mut self) {
         for event in self.rounds.events.iter() {
             let Token(i) = event.token();
-            if let Some(visit) = self.visits.get_mut(i)
-                && visit.upstream.note(event)
-            {
-                self.rounds.ready.insert(Token(i));
+            if let Some(visit) = self.visits.get_mut(i) {
+                visit.upstream.note(event);
             }
         }
     }

@@ -1,10 +1,10 @@
 -- Who waits: flags beside a list, and what comes behind it.
-use Rattle.std.proofs.Common.{◌≡◌, ℕ, zero, suc, ◌-◌, ◌<◌, Bool, true, false, not, ◌&&◌, ◌||◌, inl, inr, cond, List, [], ◌∷◌, ◌++◌, length, get_or, set, drop, replicate, refl, sym, ap, subst, ◌∙◌, arith, get_or-set_same, get_or-set_other}
+use Rattle.std.proofs.Common.{◌≡◌, ℕ, zero, suc, ◌-◌, ◌<◌, Bool, true, false, not, ◌&&◌, ◌||◌, inl, inr, cond, List, [], ◌∷◌, ◌++◌, length, get_or, set, drop, replicate, refl, sym, ap, subst, ◌∙◌, arith, map, Bor, get_or-set_same, get_or-set_other}
 use Rattle.std.specs.Prelude.{nat_eq, nat_lt, slice_get, Some, None}
 use Rattle.std.specs.List.{list_any, IsDistinct, AllByRecursion}
 use Rattle.std.proofs.lemmas.Bool.{eqb-true, eq-eqb, ne_eqb, lt-ltb, false≢true, cases_lt, cases_eq, or_cases}
 use Rattle.std.proofs.lemmas.Cmp.{nat_eq_equiv}
-use Rattle.std.proofs.lemmas.List.{append-nil, length_push, get_or_past}
+use Rattle.std.proofs.lemmas.List.{append-nil, length_push, get_or_past, map_push}
 use Rattle.std.proofs.lemmas.List.Folds.{list_any-append}
 use Rattle.std.proofs.lemmas.Map.Keys.{IsDistinct-push, IsDistinct-head, IsDistinct-tail}
 use Rattle.std.proofs.lemmas.Map.Steps.{length-le_from_distinct_below}
@@ -12,8 +12,11 @@ use Rattle.circular_buffer.specs.Buffer.{Buffer, buffer, keep_last}
 use Rattle.mio.specs.Event.{event_token}
 use Rattle.mio.specs.declared.event.event.Event.{Event}
 use Rattle.nut_poll.specs.declared.ready.TheConstants.{SOCKETS_MAX}
-use Rattle.nut_poll.specs.Queue.{Queue, Looks, is_waiting, joined, all_joined, first_joined, may_be_read, reported}
-use Rattle.nut_poll.proofs.TurnLemmas.{looks_go_on}
+use Rattle.nut_poll.specs.Queue.{Queue, Looks, begun, is_waiting, joined, all_joined, first_joined, reported}
+use Rattle.mio.specs.Events.{items}
+use Rattle.nut_poll.specs.Turns.{Heeds}
+use Rattle.nut_poll.specs.declared.rounds.Rounds.{Rounds}
+use Rattle.nut_poll.specs.inside.TurnLaws.{is_behind, looks_go_on, still_waits}
 
 -- the flags of those that wait
 abbrev pub AreFlags : List Bool → List ℕ → Type 0
@@ -26,7 +29,7 @@ flagged flags n is = elim (cases_lt n (length flags)) [
   | inr past ↦ absurd (false≢true (sym (get_or_past flags n false past) ∙ is))
 ]
 
-is_one : (q n : ℕ) → (nat_eq q n || false) ≡ true → q ≡ n
+pub is_one : (q n : ℕ) → (nat_eq q n || false) ≡ true → q ≡ n
 is_one q n is = elim (nat_eq q n) as (λ b. nat_eq q n ≡ b → (b || false) ≡ true → q ≡ n) [
   | true ↦ λ same _. eqb-true q n same
   | false ↦ λ _ no. absurd (false≢true no)
@@ -104,9 +107,27 @@ pub all_join : (ns : List ℕ) (q : Queue) → Looks [] q (all_joined ns q)
 all_join [] q = ([], sym (append-nil q.waiting))
 all_join (n ∷ ns) q = looks_go_on [] [] q (joined n q) (all_joined ns (joined n q)) (joins n q) (all_join ns (joined n q))
 
+-- nobody is left to come
+pub all_joined_none : (q from : Queue) → length from.waiting ≡ 0 → q ≡ all_joined from.waiting q
+all_joined_none q from none = by_list from.waiting none where
+  by_list : (ns : List ℕ) → length ns ≡ 0 → q ≡ all_joined ns q
+  by_list [] is = refl
+  by_list (n ∷ ns) is = absurd (cc)
+
 pub all_joined-append : (ns ms : List ℕ) (q : Queue) → all_joined (ns ++ ms) q ≡ all_joined ms (all_joined ns q)
 all_joined-append [] ms q = refl
 all_joined-append (n ∷ ns) ms q = all_joined-append ns ms (joined n q)
+
+-- the first may have come
+pub first_may_join : (b : Bool) (n : ℕ) (q after : Queue) → after ≡ cond b (first_joined n q) q → Looks [] q after
+first_may_join true n q after is = subst (Looks [] q) (sym is) (first_join n q)
+first_may_join false n q after is = ([], ap (λ r. r.waiting) is ∙ sym (append-nil q.waiting))
+
+-- and then a round began
+pub first_may_join_round : (b : Bool) (n : ℕ) (q between after : Queue) → between ≡ cond b (first_joined n q) q → after ≡ begun between → Looks [] q after
+first_may_join_round b n q between after is round =
+    let came = first_may_join b n q between is in
+    (came.0, ap (λ r. r.waiting) round ∙ came.1)
 
 -- the first of a list, and the rest
 pub first_of : (items : List ℕ) (n : ℕ) → slice_get items 0 ≡ Some n → items ≡ n ∷ drop 1 items
@@ -124,19 +145,36 @@ is_below flags items n are first =
     flagged flags n (are n ∙ here)
 
 -- one more event
-reported_push : (es : List Event) (e : Event) → reported (es ++ e ∷ []) ≡ reported es ++ cond (may_be_read e) ((event_token e).0 ∷ []) []
-reported_push [] e = refl
-reported_push (x ∷ xs) e = elim (may_be_read x) as (λ b. cond b ((event_token x).0 ∷ reported (xs ++ e ∷ [])) (reported (xs ++ e ∷ []))
-    ≡ cond b ((event_token x).0 ∷ reported xs) (reported xs) ++ cond (may_be_read e) ((event_token e).0 ∷ []) []) [
-      | true ↦ ap (λ ns. (event_token x).0 ∷ ns) (reported_push xs e)
-      | false ↦ reported_push xs e
-    ]
+pub reported_push : (es : List (Bor Event)) (e : Bor Event) → reported (map (λ x. x.now) (es ++ e ∷ [])) ≡ reported (map (λ x. x.now) es) ++ (event_token e.now).0 ∷ []
+reported_push es e = ap reported (map_push (λ (x : Bor Event). x.now) es e)
+    ∙ map_push (λ (x : Event). (event_token x).0) (map (λ x. x.now) es) e.now
 
-pub one_more_reported : (es : List Event) (e : Event) (q : Queue) → all_joined (reported (es ++ e ∷ [])) q
-    ≡ cond (may_be_read e) (joined (event_token e).0 (all_joined (reported es) q)) (all_joined (reported es) q)
-one_more_reported es e q = ap (λ ns. all_joined ns q) (reported_push es e) ∙ all_joined-append (reported es) (cond (may_be_read e) ((event_token e).0 ∷ []) []) q
-    ∙ (elim (may_be_read e) as (λ b. all_joined (cond b ((event_token e).0 ∷ []) []) (all_joined (reported es) q)
-    ≡ cond b (joined (event_token e).0 (all_joined (reported es) q)) (all_joined (reported es) q)) [ true ↦ refl | false ↦ refl ])
+pub one_more_reported : (es : List (Bor Event)) (e : Bor Event) (q : Queue) → joined (event_token e.now).0 (all_joined (reported (map (λ x. x.now) es)) q)
+    ≡ all_joined (reported (map (λ x. x.now) (es ++ e ∷ []))) q
+one_more_reported es e q = sym (ap (λ ns. all_joined ns q) (reported_push es e)
+    ∙ all_joined-append (reported (map (λ x. x.now) es)) ((event_token e.now).0 ∷ []) q)
+
+-- who comes waits, and so do those who waited
+pub joined_waits : (n : ℕ) (q : Queue) → n < SOCKETS_MAX → is_waiting n (joined n q).waiting ≡ true
+joined_waits n q less = by_test (is_waiting n q.waiting) refl where
+  by_test : (b : Bool) → is_waiting n q.waiting ≡ b → is_waiting n (joined n q).waiting ≡ true
+  by_test true is = rw (lt-ltb n SOCKETS_MAX less) (rw is is)
+  by_test false is = rw (lt-ltb n SOCKETS_MAX less) (rw is (is_behind n q.waiting (n ∷ []) (rw (eq-eqb n n refl) refl)))
+
+pub all_wait : (ns : List ℕ) (n : ℕ) (q : Queue) → n < SOCKETS_MAX → is_waiting n ns ≡ true → is_waiting n (all_joined ns q).waiting ≡ true
+all_wait [] n q less is = absurd (false≢true is)
+all_wait (m ∷ ns) n q less is = elim (or_cases (nat_eq n m) (is_waiting n ns) is) [
+  | inl same ↦ still_waits n (joined m q) (all_joined ns (joined m q)) (all_join ns (joined m q))
+      (subst (λ k. is_waiting n (joined k q).waiting ≡ true) (eqb-true n m same) (joined_waits n q less))
+  | inr others ↦ all_wait ns n (joined m q) less others
+]
+
+-- those that the poll reported wait
+pub heeds_reported : (a b : Rounds) → b.ready ≡ all_joined (reported (items b.events)) a.ready → Heeds [] a b
+heeds_reported a b is = (
+  subst (Looks [] a.ready) (sym is) (all_join (reported (items b.events)) a.ready),
+  λ n less here. inr (subst (λ q. is_waiting n q.waiting ≡ true) (sym is) (all_wait (reported (items b.events)) n a.ready less here)),
+)
 
 pub no_flags : (k n : ℕ) → get_or (replicate k false) n false ≡ false
 no_flags zero n = refl

@@ -1,22 +1,12 @@
 -- Nobody is passed over.
-use Rattle.std.proofs.Common.{◌≡◌, ℕ, ◌<◌, Bool, true, false, ◌||◌, cond, List, [], ◌∷◌, ◌++◌, length, refl, sym, ap, subst, ◌∙◌, arith, append_assoc, length-append}
+use Rattle.std.proofs.Common.{◌≡◌, ℕ, ◌<◌, Bool, true, false, ◌||◌, cond, List, [], ◌∷◌, ◌++◌, length, refl, sym, ap, subst, ◌∙◌, arith, length-append}
 use Rattle.std.specs.Prelude.{nat_eq}
 use Rattle.std.specs.List.{filter, IsDistinct, AllByRecursion}
 use Rattle.std.proofs.lemmas.Bool.{eqb-true, eq-eqb, false≢true}
 use Rattle.std.proofs.lemmas.Cmp.{nat_eq_equiv}
 use Rattle.std.proofs.lemmas.Map.Made.{length-le_from_is_member}
 use Rattle.nut_poll.specs.Queue.{is_waiting}
-use Rattle.nut_poll.specs.Turns.{LooksGoOn, NobodyIsPassedOver, EachHasItsTurn, OthersComeOnce}
-
-pub looks_go_on : LooksGoOn
-looks_go_on before after a b c (came, first) (more, then) = (
-  came ++ more,
-  append_assoc before after c.waiting
-      ∙ ap (λ xs. before ++ xs) then
-      ∙ sym (append_assoc before b.waiting more)
-      ∙ ap (λ xs. xs ++ more) first
-      ∙ append_assoc a.waiting came more,
-)
+use Rattle.nut_poll.specs.Turns.{NobodyIsPassedOver, EachHasItsTurn, OthersComeOnce}
 
 passed : (waiting : List ℕ) (one : ℕ) (before after left came : List ℕ) → is_waiting one waiting ≡ false →
     (before ++ one ∷ after) ++ left ≡ waiting ++ came → (more : List ℕ) × (before ≡ waiting ++ more)

@@ -1,7 +1,7 @@
 -- Who waits to be looked at, and in what order.
-use Rattle.std.specs.Prelude.{◌≡◌, ℕ, zero, suc, ◌+◌, ◌&&◌, ◌||◌, Bool, not, nat_eq, nat_lt, List, [], ◌∷◌, ◌++◌, length, Option, Some, None, if◌then◌else◌}
+use Rattle.std.specs.Prelude.{◌≡◌, ℕ, zero, suc, ◌+◌, ◌&&◌, Bool, not, nat_eq, nat_lt, List, [], ◌∷◌, ◌++◌, length, map, Option, Some, None, if◌then◌else◌}
 use Rattle.std.specs.List.{list_any}
-use Rattle.mio.specs.Event.{event_token, is_error, is_read_closed, is_readable}
+use Rattle.mio.specs.Event.{event_token}
 use Rattle.mio.specs.declared.event.event.Event.{Event}
 use Rattle.mio.specs.declared.token.Token.{Token}
 use Rattle.nut_poll.specs.declared.ready.TheConstants.{SOCKETS_MAX}
@@ -24,14 +24,9 @@ abbrev pub all_joined : List ℕ → Queue → Queue
 all_joined [] q = q
 all_joined (n ∷ ns) q = all_joined ns (joined n q)
 
--- whether a read may find something, if only the end of the stream
-abbrev pub may_be_read : Event → Bool
-may_be_read e = is_readable e || is_read_closed e || is_error e
-
--- the tokens of the sources of which events say so
+-- the tokens of the sources that have these events
 abbrev pub reported : List Event → List ℕ
-reported [] = []
-reported (e ∷ es) = if may_be_read e then (event_token e).0 ∷ reported es else reported es
+reported events = map (λ e. (event_token e).0) events
 
 -- the same when the first sources come, so many of them
 abbrev pub first_joined : ℕ → Queue → Queue
@@ -50,7 +45,3 @@ IsTaken (Some token) old new = (old.waiting ≡ token.0 ∷ new.waiting) × (old
 -- These were looked at, in this order: the first of those that waited, and then of those that came.
 abbrev pub Looks : List ℕ → Queue → Queue → Type 0
 Looks looked old new = (came : List ℕ) × (looked ++ new.waiting ≡ old.waiting ++ came)
-
--- Sources were looked at in turn, however many, and others came to wait behind all.
-abbrev pub TakesTurns : Queue → Queue → Type 0
-TakesTurns old new = (looked : List ℕ) × Looks looked old new

@@ -1,7 +1,20 @@
 -- Nobody is passed over: laws of lists of looks.
-use Rattle.std.specs.Prelude.{◌≡◌, ℕ, ◌<◌, false, true, nat_eq, List, ◌∷◌, ◌++◌, length}
+use Rattle.std.specs.Prelude.{◌≡◌, ◌⊎◌, ℕ, ◌<◌, false, true, nat_eq, List, ◌∷◌, ◌++◌, length}
 use Rattle.std.specs.List.{filter, IsDistinct}
-use Rattle.nut_poll.specs.Queue.{Queue, Looks, is_waiting}
+use Rattle.mio.specs.Events.{items}
+use Rattle.nut_poll.specs.Queue.{Queue, Looks, is_waiting, reported}
+use Rattle.nut_poll.specs.declared.ready.TheConstants.{SOCKETS_MAX}
+use Rattle.nut_poll.specs.declared.rounds.Rounds.{Rounds}
+
+-- These were looked at, in this order, and others came to wait behind all. Each source that the last poll reported waits or was
+-- looked at, unless it was reported before.
+abbrev pub Heeds : List ℕ → Rounds → Rounds → Type 0
+Heeds looked old new = Looks looked old.ready new.ready × ((n : ℕ) → n < SOCKETS_MAX → is_waiting n (reported (items new.events)) ≡ true →
+    (new.events ≡ old.events) ⊎ (is_waiting n (looked ++ new.ready.waiting) ≡ true))
+
+-- Sources were looked at in turn, however many, and each that the poll reported waits or was looked at.
+abbrev pub TakesTurns : Rounds → Rounds → Type 0
+TakesTurns old new = (looked : List ℕ) × Heeds looked old new
 
 -- The looks of two runs, one after the other, are those of one run.
 abbrev pub LooksGoOn : Type 0

@@ -21,7 +21,7 @@ pub use link::{Heard, Link};
 pub use look_ups::{ADDRESSES_MAX, Found, HOST_UNKNOWN, LookUps};
 pub use lossy_lines::{ErrorLines, LossyLines, Outlet, OutputLines};
 pub use questions::{Program, Question, Questions};
-pub use ready::{Ready, SOCKETS_MAX, may_be_read};
+pub use ready::{Ready, SOCKETS_MAX};
 pub use reports::Reports;
 pub use rounds::Rounds;
 pub use seconds::Seconds;

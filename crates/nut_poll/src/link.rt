@@ -1,9 +1,10 @@
 //! One end of a connection, whose reads and writes don't block.
 
-ghost use Rattle.std.specs.Prelude.{◌≡◌, ◌≢◌, length, true};
+ghost use Rattle.std.specs.Prelude.{◌≡◌, ◌≢◌, length, true, false};
 ghost use Rattle.nut_io.specs.Writes.{IsWithin, Takes};
 ghost use Rattle.nut_poll.specs.Hearing.{IsHeard};
 ghost use Rattle.nut_poll.specs.declared.link.Heard.TheVariants as heard;
+ghost use Rattle.nut_words.specs.declared.limits.TheConstants.{PIECE_MAX};
 
 use mio::event::Event;
 use nut_io::{Piece, Written, read_piece, write_some};
@@ -33,29 +34,37 @@ pub struct Link<S> {
     reads_on: bool,
     /// Whether the other end sent urgent data. A read stops before it, and no event comes of what follows it.
     is_urgent: bool,
+    /// Whether a read may find something: an event came, or a read left something, and no read has found since that no more is
+    /// there.
+    has_more: bool,
 }
 
 impl<S: Read + Write> Link<S> {
     /// Returns one end of a connection that was just made.
-    pub fn new(stream: S) -> Link<S> {
+    pub fn new(stream: S) -> Link<S>
+        ensures { result.has_more ≡ false }
+    {
         Link {
             stream,
             takes: true,
             reads_on: false,
             is_urgent: false,
+            has_more: false,
         }
     }
 
     /// Returns one end of a connection over a Unix socket that was just made. Linux ends a read there behind a message with
     /// descriptors or credentials, so it is read until nothing is left.
     pub fn local(stream: S) -> Link<S>
-        ensures { result.reads_on ≡ true }
+        ensures reads_on { result.reads_on ≡ true }
+        ensures more { result.has_more ≡ false }
     {
         Link {
             stream,
             takes: true,
             reads_on: true,
             is_urgent: false,
+            has_more: false,
         }
     }
 
@@ -64,14 +73,25 @@ impl<S: Read + Write> Link<S> {
         &self.stream
     }
 
+    /// Whether a read may find something, if only that the other end has ended: an event came, or a read left something, and
+    /// no read has found since that no more is there.
+    pub fn has_more(&self) -> bool
+        ensures { result ≡ self.now.has_more }
+    {
+        self.has_more
+    }
+
     /// Reads what is there, up to a piece. Less than a piece means that all was read, except on a Unix socket, or if the
     /// other end has ended or sent urgent data. Urgent data itself is skipped.
     pub fn hear(&mut self, piece: &mut Piece) -> Heard
         ensures heard { IsHeard result piece.new.items (S.remaining self.old.stream) (S.remaining self.new.stream) }
         ensures left { self.old.reads_on ≡ true → result ≢ heard.All }
+        ensures short { result ≡ heard.All → (length piece.new.items ≢ PIECE_MAX) × (self.old.is_urgent ≡ false) }
+        ensures part { result ≡ heard.Part → self.new.has_more ≡ true }
+        ensures rest { result ≢ heard.Part → self.new.has_more ≡ false }
         ensures goes_on { self.new.reads_on ≡ self.old.reads_on }
     {
-        match read_piece(&mut self.stream, piece) {
+        let heard = match read_piece(&mut self.stream, piece) {
             Ok(0) => Heard::End,
             Ok(n) if n == piece.capacity() || self.reads_on || self.is_urgent => Heard::Part,
             Ok(_) => Heard::All,
@@ -80,14 +100,16 @@ impl<S: Read + Write> Link<S> {
                 Heard::Nothing
             }
             Err(_) => Heard::End,
-        }
+        };
+        self.has_more = heard == Heard::Part;
+        heard
     }
 
     /// Offers at least one byte, and returns the outcome.
     pub fn offer(&mut self, bytes: &[u8]) -> Written
         ensures within { IsWithin result (length bytes.now) }
         ensures takes { Takes result bytes.now (S.contents self.old.stream) (S.contents self.new.stream) }
-        ensures goes_on { self.new.reads_on ≡ self.old.reads_on }
+        ensures goes_on { (self.new.reads_on ≡ self.old.reads_on) × (self.new.has_more ≡ self.old.has_more) }
     {
         if !self.takes {
             return Written::Later;
@@ -106,7 +128,9 @@ impl<S: Read + Write> Link<S> {
     /// Notes an event of the stream.
     pub fn note(&mut self, event: &Event)
         ensures goes_on { self.old.reads_on ≡ true → self.new.reads_on ≡ true }
+        ensures more { self.new.has_more ≡ true }
     {
+        self.has_more = true;
         if event.is_writable() || event.is_write_closed() || event.is_error() {
             self.takes = true;
         }

@@ -2,11 +2,11 @@
 
 ghost use Rattle.std.specs.Prelude.{◌≡◌, ◌∷◌, ℕ, [], IfOk, IfSome, length, nat_eq, false, slice_index_or};
 ghost use Rattle.std.specs.List.{IsDistinct};
-ghost use Rattle.nut_poll.specs.Queue.{IsTaken, Looks, begun, first_joined, is_waiting, joined, may_be_read};
+ghost use Rattle.mio.specs.Events.{items};
+ghost use Rattle.nut_poll.specs.Queue.{IsTaken, Looks, all_joined, begun, first_joined, is_waiting, joined, reported};
 
 use circular_buffer::HeapCircularBuffer;
-use mio::Token;
-use mio::event::Event;
+use mio::{Events, Token};
 use std::alloc::{AllocError, Global};
 use std::marker::Model;
 
@@ -79,12 +79,22 @@ impl Ready {
         }
     }
 
+    /// Queues the sources of these events for the next round.
+    pub fn insert_all(&mut self, events: &Events)
+        ensures { self.new ≡ all_joined (reported (items events.now)) self.old }
+    {
+        for event in events.iter() {
+            self.insert(event.token());
+        }
+    }
+
     /// Queues the tokens of another set for the next round, and empties that set.
     pub fn append(&mut self, other: &mut Ready)
-        ensures { Looks [] self.old self.new }
+        ensures joined { self.new ≡ all_joined other.old.waiting self.old }
+        ensures comes { Looks [] self.old self.new }
     {
         other.turn();
-        for _ in 0..SOCKETS_MAX {
+        for _taken in 0..other.round {
             let Some(token) = other.take() else {
                 return;
             };
@@ -133,11 +143,4 @@ fn none_queued() -> [bool; SOCKETS_MAX]
     ensures { (n : ℕ) → slice_index_or result n false ≡ false }
 {
     [false; SOCKETS_MAX]
-}
-
-/// Whether a read may find something, if only the end of the stream.
-pub fn may_be_read(event: &Event) -> bool
-    ensures { result ≡ may_be_read event.now }
-{
-    event.is_readable() || event.is_read_closed() || event.is_error()
 }

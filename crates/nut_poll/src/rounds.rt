@@ -1,9 +1,11 @@
 //! Waits for many sockets.
 
-ghost use Rattle.std.specs.Prelude.{◌≡◌, [], IfOk};
+ghost use Rattle.std.specs.Prelude.{◌≡◌, [], IfOk, nat_lt, if◌then◌else◌};
 ghost use Rattle.std.specs.declared.time.Duration.{Duration};
-ghost use Rattle.nut_poll.specs.Moments.{Begins, IsTold};
-ghost use Rattle.nut_poll.specs.Queue.{Looks, begun};
+ghost use Rattle.nut_poll.specs.Moments.{Begins, IsTold, whole_seconds};
+ghost use Rattle.mio.specs.Events.{items};
+ghost use Rattle.nut_poll.specs.Queue.{Looks, all_joined, begun, first_joined, reported};
+ghost use Rattle.nut_poll.specs.Turns.{Heeds};
 
 use crate::ready::Ready;
 use crate::seconds::Seconds;
@@ -67,26 +69,30 @@ impl Rounds {
         self.poll.registry()
     }
 
-    /// Waits until an event comes or a second is over, or not at all if there is more to look at.
+    /// Waits until an event comes or a second is over, or not at all if there is more to look at. The sources of the events
+    /// then come to wait.
     ///
     /// # Errors
     ///
-    /// The error of the wait.
+    /// The error of the wait. There is no event then.
     pub fn wait(&mut self) -> io::Result<()>
-        ensures ready { self.new.ready ≡ self.old.ready }
+        ensures ready { self.new.ready ≡ all_joined (reported (items self.new.events)) self.old.ready }
+        ensures heeds { Heeds [] self.old self.new }
         ensures clock { (self.new.seconds ≡ self.old.seconds) × (self.new.fixed ≡ self.old.fixed) }
     {
         let ahead = self.seconds.ahead();
         self.wait_for(ahead)
     }
 
-    /// Waits until an event comes, at most this long, or not at all if there is more to look at.
+    /// Waits until an event comes, at most this long, or not at all if there is more to look at. The sources of the events then
+    /// come to wait.
     ///
     /// # Errors
     ///
-    /// The error of the wait.
+    /// The error of the wait. There is no event then.
     pub fn wait_for(&mut self, patience: Duration) -> io::Result<()>
-        ensures ready { self.new.ready ≡ self.old.ready }
+        ensures ready { self.new.ready ≡ all_joined (reported (items self.new.events)) self.old.ready }
+        ensures heeds { Heeds [] self.old self.new }
         ensures clock { (self.new.seconds ≡ self.old.seconds) × (self.new.fixed ≡ self.old.fixed) }
     {
         let patience = if self.ready.is_empty() {
@@ -94,7 +100,36 @@ impl Rounds {
         } else {
             Duration::ZERO
         };
-        self.poll.poll(&mut self.events, Some(patience))
+        let result = self.poll.poll(&mut self.events, Some(patience));
+        self.ready.insert_all(&self.events);
+        result
+    }
+
+    /// Looks at the clock, and returns whether one more second is over. Tokens 0 to `fixed` - 1 come to wait then.
+    ///
+    /// # Errors
+    ///
+    /// The error of the clock.
+    pub fn look_at_clock(&mut self, clock: &impl Clock) -> io::Result<bool>
+        ensures second { IfOk result (λ is_over. self.new.ready ≡ (if is_over then first_joined self.old.fixed self.old.ready else self.old.ready)) }
+        ensures heeds { Heeds [] self.old self.new }
+    {
+        let passed = self.seconds.elapsed(clock)?;
+        Ok(self.look_at(passed))
+    }
+
+    /// Does what [`look_at_clock`](Self::look_at_clock) does, when so much time has passed.
+    fn look_at(&mut self, passed: Duration) -> bool
+        ensures more { result ≡ nat_lt self.old.seconds.full (whole_seconds passed) }
+        ensures full { self.new.seconds.full ≡ (if result then whole_seconds passed else self.old.seconds.full) }
+        ensures ready { self.new.ready ≡ (if result then first_joined self.old.fixed self.old.ready else self.old.ready) }
+        ensures rest { (self.new.events ≡ self.old.events) × (self.new.fixed ≡ self.old.fixed) }
+    {
+        let is_over = self.seconds.look_at(passed);
+        if is_over {
+            self.ready.insert_first(self.fixed);
+        }
+        is_over
     }
 
     /// Begins the next round. Returns the number of seconds since the start, if one more is over.
@@ -121,12 +156,13 @@ impl Rounds {
         ensures second { IsTold result self.old.seconds.full self.new.seconds.full }
         ensures events { self.new.events ≡ self.old.events }
     {
-        let moment = self.seconds.pass_at(passed);
-        if moment.is_some() {
-            self.ready.insert_first(self.fixed);
-        }
+        let is_over = self.look_at(passed);
         self.begin();
-        moment
+        if is_over {
+            Some(self.seconds.hand_out_last())
+        } else {
+            None
+        }
     }
 
     /// Begins the next round.

@@ -65,17 +65,33 @@ impl Seconds {
 
     /// Returns how many seconds are over when so much time has passed, if that is more than was handed out
     /// before.
-    pub fn pass_at(&mut self, passed: Duration) -> Option<u64>
+    fn pass_at(&mut self, passed: Duration) -> Option<u64>
         ensures moment { result ≡ moment_at self.old.full passed }
         ensures told { IsTold result self.old.full self.new.full }
     {
-        if !self.look_at(passed) {
-            return None;
+        if self.look_at(passed) {
+            Some(self.hand_out_last())
+        } else {
+            None
         }
+    }
+
+    /// Hands out the last second that is over, and forgets those that were missed before it.
+    pub(crate) fn hand_out_last(&mut self) -> u64
+        ensures last { result ≡ self.old.full }
+        ensures full { self.new.full ≡ self.old.full }
+    {
         self.untold = 0;
         self.told = self.full;
         self.is_due = false;
-        Some(self.full)
+        self.full
+    }
+
+    /// Returns the second that was handed out last, or 0.
+    pub fn told(&self) -> u64
+        ensures { result ≡ self.now.told }
+    {
+        self.told
     }
 
     /// Notes how much time has passed. Returns whether more seconds are over than when that was last noted.

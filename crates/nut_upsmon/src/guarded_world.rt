@@ -5,7 +5,7 @@ ghost use Rattle.nut_conf.specs.declared.upsmon.MonConfig.{MonConfig};
 ghost use Rattle.nut_monitor_loop.specs.Record.{Entry};
 ghost use Rattle.nut_monitor_loop.specs.Watched.{handed};
 ghost use Rattle.nut_monitor_sockets.specs.Handing.{HandsOn};
-ghost use Rattle.nut_poll.specs.Queue.{TakesTurns};
+ghost use Rattle.nut_poll.specs.Turns.{TakesTurns};
 ghost use Rattle.nut_poll.specs.inside.TurnLaws.{turns_on, turns_self};
 ghost use Rattle.nut_upsmon.specs.declared.beginning.Beginning.{Beginning as Begins};
 ghost use Rattle.nut_upsmon.specs.Acts.{Act, Changed, TriedFlag, RanShutdown, IfTold, does};
@@ -91,11 +91,11 @@ where
 
     ghost held = { λ w. w.held_losses.lines.items };
 
-    ghost turns = { λ a b. TakesTurns a.links.rounds.ready b.links.rounds.ready };
+    ghost turns = { λ a b. TakesTurns a.links.rounds b.links.rounds };
 
-    ghost turns_self = { λ w. turns_self w.links.rounds.ready };
+    ghost turns_self = { λ w. turns_self w.links.rounds };
 
-    ghost turns_on = { λ a b c first second. turns_on a.links.rounds.ready b.links.rounds.ready c.links.rounds.ready first second };
+    ghost turns_on = { λ a b c first second. turns_on a.links.rounds b.links.rounds c.links.rounds first second };
 
     ghost tells = { λ config a b entries did. did.0 };
 

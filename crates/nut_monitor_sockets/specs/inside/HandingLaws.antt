@@ -1,5 +1,5 @@
 -- What is handed on by calls after calls.
-use Rattle.std.specs.Prelude.{◌≡◌, ◌≢◌, ℕ, List, [], ◌∷◌, ◌++◌, map}
+use Rattle.std.specs.Prelude.{◌≡◌, ℕ, List, [], ◌∷◌, ◌++◌, map}
 use Rattle.std.proofs.Common.{sym, subst, ◌∙◌, ap, append_assoc, append-nil}
 use Rattle.nut_monitor_spec.specs.declared.Notice.{Notice}
 use Rattle.nut_io.specs.declared.types.Written.{Written}

@@ -1,4 +1,5 @@
-use Rattle.nut_poll.proofs.TurnLemmas.{each_has_its_turn, looks_go_on, nobody_is_passed_over, others_come_once}
+use Rattle.nut_poll.specs.inside.TurnLaws.{looks_go_on}
+use Rattle.nut_poll.proofs.TurnLemmas.{each_has_its_turn, nobody_is_passed_over, others_come_once}
 use Rattle.nut_poll.proofs.turns.nobody_is_passed_over.Goals as goal
 
 pub returns-clause-goes_on : goal.returns-clause-goes_on

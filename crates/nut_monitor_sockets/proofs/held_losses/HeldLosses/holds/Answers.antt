@@ -1,4 +1,4 @@
-use Rattle.std.proofs.Common.{◌≡◌, ◌++◌, ◌∷◌, [], map, ap, sym, subst, ◌∙◌, if◌then◌else◌}
+use Rattle.std.proofs.Common.{◌++◌, ◌∷◌, [], map, ap, sym, subst, ◌∙◌, if◌then◌else◌}
 use Rattle.nut_conf.specs.declared.notice.Notice.TheVariants.{Commbad, Commok}
 use Rattle.nut_monitor_sockets.specs.Handing.{StandFor, back, lost}
 use Rattle.nut_monitor_sockets.proofs.Held.{absent, held_more, is_notice, of_notice, released}

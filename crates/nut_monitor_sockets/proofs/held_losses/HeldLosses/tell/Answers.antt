@@ -1,4 +1,4 @@
-use Rattle.std.proofs.Common.{◌≡◌, List, [], ◌∷◌, ◌++◌, map, ap, sym, subst, append_assoc, append-nil, refl, ◌∙◌}
+use Rattle.std.proofs.Common.{List, [], ◌∷◌, ◌++◌, map, sym, append-nil}
 use Rattle.nut_monitor_spec.specs.declared.Notice.{Notice}
 use Rattle.nut_monitor_sockets.specs.Handing.{StandFor, all, lost}
 use Rattle.nut_monitor_sockets.proofs.Held.{told_before}

@@ -5,5 +5,5 @@ use Rattle.nut_monitor_sockets.proofs.mio_mon_world.MioMonWorldMonWorld.told.Goa
 pub returns-in-LinkBytes-clause-did : goal.returns-in-LinkBytes-clause-did
 returns-in-LinkBytes-clause-did g c = λ w before awaits. (
   awaits.0,
-  turns_on w.links.rounds.ready c.args.self.now.links.rounds.ready c.told.new.self.rounds.ready awaits.1 ([], c.told.ensures),
+  turns_on w.links.rounds c.args.self.now.links.rounds c.told.new.self.rounds awaits.1 ([], c.told.ensures),
 )
