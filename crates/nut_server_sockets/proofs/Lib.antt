@@ -1,4 +1,5 @@
 mod BatchLemmas
+mod HeedLemmas
 mod SeatLemmas
 mod TurnLemmas
 mod LateLemmas

@@ -10,7 +10,7 @@ use Rattle.std.specs.Result.{result_ok}
 use Rattle.std.proofs.lemmas.Bool.{cases_lt}
 use Rattle.std.proofs.lemmas.Cmp.{ranked}
 use Rattle.std.proofs.lemmas.List.Edits.{length-remove, get_or-remove_below, get_or-remove_above}
-use Rattle.slab.specs.Slab.{Slab, get, Updates}
+use Rattle.slab.specs.Slab.{Slab, Updates}
 use Rattle.nut_server_sockets.specs.declared.client.Client.{Client}
 use Rattle.nut_server.specs.Seats.{are_right, is_stranger}
 use Rattle.nut_server_spec.specs.Acceptance.{has_login, session_of}

@@ -1,5 +1,5 @@
--- Whose socket is whose, and which connections are closed unasked.
-use Rattle.std.specs.Prelude.{◌≡◌, ◌≢◌, ◌⊎◌, ◌<◌, ◌+◌, ◌==◌, ℕ, Bool, true, false, if◌then◌else◌, Option, Some, None, option_map}
+-- Whose socket is whose, which clients are due for a read, and which connections are closed unasked.
+use Rattle.std.specs.Prelude.{◌≡◌, ◌≢◌, ◌⊎◌, ◌<◌, ◌+◌, ◌==◌, ◌&&◌, ◌||◌, not, ℕ, Bool, true, false, is_some, if◌then◌else◌, Option, Some, None, option_map}
 use Rattle.std.specs.Option.{option_map_or}
 use Rattle.slab.specs.Slab.{Slab, get}
 use Rattle.nut_server.specs.Seats.{is_stranger, makes_way}
@@ -23,6 +23,10 @@ HasBesides c more fewer = (key : ℕ) → (number_at fewer key ≡ number_at mor
 -- Nothing was done to the socket of another connection than this one.
 abbrev pub TouchesOnly : ℕ → Slab Client → Slab Client → Type 0
 TouchesOnly c old new = (key : ℕ) → (number_at new key ≡ number_at old key) × (number_at old key ≢ Some c → get new key ≡ get old key)
+
+-- whether a read of this client may find something, and isn't put off until it takes some of an answer
+abbrev pub is_due : Client → Bool
+is_due k = not k.is_parked && (k.link.has_more || is_some k.held)
 
 -- whether the client of this connection isn't logged in, and has not given the name and the password of a user
 abbrev pub is_stranger_at : Content → ℕ → Bool

@@ -1,14 +1,17 @@
 -- Who is looked at before something comes, and when a second is told.
-use Rattle.std.specs.Prelude.{◌≡◌, ◌⊎◌, ℕ, ◌+◌, Option, Some, None, List, [], ◌∷◌, ◌++◌}
+use Rattle.std.specs.Prelude.{◌≡◌, ◌⊎◌, ℕ, ◌+◌, ◌<◌, nat_lt, ◌&&◌, ◌||◌, true, false, Option, Some, None, List, [], ◌∷◌, ◌++◌}
+use Rattle.std.specs.Option.{option_map_or}
 use Rattle.nut_conf.specs.declared.limits.TheConstants.{LISTENERS_MAX}
 use Rattle.nut_poll.specs.Moments.{IsTold}
-use Rattle.nut_poll.specs.Queue.{Looks}
+use Rattle.nut_poll.specs.Queue.{is_waiting}
+use Rattle.nut_poll.specs.Turns.{Heeds, TakesTurns}
+use Rattle.nut_poll.specs.declared.ready.TheConstants.{SOCKETS_MAX}
 use Rattle.nut_poll.specs.declared.rounds.Rounds.{Rounds}
 use Rattle.nut_server_loop.specs.declared.types.Next.{Next}
 use Rattle.nut_server_loop.specs.declared.types.Next.TheVariants.{Moment, Bytes, Close, DriverBytes}
 use Rattle.nut_server_spec.specs.Content.{Content}
-use Rattle.slab.specs.Slab.{Slab}
-use Rattle.nut_server_sockets.specs.Seats.{HasBesides, IsSilent, KeepsSeats, MakesWay, number_at}
+use Rattle.slab.specs.Slab.{Slab, get}
+use Rattle.nut_server_sockets.specs.Seats.{HasBesides, IsSilent, KeepsSeats, MakesWay, is_due, number_at}
 use Rattle.nut_server_sockets.specs.declared.client.Client as client
 use Rattle.nut_server_sockets.specs.declared.sockets.Sockets.{Sockets}
 use Rattle.nut_server_sockets.specs.declared.source.Source.{Source}
@@ -58,11 +61,22 @@ LeavesOthers n old new = KeepsSeats old new
 
 -- Sources came to wait behind all others, and the clock wasn't looked at.
 abbrev pub Comes : Rounds → Rounds → Type 0
-Comes old new = Looks [] old.ready new.ready × (new.seconds ≡ old.seconds)
+Comes old new = Heeds [] old new × (new.seconds ≡ old.seconds)
 
 -- Sources were looked at in turn until this came, of the last of them or of none. A second was told as soon as the clock was seen
--- to be past it.
+-- to be past it. A driver of which a piece was read waits for the next look.
 abbrev pub ComesInTurn : Sockets → Content → Next → Sockets → Type 0
 ComesInTurn old s n new =
-    ((looked : List ℕ) × Looks looked old.rounds.ready new.rounds.ready × (IsUnasked old s n ⊎ IsOfLast old.clients.sockets s n looked))
+    ((looked : List ℕ) × Heeds looked old.rounds new.rounds × (IsUnasked old s n ⊎ IsOfLast old.clients.sockets s n looked))
     × IsTold (moment_of n) old.rounds.seconds.full new.rounds.seconds.full
+    × ((u : ℕ) → n ≡ DriverBytes u → LISTENERS_MAX + u < SOCKETS_MAX → is_waiting (LISTENERS_MAX + u) new.rounds.ready.waiting ≡ true)
+
+-- If the client with this key is due, it waits in the queue, or is put aside until drivers were heard.
+abbrev pub IsHeeded : Sockets → ℕ → Type 0
+IsHeeded s key = FIXED_MAX + key < SOCKETS_MAX → option_map_or is_due (get s.clients.sockets key) false ≡ true →
+    (is_waiting (FIXED_MAX + key) s.rounds.ready.waiting
+    || (nat_lt 0 s.stall.seconds && is_waiting (FIXED_MAX + key) s.stall.clients.waiting)) ≡ true
+
+-- Sources were looked at in turn, however many, and each client that was heeded is so still.
+abbrev pub GoesOn : Sockets → Sockets → Type 0
+GoesOn old new = TakesTurns old.rounds new.rounds × ((key : ℕ) → IsHeeded old key → IsHeeded new key)

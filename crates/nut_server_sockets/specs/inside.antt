@@ -1,2 +1,4 @@
+pub mod Due
 pub mod Keys
 pub mod Looking
+pub mod TurnLaws

@@ -1,6 +1,7 @@
 //! Reports to the operator who did what: who changed something, who logged in and out, and who was refused.
 
 ghost use Rattle.nut_server_sockets.specs.Seats.{KeepsSeats};
+ghost use Rattle.nut_server_sockets.specs.inside.Due.{NoMoreAreDue};
 
 use crate::clients::Clients;
 use crate::deed_report::{DeedReport, Who};
@@ -21,7 +22,8 @@ pub fn tell_deed(
     denials: &mut Denials,
     reports: &mut Reports<'_>,
 )
-    ensures { KeepsSeats clients.old.sockets clients.new.sockets }
+    ensures seats { KeepsSeats clients.old.sockets clients.new.sockets }
+    ensures due { NoMoreAreDue clients.old.sockets clients.new.sockets }
 {
     let who = Who {
         user: text_of(deed.user.as_slice()),

@@ -1,8 +1,9 @@
 //! The socket of a client.
 
-ghost use Rattle.std.specs.Prelude.{◌≡◌, ◌+◌, ◌-◌, ◌^◌, ◌<◌, ◌≤◌, ◌==◌, min, length};
+ghost use Rattle.std.specs.Prelude.{◌≡◌, ◌+◌, ◌-◌, ◌^◌, ◌<◌, ◌≤◌, ◌==◌, false, true, min, length};
 ghost use Rattle.nut_io.specs.Writes.{IsWithin};
-ghost use Rattle.nut_server_sockets.specs.Seats.{allowed_silence, last_heard};
+ghost use Rattle.nut_poll.specs.declared.link.Heard.TheVariants.{Part};
+ghost use Rattle.nut_server_sockets.specs.Seats.{allowed_silence, is_due, last_heard};
 
 use crate::batches::Batches;
 use mio::event::Event;
@@ -42,7 +43,8 @@ pub struct Client {
 impl Client {
     /// Returns a client that connects in this second, counted from 1.
     pub fn new(number: u64, address: IpAddr, stream: TcpStream, second: u64) -> Client
-        ensures { result.number ≡ number }
+        ensures number { result.number ≡ number }
+        ensures due { is_due result ≡ false }
     {
         Client {
             number,
@@ -71,14 +73,14 @@ impl Client {
 
     /// Notes that it is logged in: its login has this key.
     pub fn note_login(&mut self, key: usize)
-        ensures { self.new.number ≡ self.old.number }
+        ensures { self.new ≡ record self.old { login = self.new.login } }
     {
         self.login = Some(key);
     }
 
     /// Returns the key of its login, if it had one, which has ended.
     pub fn end_login(&mut self) -> Option<usize>
-        ensures { self.new.number ≡ self.old.number }
+        ensures { self.new ≡ record self.old { login = self.new.login } }
     {
         self.login.take()
     }
@@ -86,7 +88,8 @@ impl Client {
     /// Reads up to a piece, and returns as much of it as the server is given at once. The rest is held, and returned
     /// before anything more is read. If there is no room to hold it, that is the end of the connection.
     pub fn hear(&mut self, piece: &mut Piece, held: &mut Slab<Piece>, second: u64) -> Heard
-        ensures { self.new.number ≡ self.old.number }
+        ensures number { self.new.number ≡ self.old.number }
+        ensures left { is_due self.new ≡ true → result ≡ Part }
     {
         let heard = match self.held.take() {
             Some(key) => take_held(held, key, piece),
@@ -106,6 +109,7 @@ impl Client {
         }
         self.held = hold(held, later);
         if self.held.is_none() {
+            self.park();
             return Heard::End;
         }
         piece.truncate(end);
@@ -121,7 +125,8 @@ impl Client {
 
     /// Puts off reading until a write to the client succeeds.
     pub fn park(&mut self)
-        ensures { self.new.number ≡ self.old.number }
+        ensures number { self.new.number ≡ self.old.number }
+        ensures due { is_due self.new ≡ false }
     {
         self.is_parked = true;
     }
@@ -130,6 +135,7 @@ impl Client {
     pub fn offer(&mut self, bytes: &[u8], second: u64) -> (Written, bool)
         ensures within { IsWithin result.0 (length bytes.now) }
         ensures number { self.new.number ≡ self.old.number }
+        ensures due { result.1 ≡ false → is_due self.new ≡ is_due self.old }
     {
         let written = self.link.offer(bytes);
         let Written::Took(_) = written else {
@@ -143,7 +149,8 @@ impl Client {
 
     /// Notes an event of the socket.
     pub fn note(&mut self, event: &Event)
-        ensures { self.new.number ≡ self.old.number }
+        ensures number { self.new.number ≡ self.old.number }
+        ensures more { self.new.link.has_more ≡ true }
     {
         self.link.note(event);
     }
@@ -199,7 +206,9 @@ fn hold(held: &mut Slab<Piece>, bytes: &[u8]) -> Option<usize> {
 
 /// Puts the bytes that are held under this key into the piece. There may be more to read.
 #[inline(never)]
-fn take_held(held: &mut Slab<Piece>, key: usize, piece: &mut Piece) -> Heard {
+fn take_held(held: &mut Slab<Piece>, key: usize, piece: &mut Piece) -> Heard
+    ensures { result ≡ Part }
+{
     piece.clear();
     if let Some(bytes) = held.try_remove(key) {
         let _ = piece.try_extend_from_slice(bytes.as_slice());

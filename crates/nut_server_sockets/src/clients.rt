@@ -1,10 +1,13 @@
 //! The sockets of clients.
 
-ghost use Rattle.std.specs.Prelude.{◌≡◌, ◌<◌, false, true, length, slice_index_or, Some, IfSome, OnErr};
+ghost use Rattle.std.specs.Prelude.{◌≡◌, ◌≢◌, ◌⊎◌, ◌<◌, ℕ, false, true, length, slice_index_or, Some, None, IfOk, IfSome, IsSomeAnd, OnErr};
 ghost use Rattle.nut_io.specs.Writes.{IsWithin};
 ghost use Rattle.nut_server_spec.specs.Acceptance.{has_login, may_read, session_of};
 ghost use Rattle.nut_server_sockets.specs.Seats.{HasBesides, IsSilent, KeepsSeats, MakesWay, TouchesOnly, is_stranger_at, number_at};
 ghost use Rattle.nut_server_sockets.specs.inside.Keys.{AreApart, AreNamed};
+ghost use Rattle.nut_server_sockets.specs.inside.Due.{ChangesOnly, HasMore, NoMoreAreDue, is_due_at};
+ghost use Rattle.nut_poll.specs.declared.link.Heard.TheVariants.{Part};
+ghost use Rattle.slab.specs.Slab.{get};
 
 use crate::client::{Client, PATIENCE};
 use crate::door::Guest;
@@ -68,7 +71,9 @@ impl Clients {
     /// # Errors
     ///
     /// [`AllocError`] if memory cannot be allocated.
-    pub fn with_room(alloc: Global) -> Result<Clients, AllocError> {
+    pub fn with_room(alloc: Global) -> Result<Clients, AllocError>
+        ensures { IfOk result (λ clients. (key : ℕ) → get clients.sockets key ≡ None) }
+    {
         Ok(Clients {
             sockets: Slab::with_capacity(alloc, CLIENTS_MAX)?,
             keys: Vec::with_capacity(alloc, CLIENTS_MAX)?,
@@ -89,6 +94,7 @@ impl Clients {
     pub fn add(&mut self, registry: &Registry, number: u64, guest: Guest) -> io::Result<()>
         ensures seats { HasBesides number self.new.sockets self.old.sockets }
         ensures err { OnErr result (KeepsSeats self.old.sockets self.new.sockets) }
+        ensures due { NoMoreAreDue self.old.sockets self.new.sockets }
     {
         let Guest {
             mut stream,
@@ -138,6 +144,10 @@ impl Clients {
         ensures may { IfSome result (λ heard. may_read (session_of heard.0 server.now.sessions) ≡ true) }
         ensures seat { IfSome result (λ heard. number_at self.new.sockets key ≡ Some heard.0) }
         ensures seats { KeepsSeats self.old.sockets self.new.sockets }
+        ensures others { ChangesOnly key self.old.sockets self.new.sockets }
+        ensures put_off { result ≡ None → IfSome (number_at self.old.sockets key)
+            (λ c. may_read (session_of c server.now.sessions) ≡ false) }
+        ensures left { is_due_at self.new.sockets key ≡ true → IsSomeAnd result (λ heard. heard.1 ≡ Part) }
     {
         let client = self.sockets.get_mut(key)?;
         let number = client.number();
@@ -151,7 +161,9 @@ impl Clients {
 
     /// Notes an event of a socket.
     pub fn note(&mut self, key: usize, event: &Event)
-        ensures { KeepsSeats self.old.sockets self.new.sockets }
+        ensures seats { KeepsSeats self.old.sockets self.new.sockets }
+        ensures others { ChangesOnly key self.old.sockets self.new.sockets }
+        ensures more { HasMore self.new.sockets key }
     {
         if let Some(client) = self.sockets.get_mut(key) {
             client.note(event);
@@ -162,6 +174,7 @@ impl Clients {
     pub fn offer(&mut self, number: u64, bytes: &[u8]) -> (Written, Option<usize>)
         ensures within { IsWithin result.0 (length bytes.now) }
         ensures others { TouchesOnly number self.old.sockets self.new.sockets }
+        ensures due { (key : ℕ) → result.1 ≢ Some key → is_due_at self.new.sockets key ≡ is_due_at self.old.sockets key }
     {
         let Some(key) = self.key(number) else {
             return (Written::Failed, None);
@@ -238,7 +251,8 @@ impl Clients {
 
     /// Notes that the client of a connection is logged in.
     pub fn note_login(&mut self, number: u64, login: Login)
-        ensures { KeepsSeats self.old.sockets self.new.sockets }
+        ensures seats { KeepsSeats self.old.sockets self.new.sockets }
+        ensures due { NoMoreAreDue self.old.sockets self.new.sockets }
     {
         if let Some(key) = self.key(number)
             && let Some(client) = self.sockets.get_mut(key)
@@ -250,7 +264,8 @@ impl Clients {
 
     /// Returns the login of the client of a connection, if it had one, which has ended.
     pub fn end_login(&mut self, number: u64) -> Option<Login>
-        ensures { KeepsSeats self.old.sockets self.new.sockets }
+        ensures seats { KeepsSeats self.old.sockets self.new.sockets }
+        ensures due { NoMoreAreDue self.old.sockets self.new.sockets }
     {
         let key = self.key(number)?;
         let login = self.sockets.get_mut(key)?.end_login()?;
@@ -259,7 +274,8 @@ impl Clients {
 
     /// Closes the socket of a connection, and forgets what is held of its client. Returns the login of that, if it has one.
     pub fn close(&mut self, number: u64) -> Option<Login>
-        ensures { HasBesides number self.old.sockets self.new.sockets }
+        ensures others { HasBesides number self.old.sockets self.new.sockets }
+        ensures due { NoMoreAreDue self.old.sockets self.new.sockets }
     {
         let place = self.place(number)?;
         let (_, key) = self.keys.remove(place);

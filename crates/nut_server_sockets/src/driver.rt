@@ -28,8 +28,6 @@ pub struct Driver {
     missed: Option<ErrorKind>,
     /// Whether clients wait until the driver says something.
     is_awaited: bool,
-    /// Whether the last read may have left something.
-    has_more: bool,
     /// Whether the data of the UPS were stale when that was last noted since the driver was connected.
     is_stale: bool,
     /// Whether it was noted that a shutdown of the UPS is forced.
@@ -61,7 +59,6 @@ impl Driver {
             link: None,
             missed: None,
             is_awaited: false,
-            has_more: false,
             is_stale: false,
             is_forced: false,
             unread_told: 0,
@@ -158,7 +155,7 @@ impl Driver {
 
     /// Whether clients wait until the driver says something and all of that is read.
     pub fn is_awaited(&self) -> bool {
-        self.is_awaited || self.has_more
+        self.is_awaited || matches!(&self.link, Some(link) if link.has_more())
     }
 
     /// Reads from the driver.
@@ -167,7 +164,6 @@ impl Driver {
             return Heard::Nothing;
         };
         let heard = link.hear(piece);
-        self.has_more = heard == Heard::Part;
         if heard != Heard::Nothing {
             self.is_awaited = false;
         }
@@ -199,7 +195,6 @@ impl Driver {
     pub fn end(&mut self, end: End, reports: &mut Reports<'_>) {
         if self.link.take().is_some() {
             self.is_awaited = false;
-            self.has_more = false;
             reports.tell(SocketReport::Ended(self.name(), end));
         }
     }

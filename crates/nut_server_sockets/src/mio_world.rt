@@ -1,14 +1,14 @@
 //! The world of a server over sockets.
 
-ghost use Rattle.std.specs.Prelude.{◌≡◌, ◌+◌, ◌-◌, ◌^◌, ◌<◌, false, length, IsOk, IfOk, OnErr, is_ok, if◌then◌else◌};
+ghost use Rattle.std.specs.Prelude.{◌≡◌, ◌+◌, ◌-◌, ◌^◌, ◌<◌, ℕ, false, length, IsOk, IfOk, OnErr, is_ok, if◌then◌else◌};
 ghost use Rattle.nut_io.specs.Writes.{IsWithin};
 ghost use Rattle.nut_server_loop.specs.Record.{LeadsTo, MayCome, WasClosed, Steps, arrival_of, tells, tells_next, tells_write, late_after};
 ghost use Rattle.nut_server_loop.specs.declared.types.Peer.{Peer};
 ghost use Rattle.nut_server_loop.specs.declared.types.Peer.TheVariants.{Connection, Driver};
-ghost use Rattle.nut_poll.specs.Queue.{TakesTurns};
-ghost use Rattle.nut_poll.specs.inside.TurnLaws.{turns_self, turns_on};
-ghost use Rattle.nut_server_sockets.specs.Turns.{ComesInTurn, LeavesOthers};
+ghost use Rattle.nut_poll.specs.inside.TurnLaws.{turns_self};
+ghost use Rattle.nut_server_sockets.specs.Turns.{ComesInTurn, GoesOn, IsHeeded, LeavesOthers};
 ghost use Rattle.nut_server_sockets.specs.Untold.{untold, is_late};
+ghost use Rattle.nut_server_sockets.specs.inside.TurnLaws.{goes_on};
 
 use crate::drivers::Drivers;
 use crate::listeners::Listeners;
@@ -76,7 +76,8 @@ impl<'r, 'e, R: Net + Clock + Processes, L: Reloader + Drop> MioWorld<'r, 'e, R,
         reports: Reports<'e>,
         reloader: L,
     ) -> io::Result<MioWorld<'r, 'e, R, L>>
-        ensures { IfOk result (λ w. w.faults ≡ 0) }
+        ensures faults { IfOk result (λ w. w.faults ≡ 0) }
+        ensures heeded { IfOk result (λ w. (key : ℕ) → IsHeeded w.sockets key) }
     {
         let sockets = Sockets::new(rt, alloc, listeners, drivers)?;
         Ok(MioWorld {
@@ -105,15 +106,15 @@ impl<'r, 'e, R: Net + Clock + Processes, L: Reloader + Drop> World for MioWorld<
 
     ghost has_ended = { λ w s. ⊥ };
 
-    ghost reached = { λ a b. TakesTurns a.sockets.rounds.ready b.sockets.rounds.ready };
+    ghost reached = { λ a b. GoesOn a.sockets b.sockets };
 
-    ghost awaits = { λ a b. TakesTurns a.sockets.rounds.ready b.sockets.rounds.ready };
+    ghost awaits = { λ a b. GoesOn a.sockets b.sockets };
 
-    ghost reached_self = { λ w. turns_self w.sockets.rounds.ready };
+    ghost reached_self = { λ w. (turns_self w.sockets.rounds, λ key heeded. heeded) };
 
-    ghost reached_on = { λ a b c first second. turns_on a.sockets.rounds.ready b.sockets.rounds.ready c.sockets.rounds.ready first second };
+    ghost reached_on = { λ a b c first second. goes_on a.sockets b.sockets c.sockets first second };
 
-    ghost awaits_on = { λ a b c first second. turns_on a.sockets.rounds.ready b.sockets.rounds.ready c.sockets.rounds.ready first second };
+    ghost awaits_on = { λ a b c first second. goes_on a.sockets b.sockets c.sockets first second };
 
     fn faults(&self) -> u64 {
         self.faults
@@ -128,9 +129,8 @@ impl<'r, 'e, R: Net + Clock + Processes, L: Reloader + Drop> World for MioWorld<
         ensures none_late { (p : Peer) → is_late self.new.late.items self.new.late_drivers.items p ≡ false }
         ensures counted { self.new.faults ≡ (if is_ok result then self.old.faults else self.old.faults + 1) }
         ensures awaits { IfOk result (λ n. LeadsTo (arrival_of n piece.new.items)
-            (TakesTurns self.old.sockets.rounds.ready self.new.sockets.rounds.ready)
-            (TakesTurns self.old.sockets.rounds.ready self.new.sockets.rounds.ready)) }
-        ensures reached { OnErr result (TakesTurns self.old.sockets.rounds.ready self.new.sockets.rounds.ready) }
+            (GoesOn self.old.sockets self.new.sockets) (GoesOn self.old.sockets self.new.sockets)) }
+        ensures reached { OnErr result (GoesOn self.old.sockets self.new.sockets) }
         ensures turns { IfOk result (λ n. ComesInTurn self.old.sockets server.now n self.new.sockets) }
         ensures seats { IfOk result (λ n. LeavesOthers n self.old.sockets.clients.sockets self.new.sockets.clients.sockets) }
     {
@@ -152,7 +152,7 @@ impl<'r, 'e, R: Net + Clock + Processes, L: Reloader + Drop> World for MioWorld<
     fn write(&mut self, c: u64, bytes: &[u8]) -> Result<Written, Fault>
         requires { 0 < length bytes.now }
         ensures no_fault { IsOk result }
-        ensures step { Steps (λ w. w.faults) (λ w. untold) (λ a b. TakesTurns a.sockets.rounds.ready b.sockets.rounds.ready)
+        ensures step { Steps (λ w. w.faults) (λ w. untold) (λ a b. GoesOn a.sockets b.sockets)
             (λ w. tells_write w (Connection c) bytes.now) self.old result self.new }
         ensures within { IfOk result (λ w. IsWithin w (length bytes.now)) }
         ensures late { IfOk result (λ w. (p : Peer) → is_late self.new.late.items self.new.late_drivers.items p
@@ -165,7 +165,7 @@ impl<'r, 'e, R: Net + Clock + Processes, L: Reloader + Drop> World for MioWorld<
     fn write_driver(&mut self, u: usize, bytes: &[u8]) -> Result<Written, Fault>
         requires { 0 < length bytes.now }
         ensures no_fault { IsOk result }
-        ensures step { Steps (λ w. w.faults) (λ w. untold) (λ a b. TakesTurns a.sockets.rounds.ready b.sockets.rounds.ready)
+        ensures step { Steps (λ w. w.faults) (λ w. untold) (λ a b. GoesOn a.sockets b.sockets)
             (λ w. tells_write w (Driver u) bytes.now) self.old result self.new }
         ensures within { IfOk result (λ w. IsWithin w (length bytes.now)) }
         ensures late { IfOk result (λ w. (p : Peer) → is_late self.new.late.items self.new.late_drivers.items p
@@ -178,7 +178,7 @@ impl<'r, 'e, R: Net + Clock + Processes, L: Reloader + Drop> World for MioWorld<
 
     fn close(&mut self, c: u64) -> Result<(), Fault>
         ensures no_fault { IsOk result }
-        ensures step { Steps (λ w. w.faults) (λ w. untold) (λ a b. TakesTurns a.sockets.rounds.ready b.sockets.rounds.ready)
+        ensures step { Steps (λ w. w.faults) (λ w. untold) (λ a b. GoesOn a.sockets b.sockets)
             (λ _. tells (WasClosed (Connection c))) self.old result self.new }
         ensures late { (p : Peer) → is_late self.new.late.items self.new.late_drivers.items p
             ≡ is_late self.old.late.items self.old.late_drivers.items p }
@@ -189,7 +189,7 @@ impl<'r, 'e, R: Net + Clock + Processes, L: Reloader + Drop> World for MioWorld<
 
     fn close_driver(&mut self, u: usize) -> Result<(), Fault>
         ensures no_fault { IsOk result }
-        ensures step { Steps (λ w. w.faults) (λ w. untold) (λ a b. TakesTurns a.sockets.rounds.ready b.sockets.rounds.ready)
+        ensures step { Steps (λ w. w.faults) (λ w. untold) (λ a b. GoesOn a.sockets b.sockets)
             (λ _. tells (WasClosed (Driver u))) self.old result self.new }
         ensures late { (p : Peer) → is_late self.new.late.items self.new.late_drivers.items p
             ≡ is_late self.old.late.items self.old.late_drivers.items p }

@@ -1,17 +1,19 @@
 //! All sockets of a server, watched by one poll.
 
-ghost use Rattle.std.specs.Prelude.{◌≡◌, ◌≢◌, [], length, IfSome, IfOk, OnErr, unwrap_or};
+ghost use Rattle.std.specs.Prelude.{◌≡◌, ◌≢◌, ℕ, [], ◌∷◌, length, IfOk, OnErr};
 ghost use Rattle.std.specs.declared.time.Duration.{Duration};
+ghost use Rattle.mio.specs.Event.{event_token};
 ghost use Rattle.mio.specs.Events.{items};
 ghost use Rattle.nut_io.specs.Writes.{IsWithin};
 ghost use Rattle.nut_poll.specs.Moments.{Begins, IsTold};
-ghost use Rattle.nut_poll.specs.Queue.{Looks, TakesTurns, all_joined, reported};
+ghost use Rattle.nut_poll.specs.Queue.{all_joined, reported};
+ghost use Rattle.nut_poll.specs.Turns.{Heeds};
 ghost use Rattle.nut_server_loop.specs.Record.{MayCome};
 ghost use Rattle.nut_server_loop.specs.declared.types.Next.TheVariants as next;
 ghost use Rattle.nut_server_sockets.specs.declared.source.Source.TheVariants as source;
 ghost use Rattle.nut_server_sockets.specs.Seats.{HasBesides, KeepsSeats, TouchesOnly};
-ghost use Rattle.nut_server_sockets.specs.Turns.{Comes, ComesInTurn, IsGivenBy, LeavesOthers, token_of};
-ghost use Rattle.nut_server_sockets.specs.inside.Looking.{IsApart, LooksInTurn, OnlyQueues};
+ghost use Rattle.nut_server_sockets.specs.Turns.{Comes, ComesInTurn, GoesOn, IsHeeded, LeavesOthers, token_of};
+ghost use Rattle.nut_server_sockets.specs.inside.Looking.{HeedsAlso, IsApart, IsLook, IsNoted, KeepsHeeded, LooksInTurn, OnlyQueues, Stays};
 ghost use Rattle.nut_server_spec.specs.Content.{Content};
 
 use crate::audit::{left, tell_deed};
@@ -28,7 +30,7 @@ use crate::stall::Stall;
 use mio::event::Event;
 use mio::{Events, Token};
 use nut_io::{Piece, Written};
-use nut_poll::{Heard, LookUps, Ready, Reports, Rounds, SOCKETS_MAX, may_be_read};
+use nut_poll::{Heard, LookUps, Reports, Rounds, SOCKETS_MAX};
 use nut_server::{Place, Refused, Server};
 use nut_server_loop::Next;
 use std::alloc::Global;
@@ -84,7 +86,9 @@ impl Sockets {
         alloc: Global,
         listeners: Listeners,
         drivers: Drivers,
-    ) -> io::Result<Sockets> {
+    ) -> io::Result<Sockets>
+        ensures { IfOk result (λ sockets. (key : ℕ) → IsHeeded sockets key) }
+    {
         let clients = Clients::with_room(alloc)?;
         let stall = Stall::new(alloc)?;
         let denials = Denials::new(alloc)?;
@@ -123,7 +127,7 @@ impl Sockets {
         ensures goes_on { IfOk result (λ n. n ≢ next.End) }
         ensures turns { IfOk result (λ n. ComesInTurn self.old server.now n self.new) }
         ensures seats { IfOk result (λ n. LeavesOthers n self.old.clients.sockets self.new.clients.sockets) }
-        ensures kept { OnErr result (TakesTurns self.old.rounds.ready self.new.rounds.ready) }
+        ensures goes { GoesOn self.old self.new }
     {
         if let Some(number) = self.unkept.take() {
             return Ok(Next::Close(number));
@@ -166,6 +170,7 @@ impl Sockets {
         answer: &Result<(), Refused>,
     )
         ensures turns { Comes self.old.rounds self.new.rounds }
+        ensures goes { GoesOn self.old self.new }
         ensures seats { HasBesides server.now.opened self.new.clients.sockets self.old.clients.sockets }
         ensures refused { OnErr answer.now (KeepsSeats self.old.clients.sockets self.new.clients.sockets) }
     {
@@ -200,7 +205,7 @@ impl Sockets {
 
     /// Reports what a client did by the last arrival, if the operator wants to know of it.
     fn audit(&mut self, server: &Server, reports: &mut Reports<'_>)
-        ensures turns { self.new.rounds ≡ self.old.rounds }
+        ensures turns { Stays self.old self.new }
         ensures seats { KeepsSeats self.old.clients.sockets self.new.clients.sockets }
     {
         if let Some(deed) = server.deed() {
@@ -228,13 +233,16 @@ impl Sockets {
     pub fn offer(&mut self, number: u64, bytes: &[u8]) -> Written
         ensures within { IsWithin result (length bytes.now) }
         ensures turns { Comes self.old.rounds self.new.rounds }
+        ensures goes { GoesOn self.old self.new }
         ensures others { TouchesOnly number self.old.clients.sockets self.new.clients.sockets }
     {
-        let (written, resumed) = self.clients.offer(number, bytes);
-        if let Some(key) = resumed {
-            self.rounds.ready.insert(Source::Client(key).token());
+        match self.clients.offer(number, bytes) {
+            (written, None) => written,
+            (written, Some(key)) => {
+                self.rounds.ready.insert(Source::Client(key).token());
+                written
+            }
         }
-        written
     }
 
     /// Offers bytes to the driver of a UPS. If that fails, the link is closed, which is reported.
@@ -250,7 +258,7 @@ impl Sockets {
 
     /// Closes the socket of a connection, and reports that if its client is still logged in.
     pub fn close(&mut self, number: u64, reports: &mut Reports<'_>)
-        ensures turns { self.new.rounds ≡ self.old.rounds }
+        ensures turns { Stays self.old self.new }
         ensures others { HasBesides number self.old.clients.sockets self.new.clients.sockets }
     {
         if let Some(login) = self.clients.close(number) {
@@ -274,10 +282,7 @@ impl Sockets {
         net: &impl Net,
         reports: &mut Reports<'_>,
     ) -> Option<Next>
-        ensures may { IfSome result (λ n. MayCome n server.now) }
-        ensures goes_on { IfSome result (λ n. n ≢ next.End) }
-        ensures turns { LooksInTurn self.old server.now result self.new }
-        ensures seats { LeavesOthers (unwrap_or result next.Again) self.old.clients.sockets self.new.clients.sockets }
+        ensures { LooksInTurn self.old server.now result self.new }
     {
         if self.rounds.ready.is_round_over() && !self.stall.is_on() {
             return None;
@@ -294,10 +299,7 @@ impl Sockets {
         net: &impl Net,
         reports: &mut Reports<'_>,
     ) -> Option<Next>
-        ensures may { IfSome result (λ n. MayCome n server.now) }
-        ensures goes_on { IfSome result (λ n. n ≢ next.End) }
-        ensures turns { LooksInTurn self.old server.now result self.new }
-        ensures seats { LeavesOthers (unwrap_or result next.Again) self.old.clients.sockets self.new.clients.sockets }
+        ensures { LooksInTurn self.old server.now result self.new }
     {
         self.end_stall();
         for _ in 0..SOCKETS_MAX {
@@ -318,11 +320,8 @@ impl Sockets {
         net: &impl Net,
         reports: &mut Reports<'_>,
     ) -> Option<Next>
-        ensures may { IfSome result (λ n. MayCome n server.now) }
-        ensures goes_on { IfSome result (λ n. n ≢ next.End) }
-        ensures given { IfSome result (λ n. IsGivenBy self.old.clients.sockets server.now token.0 n) }
-        ensures seats { LeavesOthers (unwrap_or result next.Again) self.old.clients.sockets self.new.clients.sockets }
-        ensures turns { Comes self.old.rounds self.new.rounds }
+        ensures look { IsLook self.old server.now token.0 result self.new }
+        ensures heeds { HeedsAlso token.0 self.old self.new }
     {
         match Source::of(token) {
             Source::Listener(i) => self.look_at_listener(server, i, piece, reports),
@@ -340,11 +339,8 @@ impl Sockets {
         net: &impl Net,
         reports: &mut Reports<'_>,
     ) -> Option<Next>
-        ensures may { (s : Content) → IfSome result (λ n. MayCome n s) }
-        ensures goes_on { IfSome result (λ n. n ≢ next.End) }
-        ensures given { (s : Content) → IfSome result (λ n. IsGivenBy self.old.clients.sockets s (token_of (source.Driver u)) n) }
-        ensures clients { self.new.clients ≡ self.old.clients }
-        ensures turns { Comes self.old.rounds self.new.rounds }
+        ensures look { (s : Content) → IsLook self.old s (token_of (source.Driver u)) result self.new }
+        ensures queues { OnlyQueues self.old self.new }
     {
         let driver = self.drivers.get_mut(u)?;
         let source = Source::Driver(u);
@@ -361,8 +357,7 @@ impl Sockets {
         }
         match driver.hear(piece) {
             Heard::Nothing => None,
-            Heard::All => Some(Next::DriverBytes(u)),
-            Heard::Part => {
+            Heard::All | Heard::Part => {
                 self.rounds.ready.insert(source.token());
                 Some(Next::DriverBytes(u))
             }
@@ -381,15 +376,11 @@ impl Sockets {
         piece: &mut Piece,
         reports: &mut Reports<'_>,
     ) -> Option<Next>
-        ensures may { IfSome result (λ n. MayCome n server.now) }
-        ensures goes_on { IfSome result (λ n. n ≢ next.End) }
-        ensures given { IfSome result (λ n. IsGivenBy self.old.clients.sockets server.now (token_of (source.Client key)) n) }
-        ensures seats { LeavesOthers (unwrap_or result next.Again) self.old.clients.sockets self.new.clients.sockets }
-        ensures turns { Comes self.old.rounds self.new.rounds }
+        ensures look { IsLook self.old server.now (token_of (source.Client key)) result self.new }
+        ensures heeds { HeedsAlso (token_of (source.Client key)) self.old self.new }
     {
         let token = Source::Client(key).token();
-        if self.stall.is_on() {
-            self.stall.hold(token);
+        if self.stall.hold(token) {
             return None;
         }
         let (number, heard) = self.clients.hear(key, server, piece)?;
@@ -410,19 +401,15 @@ impl Sockets {
     /// Waits until an event comes or a second is over, or not at all if there is more to look at, and begins the next
     /// round. Returns the number of seconds since the start, if one more is over.
     fn wait(&mut self, clock: &impl Clock) -> io::Result<Option<u64>>
-        ensures turns { Looks [] self.old.rounds.ready self.new.rounds.ready }
+        ensures turns { Heeds [] self.old.rounds self.new.rounds }
+        ensures heeds { KeepsHeeded self.old self.new }
         ensures seats { KeepsSeats self.old.clients.sockets self.new.clients.sockets }
         ensures second { IfOk result (λ moment. IsTold moment self.old.rounds.seconds.full self.new.rounds.seconds.full) }
         ensures begins { IfOk result (λ moment. (passed : Duration) × Begins passed self.old.rounds.seconds.full self.old.rounds.fixed
             moment (all_joined (reported (items self.new.rounds.events)) self.old.rounds.ready) self.new.rounds.ready) }
     {
         self.rounds.wait()?;
-        note(
-            &self.rounds.events,
-            &mut self.rounds.ready,
-            &mut self.clients,
-            &mut self.drivers,
-        );
+        note(&self.rounds.events, &mut self.clients, &mut self.drivers);
         self.rounds.turn(clock)
     }
 
@@ -437,21 +424,17 @@ impl Sockets {
 }
 
 /// Notes the events of the sockets.
-fn note(events: &Events, ready: &mut Ready, clients: &mut Clients, drivers: &mut Drivers)
-    ensures turns { ready.new ≡ all_joined (reported (items events.now)) ready.old }
-    ensures seats { KeepsSeats clients.old.sockets clients.new.sockets }
+fn note(events: &Events, clients: &mut Clients, drivers: &mut Drivers)
+    ensures { IsNoted (reported (items events.now)) clients.old.sockets clients.new.sockets }
 {
     for event in events.iter() {
         note_one(event, clients, drivers);
-        if may_be_read(event) {
-            ready.insert(event.token());
-        }
     }
 }
 
 /// Notes an event at the driver or the client whose socket has it.
 fn note_one(event: &Event, clients: &mut Clients, drivers: &mut Drivers)
-    ensures { KeepsSeats clients.old.sockets clients.new.sockets }
+    ensures { IsNoted ((event_token event.now).0 ∷ []) clients.old.sockets clients.new.sockets }
 {
     match Source::of(event.token()) {
         Source::Listener(_) => {}

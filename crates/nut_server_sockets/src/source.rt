@@ -1,6 +1,8 @@
 //! The sources: what the sockets of a server are for.
 
-ghost use Rattle.std.specs.Prelude.{◌≡◌};
+ghost use Rattle.std.specs.Prelude.{◌≡◌, ◌<◌, ◌+◌, ◌^◌, ℕ};
+ghost use Rattle.nut_server_sockets.specs.declared.source.Source.TheVariants as source;
+ghost use Rattle.nut_server_sockets.specs.declared.source.TheConstants.{FIXED_MAX};
 
 use mio::Token;
 use nut_conf::{LISTENERS_MAX, UPSES_MAX};
@@ -24,7 +26,8 @@ impl Source {
 
     /// Returns the source with this token.
     pub fn of(token: Token) -> Source
-        ensures { token_of result ≡ token.0 }
+        ensures token { token_of result ≡ token.0 }
+        ensures client { (key : ℕ) → token.0 ≡ FIXED_MAX + key → result ≡ source.Client key }
     {
         let Token(n) = token;
         if n < LISTENERS_MAX {
@@ -38,7 +41,9 @@ impl Source {
 
     /// The token of the source: of at most [`LISTENERS_MAX`] listeners, [`UPSES_MAX`] drivers and any
     /// clients each has its own.
-    pub fn token(self) -> Token {
+    pub fn token(self) -> Token
+        ensures { token_of self < 2 ^ 64 → result.0 ≡ token_of self }
+    {
         match self {
             Source::Listener(i) => Token(i),
             Source::Driver(u) => Token(u.saturating_add(LISTENERS_MAX)),

@@ -1,10 +1,9 @@
 //! Lets clients in.
 
-ghost use Rattle.std.specs.Prelude.{◌≡◌, ◌≢◌, ℕ, IfSome, None, OnErr, unwrap_or};
-ghost use Rattle.nut_server_loop.specs.Record.{MayCome};
-ghost use Rattle.nut_server_loop.specs.declared.types.Next.TheVariants as next;
+ghost use Rattle.std.specs.Prelude.{◌≡◌, ℕ, IfSome, None, OnErr};
 ghost use Rattle.nut_server_sockets.specs.Seats.{HasBesides, KeepsSeats};
-ghost use Rattle.nut_server_sockets.specs.Turns.{Comes, IsGivenBy, IsUnasked, LeavesOthers, moment_of};
+ghost use Rattle.nut_server_sockets.specs.Turns.{IsUnasked, moment_of};
+ghost use Rattle.nut_server_sockets.specs.inside.Looking.{IsLook, KeepsHeeded, Stays};
 
 use crate::door::{Guest, concerns_one};
 use crate::sockets::Sockets;
@@ -25,7 +24,7 @@ impl Sockets {
         answer: &Result<(), Refused>,
         reports: &mut Reports<'_>,
     )
-        ensures turns { self.new.rounds ≡ self.old.rounds }
+        ensures turns { Stays self.old self.new }
         ensures seats { HasBesides server.now.opened self.new.clients.sockets self.old.clients.sockets }
         ensures refused { OnErr answer.now (KeepsSeats self.old.clients.sockets self.new.clients.sockets) }
     {
@@ -42,7 +41,7 @@ impl Sockets {
         answer: &Result<(), Refused>,
         reports: &mut Reports<'_>,
     )
-        ensures turns { self.new.rounds ≡ self.old.rounds }
+        ensures turns { Stays self.old self.new }
         ensures seats { HasBesides server.now.opened self.new.clients.sockets self.old.clients.sockets }
         ensures refused { OnErr answer.now (KeepsSeats self.old.clients.sockets self.new.clients.sockets) }
     {
@@ -57,7 +56,7 @@ impl Sockets {
 
     /// Keeps the socket of a connection. If that is impossible, the connection is closed next.
     fn keep(&mut self, number: u64, guest: Guest, reports: &mut Reports<'_>)
-        ensures turns { self.new.rounds ≡ self.old.rounds }
+        ensures turns { Stays self.old self.new }
         ensures seats { HasBesides number self.new.clients.sockets self.old.clients.sockets }
     {
         match self.clients.add(self.rounds.registry(), number, guest) {
@@ -77,14 +76,10 @@ impl Sockets {
         piece: &mut Piece,
         reports: &mut Reports<'_>,
     ) -> Option<Next>
-        ensures may { IfSome result (λ n. MayCome n server.now) }
-        ensures goes_on { IfSome result (λ n. n ≢ next.End) }
-        ensures moment { IfSome result (λ n. moment_of n ≡ None) }
-        ensures unasked { IfSome result (λ n. IsUnasked self.old server.now n) }
-        ensures given { IfSome result (λ n. (token : ℕ) → IsGivenBy self.old.clients.sockets server.now token n) }
-        ensures seats { LeavesOthers (unwrap_or result next.Again) self.old.clients.sockets self.new.clients.sockets }
+        ensures look { (token : ℕ) → IsLook self.old server.now token result self.new }
+        ensures unasked { IfSome result (λ n. (moment_of n ≡ None) × IsUnasked self.old server.now n) }
         ensures none { result ≡ None → self.new.clients ≡ self.old.clients }
-        ensures turns { self.new.rounds ≡ self.old.rounds }
+        ensures turns { Stays self.old self.new }
     {
         if !self.door.has_guest() {
             return None;
@@ -101,14 +96,10 @@ impl Sockets {
         piece: &mut Piece,
         reports: &mut Reports<'_>,
     ) -> Option<Next>
-        ensures may { IfSome result (λ n. MayCome n server.now) }
-        ensures goes_on { IfSome result (λ n. n ≢ next.End) }
-        ensures moment { IfSome result (λ n. moment_of n ≡ None) }
-        ensures unasked { IfSome result (λ n. IsUnasked self.old server.now n) }
-        ensures given { IfSome result (λ n. (token : ℕ) → IsGivenBy self.old.clients.sockets server.now token n) }
-        ensures seats { LeavesOthers (unwrap_or result next.Again) self.old.clients.sockets self.new.clients.sockets }
+        ensures look { (token : ℕ) → IsLook self.old server.now token result self.new }
+        ensures unasked { IfSome result (λ n. (moment_of n ≡ None) × IsUnasked self.old server.now n) }
         ensures none { result ≡ None → self.new.clients ≡ self.old.clients }
-        ensures turns { self.new.rounds ≡ self.old.rounds }
+        ensures turns { Stays self.old self.new }
     {
         if let Some(number) = self.clients.makes_way(server) {
             self.turn_out(server, number, reports);
@@ -125,7 +116,7 @@ impl Sockets {
 
     /// Closes the socket of a connection to let another client in, and reports it.
     fn turn_out(&mut self, server: &Server, number: u64, reports: &mut Reports<'_>)
-        ensures turns { self.new.rounds ≡ self.old.rounds }
+        ensures turns { Stays self.old self.new }
         ensures others { HasBesides number self.old.clients.sockets self.new.clients.sockets }
     {
         if let Some(address) = self.clients.address(number) {
@@ -143,11 +134,8 @@ impl Sockets {
         piece: &mut Piece,
         reports: &mut Reports<'_>,
     ) -> Option<Next>
-        ensures may { IfSome result (λ n. MayCome n server.now) }
-        ensures goes_on { IfSome result (λ n. n ≢ next.End) }
-        ensures given { IfSome result (λ n. (token : ℕ) → IsGivenBy self.old.clients.sockets server.now token n) }
-        ensures seats { LeavesOthers (unwrap_or result next.Again) self.old.clients.sockets self.new.clients.sockets }
-        ensures turns { Comes self.old.rounds self.new.rounds }
+        ensures look { (token : ℕ) → IsLook self.old server.now token result self.new }
+        ensures heeds { KeepsHeeded self.old self.new }
     {
         match self.door.let_in(i) {
             Ok(()) => {

@@ -3,8 +3,7 @@
 
 ghost use Rattle.std.specs.Prelude.{◌≡◌, IfSome, None};
 ghost use Rattle.nut_server_sockets.specs.Seats.{HasBesides, IsSilent};
-ghost use Rattle.nut_server_sockets.specs.Turns.{Comes};
-ghost use Rattle.nut_server_sockets.specs.inside.Looking.{IsApart, OnlyQueues};
+ghost use Rattle.nut_server_sockets.specs.inside.Looking.{IsApart, OnlyQueues, Stays};
 
 use crate::driver::Driver;
 use crate::reloader::Reloader;
@@ -17,7 +16,7 @@ use nut_server::{Config, Refused, Server, silence_before_ping};
 impl Sockets {
     /// Closes the socket of a client that was silent for too long. Returns the number of its connection.
     pub(super) fn shed(&mut self, server: &Server, reports: &mut Reports<'_>) -> Option<u64>
-        ensures turns { self.new.rounds ≡ self.old.rounds }
+        ensures turns { Stays self.old self.new }
         ensures silent { IfSome result (λ c. IsSilent server.now self.old.clients.second self.old.clients.sockets c) }
         ensures others { IfSome result (λ c. HasBesides c self.old.clients.sockets self.new.clients.sockets) }
         ensures none { result ≡ None → self.new.clients.sockets ≡ self.old.clients.sockets }
@@ -31,7 +30,7 @@ impl Sockets {
     /// Does what [`shed`](Self::shed) does. It stands apart, so that no other arrival pays for the place of a silent client.
     #[inline(never)]
     fn shed_silent(&mut self, server: &Server, reports: &mut Reports<'_>) -> Option<u64>
-        ensures turns { self.new.rounds ≡ self.old.rounds }
+        ensures turns { Stays self.old self.new }
         ensures silent { IfSome result (λ c. IsSilent server.now self.old.clients.second self.old.clients.sockets c) }
         ensures others { IfSome result (λ c. HasBesides c self.old.clients.sockets self.new.clients.sockets) }
         ensures none { result ≡ None → self.new.clients.sockets ≡ self.old.clients.sockets }
@@ -94,8 +93,7 @@ impl Sockets {
     /// one second and more than a third of MAXAGE passed at once, the drivers are sent PING now, and clients wait until
     /// they have answered, two seconds at most.
     pub(super) fn begin_second(&mut self, server: &Server, moment: u64, reports: &mut Reports<'_>)
-        ensures turns { Comes self.old.rounds self.new.rounds }
-        ensures clients { self.new.clients.sockets ≡ self.old.clients.sockets }
+        ensures { OnlyQueues self.old self.new }
     {
         let passed = moment.saturating_sub(self.moment);
         self.moment = moment;
