@@ -8,7 +8,8 @@ CONTRIBUTING.md says how to write one. Most are tried in one check of their crat
 others in copies of the function beside it. All other functions have empty bodies and open proofs there. What is left is tried
 in rounds: edits of different functions together, and most edits of a definition alone. The functions have been proved as they
 are. Copies without edits, and a method of a trait without one, have to pass in the same check: so a function doesn't fail
-because others have empty bodies. Edits of definitions share a round if each names another goal that has to stay open.
+because others have empty bodies. Edits of definitions share a round if each names another goal that has to stay open. An edit
+that takes the goal of a kept answer away is in doubt, unless it names the goal that stays open instead.
 
 An edit that an earlier run on this machine saw refused isn't tried again while all that decides about it is the same, if the
 toolchain keeps its own edits like that. --anew and --one-by-one try all. What no run asked for in 30 days is forgotten.
@@ -46,8 +47,14 @@ GOAL = re.compile(r"note: (src/\S+: .*\(`\S+`\).*)")
 # The beginnings of what a check says of a function whose proof passes, and of one that those which it calls may make fail.
 PASSED = ("no holes", "depends on a hole", "proved")
 FAILED_BELOW = ("no proof: it calls", "not proved; it calls", "not proved; it stands on")
-# The message of antt about a proof file that names what an edit removed.
+# The message of antt about a proof file that names what an edit removed, and rattle's about one that it doesn't read, since the
+# borrow checker doesn't cover the edited body.
 NAMES = re.compile(r"has no field|is not in scope|has no `|was not admitted")
+UNREAD = re.compile(f"{NAMES.pattern}|rattle does not read")
+# The one about an answer or an invariant that stands under the name of no goal.
+LOST = re.compile(r": error: `(\S+)`: .*: module `\S+\.(?:Goals|Given)` has no `\1`")
+# The beginning of what is said of an edit whose refusal shows nothing, as it stands.
+IN_DOUBT = "IN DOUBT: "
 # A declaration that antt refuses, and how its message begins. A check prints a file to begin with for a function that has open
 # goals, which takes a fifth of its time, but prints none if the function's answers have an error.
 REFUSED_ANSWER, OF_REFUSED_ANSWER = "\nno_file_is_printed : no_file_is_printed\n", "error: `no_file_is_printed`"
@@ -130,7 +137,7 @@ class Report:
     def __init__(self, crate, said, changed, killed_by=None):
         self.killed_by = killed_by
         self.name, self.lines = crate.name, [it for it in said.rstrip("\n").split("\n") if OF_REFUSED_ANSWER not in it]
-        self.ended = self.lines[-1].startswith("only=")
+        self.text, self.ended = "\n".join(self.lines), self.lines[-1].startswith("only=")
         self.unread = [it for it in self.lines if toolchain().unread(it, changed)]
         self.status, self.goals, goals = {}, {}, []
         for line in self.lines:
@@ -162,35 +169,42 @@ class Report:
         return self.status[symbol].startswith(FAILED_BELOW) and not has_own_faults
 
     def errors(self, symbol, is_of_body):
-        """Returns the errors in the proof of a function; if an edit isn't of a body, those in the lemmas that it uses, too."""
+        """Returns the errors in the proof of a function, each with its second line if it has one; if an edit isn't of a body, those
+        in the lemmas that it uses, too."""
         own = f"proofs/{symbol.replace('::', '/')}/" if is_of_body else "proofs/"
-        return [it for it in self.lines if re.match(rf"(\./)?{re.escape(own)}\S+: error", it)]
+        return [it[0] for it in re.finditer(rf"(?m)^(\./)?{re.escape(own)}\S+: error.*(\n  .*)?", self.text)]
 
     def refusal(self, path, is_of_body, goal):
-        """Returns why a function is refused in its own goals, or at this goal if one is named, or None; and which missing name a
-        proof file uses. If an edit isn't of a body, the lemmas that the function uses count, too."""
-        gone = None
+        """Returns why a function is refused in its own goals, or at this goal if one is named, or None; and why what else was found
+        shows nothing. If an edit isn't of a body, the lemmas that the function uses count, too."""
+        flaw = None
         for symbol in self.of(path):
             if not self.status[symbol].startswith(("no proof", "not proved")):
                 continue
             left = [it for it in self.goals[symbol] if not goal or f"(`{goal}`)" in it]
-            if left:
+            told = self.errors(symbol, is_of_body)
+            lost = next((it[1] for it in map(LOST.search, told) if it), None)
+            if left and (goal or not lost):
                 return left[0], None
             if goal:
                 continue
-            told = self.errors(symbol, is_of_body)
-            first = next((it for it in told if not NAMES.search(it)), None)
-            if first or "`search` did not prove" in self.status[symbol]:
+            first = next((it for it in told if not UNREAD.search(it)), None)
+            if first or "`search` did not prove" in self.status[symbol] and not lost:
                 return first or self.status[symbol], None
-            gone = gone or next(iter(told), None)
-        return None, gone
+            if left:
+                # a goal without an answer may be the one whose answer is lost, and true
+                flaw = f"{IN_DOUBT}it takes away the goal of {lost}, whose proof may be that of {left[0]}"
+            elif told and not flaw:
+                are_gone = all(NAMES.search(it.partition("\n")[0]) for it in told)
+                flaw = f"{'BAD EDIT: ' if are_gone else IN_DOUBT}refused only because its proof can't be read: {told[0]}"
+        return None, flaw
 
 
 class Copy:
-    """A copy of a function that stands beside it, under a name of its own."""
+    """A copy of a function that stands beside it, under a name of its own, as an edit makes it if one is given."""
 
-    def __init__(self, function, ending, text, is_edited):
-        self.of, self.parts, self.is_edited = function, [*function.parts[:-1], f"{function.parts[-1]}_{ending}"], is_edited
+    def __init__(self, function, ending, text, edit):
+        self.of, self.parts, self.edit = function, [*function.parts[:-1], f"{function.parts[-1]}_{ending}"], edit
         first, end = (it - function.start for it in function.name)
         self.text = text[:first] + self.parts[-1].encode() + text[end:]
 
@@ -220,8 +234,9 @@ class Trial:
             self.begin_answers(function)
         for copy in copies:
             self.copy_proof(copy)
-        wanted = {path for edit in edits for path in edit.wanted}
-        for function in [it for it in functions if it.path in wanted] + [it for it in copies if it.is_edited]:
+        placed = [(it, edit) for edit in edits for it in functions if it.path in edit.wanted]
+        for function, edit in placed + [(it, it.edit) for it in copies if it.edit]:
+            self.drop_answer(function, edit.goal)
             self.spoil_answers(function)
         opened = [it for it in functions if it.path not in shown and self.leave_open(it)]
         edited = {it: edit for edit in edits for it in functions if it.path in edit.edited}
@@ -251,6 +266,13 @@ class Trial:
             self.spoiled.add(file)
             with open(file, "a", encoding="utf-8") as it:
                 it.write(REFUSED_ANSWER)
+
+    def drop_answer(self, function, goal):
+        """Removes the answer to this goal from those of a function, so that a check tries to prove the goal. An empty line ends an
+        answer."""
+        file = f"{proof_of(self.folder, function) or ''}/Answers.antt"
+        if goal and os.path.isfile(file):
+            write(file, re.sub(rf"(?ms)^pub {re.escape(goal)} : .*?(\n\n|\Z)", "", read(file)))
 
     def copy_proof(self, copy):
         """Gives a copy of a function the proof of that function, under its own name."""
@@ -368,10 +390,10 @@ class Rounds:
             return
         self.passed = {path for path, it in plain.items() if report.passes(it.path)} | {it for it in beside if report.passes(it)}
         self.fallen = plain.keys() - self.passed
-        refusals = {edit: refusal(edit, report) for edit in placed if self.is_controlled(edit)}
-        refusals |= {edit: refusal(edit, report, [it.path for it in made]) for edit, made in edited.items() if edit.wanted <= self.passed}
-        for edit in filter(refusals.get, refusals):
-            self.say(edit, True, refusals[edit])
+        results = {edit: result(edit, report) for edit in placed if self.is_controlled(edit)}
+        results |= {edit: result(edit, report, [it.path for it in made]) for edit, made in edited.items() if edit.wanted <= self.passed}
+        for edit in filter(results.get, results):
+            self.say(edit, *results[edit])
         self.together = len(self.said)
 
     def controlled(self, edits):
@@ -411,7 +433,7 @@ class Rounds:
     def copy(self, path, ending, edit=None):
         """Returns a copy of a function, as an edit makes it if one is given."""
         function = next(it for it in self.functions if it.path == path)
-        return Copy(function, ending, edit.item_of(function) if edit else self.text_of(function), edit is not None)
+        return Copy(function, ending, edit.item_of(function) if edit else self.text_of(function), edit)
 
     def control(self):
         """Checks functions whose bodies are edited as they are without the edits, where the first check has shown too little of
@@ -456,32 +478,31 @@ class Rounds:
         for edit in edits:
             if len(edits) == 1:
                 self.say(edit, *self.judged(edit, report))
-            elif report.ended and not report.unread and refusal(edit, report):
-                self.say(edit, True, refusal(edit, report))
+            elif report.ended and not report.unread and result(edit, report):
+                self.say(edit, *result(edit, report))
         return [it for it in edits if it not in self.said]
 
     def judged(self, edit, report):
         """Returns the result of a round of only this edit."""
-        gone = [it for it in (report.refusal(path, edit.is_of_bodies(), edit.goal)[1] for path in sorted(edit.wanted)) if it]
         if report.killed_by:
             return False, f"NOT TRIED: its check was killed twice, the second time by signal {report.killed_by}"
         if report.unread or not report.ended:
             told = report.unread or [it for it in report.lines if "error" in it] or report.lines
             return False, f"BAD EDIT: the prover cannot read the edited text: {told[0][:200]}"
-        if refusal(edit, report):
-            return True, refusal(edit, report)
-        if gone:
-            return False, f"BAD EDIT: refused only because a name is gone: {gone[0][:200]}"
         said = "; ".join(f"{path}: {report.status.get(path)}" for path in sorted(edit.wanted))
-        return False, f"not refused in its own function, of which the prover says: {said[:300]}"
+        return result(edit, report) or (False, f"not refused in its own function, of which the prover says: {said[:300]}")
 
 
-def refusal(edit, report, paths=None):
-    """Returns why these functions refuse an edit, which are those that have to if none are given; None if they don't."""
-    found = [report.refusal(path, edit.is_of_bodies(), edit.goal)[0] for path in paths or sorted(edit.wanted)]
+def result(edit, report, paths=None):
+    """Returns whether an edit passes that these functions have to refuse, which are its own if none are given, and why; None if
+    they have no open goal. One in doubt passes, but is counted."""
+    found = [report.refusal(path, edit.is_of_bodies(), edit.goal) for path in paths or sorted(edit.wanted)]
+    whys, flaws = ([it for it in some if it] for some in zip(*found))
     round_of = f"at {edit.goal}" if edit.goal else "in a round of its own, since it edits more than a body"
     by = "" if edit.is_of_bodies() else f" by {edit.refused_by}, {round_of}"
-    return f"refused, as it must be{by}: {next(filter(None, found))[:160]}" if any(found) else None
+    if whys:
+        return True, f"refused, as it must be{by}: {whys[0][:160]}"
+    return (flaws[0].startswith(IN_DOUBT), " ".join(flaws[0].split())[:300]) if flaws else None
 
 
 class Refusals:
@@ -599,7 +620,8 @@ def in_rounds(crate, functions, edits, printing, refusals):
     said.update(known)
     with printing:
         print(*[why for _, why in said.values()], sep="\n")
-        counts = f"{len(edits)} edits, {len(known)} known, {rounds.together} in the first check, {rounds.count} rounds"
+        doubts = sum(f": {IN_DOUBT}" in why for _, why in said.values())
+        counts = f"{len(edits)} edits, {doubts} in doubt, {len(known)} known, {rounds.together} in the first check, {rounds.count} rounds"
         print(f"{crate.name}: {counts}: {rounds.seconds:.0f} processor seconds", flush=True)
     return {edit.path: refused for edit, (refused, _) in said.items()}
 

@@ -1,7 +1,7 @@
-"""Tests wrong_bodies.py on crates of five functions that are written here: a wrong body is refused, and wrong constants together,
+"""Tests wrong_bodies.py on crates of seven functions that are written here: a wrong body is refused, and wrong constants together,
 each at its own goal; and a right body is reported, a body that its contract allows, an edit that only another function refuses,
-one that nothing follows from, and one of a function that isn't proved. Of two more crates, one above the other, it tests which
-edits are known from earlier runs."""
+one that nothing follows from, one that takes a kept answer or invariant away, and one of a function that isn't proved. Of two
+more crates, one above the other, it tests which edits are known from earlier runs."""
 
 import contextlib
 import io
@@ -16,24 +16,49 @@ from tests.support.harness import read, write
 
 CODE = read(os.path.join(os.path.dirname(__file__), "wrong_bodies_test.rt.txt"))
 
-# An answer that cites a call by its name.
-ANSWER = """use Rattle.NAME.proofs.as_second.Goals as goal
+# The other files of a crate: an answer that cites a call by its name, and two that stand under the names of the branches, each
+# of which looks into a definition; and an invariant under the name of its loop.
+BESIDE = {
+    "specs/Lib.antt": "pub mod Doubled\n",
+    "specs/Doubled.antt": "use Rattle.std.specs.Prelude.{ℕ, ◌+◌}\n\nunfoldable pub doubled : ℕ → ℕ\ndoubled count = count + count\n",
+    "proofs/as_second/Answers.antt": """use Rattle.NAME.proofs.as_second.Goals as goal
 
 pub returns : goal.returns
 returns c = c.second.ensures
-"""
+""",
+    "proofs/twice/Answers.antt": """use Rattle.std.proofs.Common.{arith, refl}
+use Rattle.NAME.specs.Doubled.{doubled}
+use Rattle.NAME.proofs.twice.Goals as goal
 
-# The beginning of the message about an edit that its own function lets through.
+pub returns-then-count-gt-MOST : goal.returns-then-count-gt-MOST
+unfolding doubled
+returns-then-count-gt-MOST c = omega arith
+
+pub returns : goal.returns
+unfolding doubled
+returns c = refl
+""",
+    "proofs/counted/Invariants.antt": """use Rattle.std.proofs.Common.{◌≡◌}
+use Rattle.NAME.proofs.counted.Given as goal
+
+abbrev pub invariant-loop-step : goal.invariant-loop-step
+invariant-loop-step l = l.count ≡ l.step
+""",
+}
+
+# The beginnings of the messages about an edit that its own function lets through, and about one whose refusal shows nothing.
 LET_THROUGH = "not refused in its own function, of which the prover says: "
+IN_DOUBT = "IN DOUBT: it takes away the goal of"
 
-# Each edit's text, and how the message about it has to begin.
+# Each edit's text, and how the message about it has to begin. Those of branches and loops keep the name under which an answer or an
+# invariant stands, or rename it.
 EDITS = {
     "wrong": ("    count + 1\nnew:     count + 2", "refused, as it must be: src/lib.rt"),
     "right": ("    next(next(count))\nnew:     1 + next(count)", f"{LET_THROUGH}second: "),
     "contract-too-weak": ("{ count } else { MOST }\nnew: { 0 } else { MOST }", f"{LET_THROUGH}few: "),
     "wrong-beside-its-callee": ("    second(count)\nnew:     second(count) + 1", "refused, as it must be: ./proofs/as_second_edited_"),
     "unreadable": ("    count + 1\nnew:     counted + 1", "BAD EDIT: the prover cannot read"),
-    "name-gone": ("    second(count)\nnew:     count + 2", "BAD EDIT: refused only because a name is gone"),
+    "name-gone": ("    second(count)\nnew:     count + 2", "BAD EDIT: refused only because its proof can't be read"),
     "constant": ("const MOST: usize = 8;\nnew: const MOST: usize = 9;\nrefused by: few", "refused, as it must be by few, in a round of its own"),
     "constant-of-another": ("const MOST: usize = 8;\nnew: const MOST: usize = 9;\nrefused by: next", f"{LET_THROUGH}next: "),
     "least": ("LEAST: usize = 2;\nnew: LEAST: usize = 3;\nrefused by: limits at returns-clause-least", "refused, as it must be by limits, at returns-clause-least"),
@@ -41,14 +66,32 @@ EDITS = {
     "at-another-goal": ("MOST: usize = 8;\nnew: MOST: usize = 7;\nrefused by: limits at returns-clause-least", f"{LET_THROUGH}limits: "),
     "nowhere": ("const MOST: usize = 8;\nnew: const MOST: usize = 9;", "BAD EDIT: it edits no function"),
     "unproved": ("{ count } else { MOST }\nnew: { 9 } else { MOST }", "NOT TRIED: without any edit the prover says of few: "),
+    "branch-kept": ("return 2 * count;\nnew: return 3 * count;", "refused, as it must be: ./proofs/twice_edited_"),
+    "branch-renamed": ("if count > MOST {\nnew: if count > 8 {", f"{IN_DOUBT} returns-then-count-gt-MOST, "),
+    "branch-renamed-and-wrong": (
+        "if count > MOST {\nnew: if count > 8 {\nold: return 2 * count;\nnew: return 3 * count;",
+        f"{IN_DOUBT} returns-then-count-gt-MOST, ",
+    ),
+    "branch-renamed-at-its-goal": (
+        "if count > MOST {\nnew: if count > 8 {\nold: return 2 * count;\nnew: return 3 * count;\nrefused by: twice at returns-then-count-gt8",
+        "refused, as it must be: src/lib.rt",
+    ),
+    "branch-renamed-and-wrong-behind": (
+        "if count > MOST {\nnew: if count > 8 {\nold:     count + count\nnew:     count + count + 1",
+        "refused, as it must be: ./proofs/twice",
+    ),
+    "branch-kept-at-its-goal": ("    count + count\nnew:     count + count + 1\nrefused by: twice at returns", "refused, as it must be: src/lib.rt"),
+    "loop-kept": ("count += 1;\nnew: count += 2;", "refused, as it must be: src/lib.rt"),
+    "loop-renamed": ("for step in\nnew: for turn in", f"{IN_DOUBT} invariant-loop-step, "),
     "twice": ("usize\nnew: u64", "BAD EDIT: an 'old:' text is in src/lib.rt"),
 }
 
-# The edits of each crate; how many are refused in its first check: in `places` one in its place and one in a copy; none of
-# those that stand beside one that can't be read, and none where the function of the control isn't proved; and how many rounds
-# are left.
+# The edits of each crate; how many are judged in its first check: in `places` one in its place and one in a copy; none of those
+# that stand beside one that can't be read, and none where the function of the control isn't proved; and how many rounds are
+# left.
 CRATES = {
-    "copies": ([it for it in EDITS if it not in ("unreadable", "unproved", "least", "most")], 2, 7),
+    "copies": ([it for it in EDITS if it not in ("unreadable", "unproved", "least", "most") and not it.startswith(("branch-", "loop-"))], 3, 6),
+    "answers": ([it for it in EDITS if it.startswith(("branch-", "loop-"))], 8, 0),
     "places": (["wrong", "wrong-beside-its-callee"], 2, 0),
     "rounds": (["wrong", "right", "unreadable"], 0, 4),
     "constants": (["least", "most"], 0, 1),
@@ -61,8 +104,7 @@ FILES = {
     "crates/low/src/lib.rt": "//! Nothing.\n#![tactic(auto)]\n",
     "crates/low/specs/Lib.antt": "pub mod More\n",
     "crates/low/specs/More.antt": "use Rattle.std.specs.Prelude.{ℕ, ◌+◌}\n\nabbrev pub more : ℕ → ℕ\nmore count = count + 1\n",
-    "crates/high/src/lib.rt": CODE.replace("NAME", "high"),
-    "crates/high/proofs/as_second/Answers.antt": ANSWER.replace("NAME", "high"),
+    **{f"crates/high/{path}": text.replace("NAME", "high") for path, text in {"src/lib.rt": CODE, **BESIDE}.items()},
     "crates/high/must-fail/wrong.edit": f"file: src/lib.rt\nold: {EDITS['wrong'][0]}\n",
     **{f"crates/high/wrong-bodies/{it}.edit": f"file: src/lib.rt\nold: {EDITS[it][0]}\n" for it in ("least", "most")},
     "tool.py": "# A tool.\n",
@@ -85,8 +127,8 @@ def write_crates(root):
     write(f"{root}/crates.txt", "".join(f"{name}:\n" for name in CRATES))
     for name, (edits, *_) in CRATES.items():
         code = CODE if name != "unproved" else CODE.replace("result ≤ 8", "result ≤ 7")
-        write(f"{root}/crates/{name}/src/lib.rt", code.replace("NAME", name))
-        write(f"{root}/crates/{name}/proofs/as_second/Answers.antt", ANSWER.replace("NAME", name))
+        for path, text in {"src/lib.rt": code, **BESIDE}.items():
+            write(f"{root}/crates/{name}/{path}", text.replace("NAME", name))
         for edit in edits:
             write(f"{root}/crates/{name}/wrong-bodies/{edit}.edit", f"file: src/lib.rt\nold: {EDITS[edit][0]}\n")
 
