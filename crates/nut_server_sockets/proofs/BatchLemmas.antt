@@ -2,11 +2,11 @@
 use Rattle.std.proofs.Common.{◌≡◌, ℕ, zero, suc, cond, ◌+◌, ◌-◌, ◌<◌, ◌≤◌, List, [], ◌∷◌, ◌++◌, Bool, true, false, length, take, drop, get_or, refl, sym, ap, subst, ◌∙◌, arith}
 use Rattle.std.specs.Prelude.{◌&&◌, ◌||◌, Some, None, slice_range}
 use Rattle.std.specs.List.{list_any}
-use Rattle.std.proofs.lemmas.List.{length-append, length-drop, length-take-le, get_or-take, get_or-drop, take_more, take_all, take-append-drop}
+use Rattle.std.proofs.lemmas.List.{length-append, length-drop, length-take-le, get_or-take, get_or-drop, take_more, take_all, take-append-drop, take-take}
 use Rattle.std.proofs.Math.Seq.{take-append_seam, take-append-add}
 use Rattle.std.proofs.lemmas.Bool.{eqb-true}
 use Rattle.memchr.specs.Find.{IsFirstByte, is_byte}
-use Rattle.nut_server_sockets.specs.Batches.{is_feed, is_plain, line_at, behind, place_after, is_last, ends_last}
+use Rattle.nut_server_sockets.specs.Batches.{IsLight, is_feed, is_plain, line_at, behind, place_after, is_last, ends_last}
 use Rattle.nut_server_sockets.specs.declared.batches.InLine.{InLine}
 use Rattle.nut_server_sockets.specs.declared.batches.InLine.TheVariants.{Start, Plain, Last}
 
@@ -24,11 +24,11 @@ ends_last-append p (c ∷ cs) t =
     ap (λ b. (is_feed c && is_last p) || b) (ends_last-append (behind p c) cs t)
     ∙ or_assoc (is_feed c && is_last p) (ends_last (behind p c) cs) (ends_last (place_after (behind p c) cs) t)
 
-first_false : (a b : Bool) → (a || b) ≡ false → a ≡ false
+pub first_false : (a b : Bool) → (a || b) ≡ false → a ≡ false
 first_false true b h = absurd (cc)
 first_false false b h = refl
 
-then_false : (a b : Bool) → (a || b) ≡ false → b ≡ false
+pub then_false : (a b : Bool) → (a || b) ≡ false → b ≡ false
 then_false true b h = absurd (cc)
 then_false false b h = h
 
@@ -89,6 +89,12 @@ line_ends Last [] h = refl
 line_ends p (c ∷ cs) h =
     ends_last-append p (c ∷ cs) (10 ∷ []) ∙ (rw (none_ends p (c ∷ cs) h, in_line p c cs h) (feed_ends (line_at p c)))
 
+-- What is given is light if no line that isn't plain ends before its last byte.
+pub light_front : (p : InLine) (piece : List ℕ) (n : ℕ) → n ≤ length piece → ends_last p (take (n - 1) piece) ≡ false → IsLight p (take n piece)
+light_front p piece n within none =
+    let count : length (take n piece) ≡ n = length-take-le n piece within in
+    ap (λ m. ends_last p (take (m - 1) (take n piece))) count ∙ ap (ends_last p) (take-take (n - 1) n piece (omega arith)) ∙ none
+
 -- ---- places in a piece
 
 unbroken : (xs : List ℕ) → ((k : ℕ) → k < length xs → is_feed (get_or xs k 0) ≡ true → ⊥) → list_any is_feed xs ≡ false
@@ -128,8 +134,8 @@ module _ (old : InLine) (piece : List ℕ) (start : ℕ) (place : InLine) (r : R
   pub at_end : length piece ≤ start → place ≡ place_after old (take (length piece) piece)
   at_end end = r.stands ∙ ap (λ n. place_after old (take n piece)) (omega (arith, r.within, end))
 
-  pub none_at_end : length piece ≤ start → ends_last old (take (length piece - 1) piece) ≡ false
-  none_at_end end = front_ends old piece (length piece - 1) (ap (ends_last old) (sym (take_all start piece end)) ∙ r.none)
+  pub light_at_end : length piece ≤ start → IsLight old (take (length piece) piece)
+  light_at_end end = light_front old piece (length piece) (omega arith) (front_ends old piece (length piece - 1) (ap (ends_last old) (sym (take_all start piece end)) ∙ r.none))
 
   none_behind : (t : List ℕ) → list_any is_feed t ≡ false → ends_last old (take start piece ++ t) ≡ false
   none_behind t h = ends_last-append old (take start piece) t ∙ (rw (r.none, ← r.stands) (none_ends place t h))
@@ -157,8 +163,10 @@ module _ (old : InLine) (piece : List ℕ) (start : ℕ) (place : InLine) (r : R
         ∙ (ap (λ q. place_after q (drop start piece)) r.stands ∙ (sym (place_after-append old (take start piece) (drop start piece))
         ∙ ap (place_after old) (take-append-drop start piece ∙ sym (take_all (length piece) piece (omega arith)))))))
 
-    pub none_goes_on : ends_last old (take (length piece - 1) piece) ≡ false
-    none_goes_on = front_ends old piece (length piece - 1) (ap (ends_last old) (sym (take-append-drop start piece)) ∙ none_behind (drop start piece) rest_unbroken)
+    pub light_goes_on : IsLight old (take (length piece) piece)
+    light_goes_on =
+        light_front old piece (length piece) (omega arith)
+        (front_ends old piece (length piece - 1) (ap (ends_last old) (sym (take-append-drop start piece)) ∙ none_behind (drop start piece) rest_unbroken))
 
   -- A line ends at this byte.
   module _ (at : ℕ) (feed : IsFirstByte (is_byte 10) (slice_range piece start (length piece)) (Some at)) where
@@ -171,11 +179,12 @@ module _ (old : InLine) (piece : List ℕ) (start : ℕ) (place : InLine) (r : R
     pub after_feed : place_after old (take (start + (at + 1)) piece) ≡ Start
     after_feed = ap (place_after old) up_to ∙ (place_after-append old (take start piece) (take at (drop start piece) ++ 10 ∷ []) ∙ line_after _ (take at (drop start piece)))
 
-    pub none_before_feed : ends_last old (take (start + (at + 1) - 1) piece) ≡ false
-    none_before_feed =
+    pub light_to_feed : IsLight old (take (start + (at + 1)) piece)
+    light_to_feed =
         let shorter : start + (at + 1) - 1 ≡ start + at = omega arith in
-        ap (λ n. ends_last old (take n piece)) shorter
-        ∙ (ap (ends_last old) (take_on start at piece r.within) ∙ none_behind (take at (drop start piece)) at_feed.none)
+        light_front old piece (start + (at + 1)) (omega (arith, r.within, at_feed.within, length-drop start piece))
+        (ap (λ n. ends_last old (take n piece)) shorter
+        ∙ (ap (ends_last old) (take_on start at piece r.within) ∙ none_behind (take at (drop start piece)) at_feed.none))
 
     pub ends_at_feed : (line : InLine) → line ≡ line_at place (get_or piece start 0) → ends_last old (take (start + (at + 1)) piece) ≡ is_last line
     ends_at_feed line is =
@@ -197,8 +206,9 @@ module _ (p : InLine) (piece line : List ℕ) (is : piece ≡ line ++ 10 ∷ [])
   pub after_line : place_after p (take (length piece) piece) ≡ Start
   after_line = ap (place_after p) (take_all (length piece) piece (omega arith) ∙ is) ∙ line_after p line
 
-  pub none_in_line : ends_last p (take (length piece - 1) piece) ≡ false
-  none_in_line =
+  pub light_line : IsLight p (take (length piece) piece)
+  light_line =
       let count : length piece - 1 ≡ length line = ap (λ x. length x - 1) is ∙ omega (arith, length-append line (10 ∷ [])) in
-      ap (λ n. ends_last p (take n piece)) count ∙ (ap (λ x. ends_last p (take (length line) x)) is
-      ∙ (ap (ends_last p) (take-append_seam line (10 ∷ [])) ∙ none_ends p line none))
+      light_front p piece (length piece) (omega arith)
+      (ap (λ n. ends_last p (take n piece)) count ∙ (ap (λ x. ends_last p (take (length line) x)) is
+      ∙ (ap (ends_last p) (take-append_seam line (10 ∷ [])) ∙ none_ends p line none)))

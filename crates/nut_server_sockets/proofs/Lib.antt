@@ -3,3 +3,8 @@ mod HeedLemmas
 mod SeatLemmas
 mod TurnLemmas
 mod LateLemmas
+mod BriefAnswers
+mod MadeRequests
+mod LongLines
+mod OneList
+mod PlainLines

@@ -1,6 +1,8 @@
 -- Which of a client's lines may be answered by a list, or be reported.
-use Rattle.std.specs.Prelude.{ℕ, ◌==◌, Bool, true, false, ◌&&◌, ◌||◌, List, [], ◌∷◌, codes, if◌then◌else◌}
+use Rattle.std.specs.Prelude.{◌≡◌, ℕ, ◌-◌, ◌==◌, Bool, true, false, ◌&&◌, ◌||◌, List, [], ◌∷◌, codes, length, take, if◌then◌else◌}
 use Rattle.std.specs.List.{list_any}
+use Rattle.nut_poll.specs.declared.link.Heard.{Heard}
+use Rattle.nut_poll.specs.declared.link.Heard.TheVariants.{Nothing, End}
 use Rattle.nut_server_sockets.specs.declared.batches.InLine.{InLine}
 use Rattle.nut_server_sockets.specs.declared.batches.InLine.TheVariants.{Start, Plain, Last}
 
@@ -37,3 +39,14 @@ is_last Last = true
 abbrev pub ends_last : InLine → List ℕ → Bool
 ends_last place [] = false
 ends_last place (c ∷ cs) = (is_feed c && is_last place) || ends_last (behind place c) cs
+
+-- If a piece begins at this place, a line that isn't plain ends at most at its last byte.
+abbrev pub IsLight : InLine → List ℕ → Type 0
+IsLight place piece = ends_last place (take (length piece - 1) piece) ≡ false
+
+-- What is heard of a client whose next byte stands at this place is light, and its next byte then stands behind that. If nothing
+-- is heard, it stands where it stood.
+abbrev pub Gives : InLine → Heard → List ℕ → InLine → Type 0
+Gives place Nothing piece after = after ≡ place
+Gives place End piece after = Unit {0}
+Gives place heard piece after = IsLight place piece × (after ≡ place_after place piece)

@@ -1,5 +1,7 @@
 pub mod Batches
+pub mod Places
 pub mod Seats
 pub mod Turns
 pub mod Untold
+pub mod Waits
 pub mod inside

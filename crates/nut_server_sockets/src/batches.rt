@@ -1,8 +1,8 @@
 //! Limits how many lines of a client the server is given at once.
 
-ghost use Rattle.std.specs.Prelude.{◌≡◌, ◌<◌, ◌≤◌, ◌-◌, ◌++◌, ◌∷◌, [], List, ℕ, true, false, length, take};
+ghost use Rattle.std.specs.Prelude.{◌≡◌, ◌<◌, ◌≤◌, ◌++◌, ◌∷◌, [], List, ℕ, true, false, length, take};
 ghost use Rattle.std.specs.List.{list_any};
-ghost use Rattle.nut_server_sockets.specs.Batches.{ends_last, is_feed, is_last, is_plain, line_at, place_after};
+ghost use Rattle.nut_server_sockets.specs.Batches.{IsLight, ends_last, is_feed, is_last, is_plain, line_at, place_after};
 
 use memchr::memchr;
 
@@ -74,8 +74,8 @@ fn is_one_line(piece: &[u8]) -> bool
 /// once, as the last.
 ///
 /// A list has at most 578,146 bytes, and every other answer is one line. So the server has to keep, for a client that
-/// takes nothing, at most one list and the answers to the short lines of one piece. Those answers together have less
-/// than 64 KiB.
+/// takes nothing, at most one list and the answers to the short lines of one piece. The law `one_list_waits` says that
+/// those have at most 64 KiB.
 #[derive(Drop)]
 pub struct Batches {
     place: InLine,
@@ -96,7 +96,7 @@ impl Batches {
         ensures place { self.new.place ≡ place_after self.old.place (take result piece.now) }
 
         // A line that isn't plain is the last of what is given. Only such a line is a reason to give less than all.
-        ensures last { ends_last self.old.place (take (result - 1) piece.now) ≡ false }
+        ensures light { IsLight self.old.place (take result piece.now) }
         ensures all { result < length piece.now → ends_last self.old.place (take result piece.now) ≡ true }
     {
         // Most pieces are one line.

@@ -3,6 +3,7 @@
 ghost use Rattle.std.specs.Prelude.{◌≡◌, ◌+◌, ◌-◌, ◌^◌, ◌<◌, ◌≤◌, ◌==◌, false, true, min, length};
 ghost use Rattle.nut_io.specs.Writes.{IsWithin};
 ghost use Rattle.nut_poll.specs.declared.link.Heard.TheVariants.{Part};
+ghost use Rattle.nut_server_sockets.specs.Batches.{Gives};
 ghost use Rattle.nut_server_sockets.specs.Seats.{allowed_silence, is_due, last_heard};
 
 use crate::batches::Batches;
@@ -90,6 +91,7 @@ impl Client {
     pub fn hear(&mut self, piece: &mut Piece, held: &mut Slab<Piece>, second: u64) -> Heard
         ensures number { self.new.number ≡ self.old.number }
         ensures left { is_due self.new ≡ true → result ≡ Part }
+        ensures gives { Gives self.old.batches.place result piece.new.items self.new.batches.place }
     {
         let heard = match self.held.take() {
             Some(key) => take_held(held, key, piece),
@@ -126,6 +128,7 @@ impl Client {
     /// Puts off reading until a write to the client succeeds.
     pub fn park(&mut self)
         ensures number { self.new.number ≡ self.old.number }
+        ensures place { self.new.batches ≡ self.old.batches }
         ensures due { is_due self.new ≡ false }
     {
         self.is_parked = true;
@@ -150,6 +153,7 @@ impl Client {
     /// Notes an event of the socket.
     pub fn note(&mut self, event: &Event)
         ensures number { self.new.number ≡ self.old.number }
+        ensures place { self.new.batches ≡ self.old.batches }
         ensures more { self.new.link.has_more ≡ true }
     {
         self.link.note(event);

@@ -13,6 +13,7 @@ mod drivers;
 mod dual_stack;
 mod hindrances;
 mod keepalive;
+mod laws;
 mod leaving;
 mod listeners;
 mod login;
@@ -25,6 +26,7 @@ mod stall;
 
 pub use driver::Driver;
 pub use drivers::Drivers;
+pub use laws::one_list_waits;
 pub use listeners::{Listeners, Missing};
 pub use mio_world::MioWorld;
 pub use reloader::Reloader;

@@ -1,6 +1,7 @@
 //! Lets clients in.
 
 ghost use Rattle.std.specs.Prelude.{◌≡◌, ℕ, IfSome, None, OnErr};
+ghost use Rattle.nut_server_sockets.specs.Places.{FindsLight};
 ghost use Rattle.nut_server_sockets.specs.Seats.{HasBesides, KeepsSeats};
 ghost use Rattle.nut_server_sockets.specs.Turns.{IsUnasked, moment_of};
 ghost use Rattle.nut_server_sockets.specs.inside.Looking.{IsLook, KeepsHeeded, Stays};
@@ -78,6 +79,7 @@ impl Sockets {
     ) -> Option<Next>
         ensures look { (token : ℕ) → IsLook self.old server.now token result self.new }
         ensures unasked { IfSome result (λ n. (moment_of n ≡ None) × IsUnasked self.old server.now n) }
+        ensures places { FindsLight self.old.clients.sockets result piece.new.items self.new.clients.sockets }
         ensures none { result ≡ None → self.new.clients ≡ self.old.clients }
         ensures turns { Stays self.old self.new }
     {
@@ -98,6 +100,7 @@ impl Sockets {
     ) -> Option<Next>
         ensures look { (token : ℕ) → IsLook self.old server.now token result self.new }
         ensures unasked { IfSome result (λ n. (moment_of n ≡ None) × IsUnasked self.old server.now n) }
+        ensures places { FindsLight self.old.clients.sockets result piece.new.items self.new.clients.sockets }
         ensures none { result ≡ None → self.new.clients ≡ self.old.clients }
         ensures turns { Stays self.old self.new }
     {
@@ -136,6 +139,7 @@ impl Sockets {
     ) -> Option<Next>
         ensures look { (token : ℕ) → IsLook self.old server.now token result self.new }
         ensures heeds { KeepsHeeded self.old self.new }
+        ensures places { FindsLight self.old.clients.sockets result piece.new.items self.new.clients.sockets }
     {
         match self.door.let_in(i) {
             Ok(()) => {

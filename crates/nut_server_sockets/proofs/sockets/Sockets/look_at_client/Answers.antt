@@ -62,3 +62,8 @@ returns-in-End-clause-heeds c key was =
     let old = c.args.self.now in
     c.close.ensures.turns.1 key (heeds_one old (record old { stall = c.hold.new.self; clients = c.hear.new.self }) c.args.key c.hear.ensures.others
     (c.hold.ensures.line old.rounds.ready) (λ less due. let part = c.in_ok-number.ensures.left due in absurd (cc)) key was)
+
+pub returns-in-Nothing-clause-look : goal.returns-in-Nothing-clause-look
+returns-in-Nothing-clause-look c =
+    let old = c.args.self.now in
+    record { may = tt; goes_on = tt; given = tt; seats = c.hear.ensures.seats; turns = stays old.rounds old.rounds refl; again = tt }
