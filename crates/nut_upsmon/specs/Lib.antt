@@ -1,5 +1,6 @@
 pub mod Stopping
 pub mod Acts
 pub mod Course
+pub mod Reload
 pub mod Memory
 pub mod inside

@@ -3,6 +3,7 @@
 ghost use Rattle.std.specs.Prelude.{◌≡◌, List, Option, IfSome, IfNone, OnOk, OnErr};
 ghost use Rattle.nut_monitor.specs.Texts.{text_of};
 ghost use Rattle.nut_upsmon.specs.Acts.{Act, ClearedFlag, Readied, Changed, Printed, Called, TriedFlag, RanShutdown, IfTold, does, halt_of};
+ghost use Rattle.nut_upsmon.specs.Reload.{MayReload};
 
 use crate::beginning::Beginning;
 use crate::halt::HaltFault;
@@ -46,9 +47,10 @@ pub trait Actor: Drop {
     fn call(&mut self, monitor: &Monitor, notice: Notice)
         ensures { IfTold (log self.new) (does (Called notice (text_of monitor.now.config notice)) (log self.old)) };
 
-    /// Is told that a second has passed. If another configuration can be taken up, returns what its watch begins with,
-    /// and has made ready to halt by it.
+    /// Is told that a second has passed. If another configuration can be taken up in place of this monitor's, returns what
+    /// its watch begins with, and has made ready to halt by it.
     fn second(&mut self, monitor: &Monitor) -> Option<Beginning>
+        ensures may { IfSome result (λ next. MayReload monitor.now next.monitor.config) }
         ensures next { IfSome result (λ next. log self.new ≡ does (Readied (halt_of next.monitor.config)) (log self.old)) }
         ensures none { IfNone result (log self.new ≡ log self.old) };
 

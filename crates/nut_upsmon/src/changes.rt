@@ -1,5 +1,8 @@
 //! What a changed upsmon.conf sets otherwise.
 
+ghost use Rattle.std.specs.Prelude.{◌≡◌, ℕ, Some, None, slice_get};
+ghost use Rattle.nut_conf.specs.declared.monitor.Monitored.{Monitored as Watched};
+
 use nut_conf::{MonConfig, Monitored, UPSMON_DIRECTIVES, UpsmonDirective};
 use nut_poll::text_of;
 use std::alloc::{AllocError, Global};
@@ -83,6 +86,13 @@ impl Changes {
 }
 
 /// Returns the line among these that watches the same UPS.
-pub fn line_of<'a>(lines: &'a [Monitored], line: &Monitored) -> Option<&'a Monitored> {
-    lines.iter().find(|other| other.target == line.target)
+pub fn line_of<'a>(lines: &'a [Monitored], line: &Monitored) -> Option<&'a Monitored>
+    ensures { result ≡ None → (i : ℕ) (other : Watched) → slice_get lines.now i ≡ Some other → other.target ≡ line.now.target → ⊥ }
+{
+    for other in lines {
+        if other.target == line.target {
+            return Some(other);
+        }
+    }
+    None
 }

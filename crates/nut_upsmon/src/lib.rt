@@ -20,6 +20,7 @@ mod monitor;
 mod notifier;
 mod nuts_options;
 mod obeying;
+mod obstacle;
 mod order_sender;
 mod power_down_flag;
 mod process_state;

@@ -1,12 +1,15 @@
 //! A machine in memory.
 
-ghost use Rattle.std.specs.Prelude.{◌≡◌, ◌∷◌, [], Some, None, IfSome, IfNone, IfOk, OnOk, OnErr};
-ghost use Rattle.nut_upsmon.specs.Acts.{IfTold, Readied as ReadiedTo, does, halt_of, text_in};
+ghost use Rattle.std.specs.Prelude.{◌≡◌, ◌∷◌, [], Some, None, IfSome, IfNone, IfOk, OnOk, OnErr, if◌then◌else◌};
+ghost use Rattle.nut_monitor.specs.Texts.{text_of};
+ghost use Rattle.nut_upsmon.specs.Acts.{Called as CalledWith, IfTold, Printed as PrintedAs, Readied as ReadiedTo, does, halt_of, text_in};
+ghost use Rattle.nut_upsmon.specs.Reload.{MayReload};
 ghost use Rattle.nut_upsmon.specs.Memory.{act_of, acts_of, noted_text, told_acts};
 
 use crate::actor::Actor;
 use crate::beginning::Beginning;
 use crate::halt::HaltFault;
+use crate::obstacle::may_reload;
 use crate::power_down_flag::FlagFault;
 use nut_conf::{COMMAND_MAX, MonConfig, Text};
 use nut_monitor::{Monitor, Notice};
@@ -35,7 +38,7 @@ pub enum NotedAct {
 /// A changed upsmon.conf that a machine in memory takes up.
 #[derive(Drop)]
 pub struct MemoryReload {
-    /// How often the machine looks for it in vain, since the one before.
+    /// How often the machine looks for it in vain, since the one before. Then it may still have to wait for the monitor.
     pub after: u64,
     /// What its watch begins with.
     pub beginning: Beginning,
@@ -101,28 +104,30 @@ impl Actor for MemoryMachine {
     fn note(&mut self, _monitor: &Monitor, _notice: Notice) {}
 
     fn print(&mut self, monitor: &Monitor, notice: Notice) {
-        let mut text = Vec::new(self.alloc);
-        match monitor.notice_text(notice, &mut text) {
-            Ok(()) => keep(&mut self.acts, &mut self.is_whole, NotedAct::Printed(text)),
-            Err(_) => self.is_whole = false,
-        }
+        keep_notice(
+            self.alloc,
+            &mut self.acts,
+            &mut self.is_whole,
+            monitor,
+            notice,
+            false,
+        );
     }
 
     fn call(&mut self, monitor: &Monitor, notice: Notice) {
-        let mut text = Vec::new(self.alloc);
-        match monitor.notice_text(notice, &mut text) {
-            Ok(()) => keep(
-                &mut self.acts,
-                &mut self.is_whole,
-                NotedAct::Called(notice, text),
-            ),
-            Err(_) => self.is_whole = false,
-        }
+        keep_notice(
+            self.alloc,
+            &mut self.acts,
+            &mut self.is_whole,
+            monitor,
+            notice,
+            true,
+        );
     }
 
     /// If it lacks the memory to make ready, the configuration isn't taken up.
-    fn second(&mut self, _monitor: &Monitor) -> Option<Beginning> {
-        let next = due(&mut self.reloads)?;
+    fn second(&mut self, monitor: &Monitor) -> Option<Beginning> {
+        let next = due(&mut self.reloads, monitor)?;
         match add_ready(self.alloc, &mut self.acts, self.is_whole, next.config()) {
             Ok(()) => Some(next),
             Err(_) => None,
@@ -192,11 +197,42 @@ fn keep(acts: &mut Vec<NotedAct>, is_whole: &mut bool, one: NotedAct)
     }
 }
 
-/// Returns what the next watch begins with, if it is time.
-fn due(reloads: &mut Vec<MemoryReload>) -> Option<Beginning> {
+/// Notes that a notice was printed, or that NOTIFYCMD was run with it if `is_call`, or that the memory for its text is lacking.
+fn keep_notice(
+    alloc: Global,
+    acts: &mut Vec<NotedAct>,
+    is_whole: &mut bool,
+    monitor: &Monitor,
+    notice: Notice,
+    is_call: bool,
+)
+    ensures { let text = text_of monitor.now.config notice in
+        IfTold (told_acts is_whole.new acts.new.items)
+        (does (if is_call then CalledWith notice text else PrintedAs text) (told_acts is_whole.old acts.old.items)) }
+{
+    let mut text = Vec::new(alloc);
+    if monitor.notice_text(notice, &mut text).is_err() {
+        *is_whole = false;
+        return;
+    }
+    let act = if is_call {
+        NotedAct::Called(notice, text)
+    } else {
+        NotedAct::Printed(text)
+    };
+    keep(acts, is_whole, act);
+}
+
+/// Returns what the next watch begins with, if it is time and may take the place of this monitor's.
+fn due(reloads: &mut Vec<MemoryReload>, monitor: &Monitor) -> Option<Beginning>
+    ensures { IfSome result (λ next. MayReload monitor.now next.monitor.config) }
+{
     let first = reloads.first_mut()?;
     if first.after > 0 {
         first.after -= 1;
+        return None;
+    }
+    if !may_reload(monitor, first.beginning.config()) {
         return None;
     }
     let MemoryReload {

@@ -1,16 +1,18 @@
 //! When a changed upsmon.conf is taken up.
 
-ghost use Rattle.std.specs.Prelude.{◌≡◌, ℕ, None, false};
-ghost use Rattle.nut_monitor_spec.specs.Configuration.{Configuration, Line};
-ghost use Rattle.nut_monitor_spec.specs.Decision.{is_critical};
+ghost use Rattle.std.specs.Prelude.{◌≡◌, IfSome};
+ghost use Rattle.nut_monitor_spec.specs.Content.{phase_of};
+ghost use Rattle.nut_monitor_spec.specs.declared.Phase.TheVariants.{Watching};
+ghost use Rattle.nut_upsmon.specs.Reload.{MayReload};
 
 use crate::beginning::Beginning;
-use crate::changes::{Changes, line_of};
+use crate::changes::Changes;
+use crate::obstacle::{Obstacle, first_obstacle};
 use crate::starting::tell_start;
 use crate::warning::read_and_warn;
-use nut_conf::{MonConfig, Monitored, UpsdConf};
+use nut_conf::{MonConfig, UpsdConf};
 use nut_log::{Level, Lines};
-use nut_monitor::{Known, Monitor, Phase};
+use nut_monitor::{Monitor, Phase};
 use nut_poll::{ErrorLines, Reports, text_of};
 use nut_program::{ConfFile, FileFault, Look, ReloadFile, ReloadReport, Turn, tell_not_reloaded};
 use std::alloc::{AllocError, Global};
@@ -37,7 +39,9 @@ impl Reload {
     }
 
     /// Returns the configuration.
-    pub fn config(&self) -> &MonConfig {
+    pub fn config(&self) -> &MonConfig
+        ensures { result.now ≡ self.now.beginning.monitor.config }
+    {
         self.beginning.config()
     }
 }
@@ -118,7 +122,9 @@ impl UpsmonReloader {
         files: &impl Files,
         monitor: &Monitor,
         err: &mut ErrorLines,
-    ) -> Option<Reload> {
+    ) -> Option<Reload>
+        ensures { IfSome result (λ reload. MayReload monitor.now reload.beginning.monitor.config) }
+    {
         let is_asked = self.is_asked(files, err);
         if monitor.phase() != Phase::Watching {
             if self.waiting.take().is_some() || is_asked {
@@ -136,7 +142,9 @@ impl UpsmonReloader {
     }
 
     /// Reports what a configuration changes that was taken up, and what it sets. Returns what its watch begins with.
-    pub fn report(&self, reload: Reload, err: &mut ErrorLines) -> Beginning {
+    pub fn report(&self, reload: Reload, err: &mut ErrorLines) -> Beginning
+        ensures { result ≡ reload.beginning }
+    {
         let Reload { beginning, changes } = reload;
         self.reports(err)
             .tell(ReloadReport::Reloaded(changes.as_str()));
@@ -176,7 +184,10 @@ impl UpsmonReloader {
     }
 
     /// Returns the configuration that waits, unless it has to continue waiting, which is reported once.
-    fn take_waiting(&mut self, monitor: &Monitor, err: &mut ErrorLines) -> Option<Reload> {
+    fn take_waiting(&mut self, monitor: &Monitor, err: &mut ErrorLines) -> Option<Reload>
+        requires { phase_of monitor.now.content ≡ Watching }
+        ensures { IfSome result (λ reload. MayReload monitor.now reload.beginning.monitor.config) }
+    {
         let Some(Obstacle { line, why }) = first_obstacle(monitor, self.waiting.as_ref()?.config())
         else {
             return self.waiting.take();
@@ -189,41 +200,6 @@ impl UpsmonReloader {
                 "not reloaded yet: UPS {name} {why}"
             );
         }
-        None
-    }
-}
-
-/// A UPS that holds up a reload.
-#[derive(Clone, Copy)]
-struct Obstacle<'a> {
-    line: &'a Monitored,
-    why: &'static str,
-}
-
-/// Returns the first UPS that holds up a reload to this configuration, of those that it continues watching.
-fn first_obstacle<'a>(monitor: &'a Monitor, config: &MonConfig) -> Option<Obstacle<'a>> {
-    let lines = &monitor.config().monitors.lines;
-    for (i, line) in lines.iter().enumerate() {
-        if let Some(why) = monitor.known(i).and_then(unrest)
-            && line_of(&config.monitors.lines, line).is_some()
-        {
-            return Some(Obstacle { line, why });
-        }
-    }
-    None
-}
-
-/// Returns why what is known of a UPS may not be forgotten, if a shutdown may come of it. If none can, however much time
-/// passes, nothing is lost with it.
-fn unrest(known: Known) -> Option<&'static str>
-    ensures { result ≡ None → (configuration : Configuration) (line : Line) (clock : ℕ) → is_critical configuration line clock known.calm known.polled known.flags ≡ false }
-{
-    let flags = known.flags?;
-    if flags.forced_shutdown {
-        Some("has a forced shutdown")
-    } else if flags.on_battery {
-        Some("is on battery")
-    } else {
         None
     }
 }
