@@ -63,7 +63,7 @@ impl MonWorld for MemoryMonWorld {
 
     ghost failed_at_next = { λ w. ⊥ };
 
-    ghost has_ended = { λ w. w.left ≡ [] };
+    ghost has_ended = { λ w m. w.left ≡ [] };
 
     ghost did_self = { λ config. goes_on_self };
 

@@ -41,7 +41,7 @@ pub fn watch<W: MonWorld>(
         (Watched monitor.old.content.configuration (W.did monitor.old.config world.old world.new) monitor.new.content None) }
     ensures phase { IfOk result (λ phase. phase ≡ phase_of monitor.new.content) }
     ensures told { OnOk result (monitor.new.content.notices ≡ []) }
-    ensures ended { IfOk result (λ phase. (is_halted phase ≡ true) ⊎ W.has_ended world.new) }
+    ensures ended { IfOk result (λ phase. (is_halted phase ≡ true) ⊎ W.has_ended world.new monitor.new) }
     ensures fault { W.fault_count world.new ≡ (if is_ok result then W.fault_count world.old else W.fault_count world.old + 1) }
     ensures going { OnErr result (W.failed_at_next world.new → is_halted (phase_of monitor.new.content) ≡ false) }
     ensures config { monitor.new.config ≡ monitor.old.config }
@@ -66,7 +66,7 @@ fn go_on<W: MonWorld>(
     ensures going { OnErr result (W.failed_at_next world.new → is_halted (phase_of monitor.new.content) ≡ false) }
     ensures phase { IfOk result (λ phase. phase ≡ phase_of monitor.new.content) }
     ensures told { OnOk result (monitor.new.content.notices ≡ []) }
-    ensures ended { IfOk result (λ phase. (is_halted phase ≡ true) ⊎ W.has_ended world.new) }
+    ensures ended { IfOk result (λ phase. (is_halted phase ≡ true) ⊎ W.has_ended world.new monitor.new) }
 {
     for _ in rt.forever() {
         if !round(monitor, world, piece)? {
@@ -88,7 +88,7 @@ fn round<W: MonWorld>(
     ensures goes { Goes W.fault_count W.did since world.old result world.new monitor.new }
     ensures going { OnErr result (W.failed_at_next world.new → is_halted (phase_of monitor.new.content) ≡ false) }
     ensures told { result ≡ Ok false → monitor.new.content.notices ≡ [] }
-    ensures ended { result ≡ Ok false → (is_halted (phase_of monitor.new.content) ≡ true) ⊎ W.has_ended world.new }
+    ensures ended { result ≡ Ok false → (is_halted (phase_of monitor.new.content) ≡ true) ⊎ W.has_ended world.new monitor.new }
 {
     tell_all(monitor, world)?;
     // A lost link brings a notice, and may let queries be put on other links. So after a failed write all begins again.
@@ -108,7 +108,7 @@ fn turn<W: MonWorld>(monitor: &mut Monitor, world: &mut W, piece: &mut Piece) ->
     ensures goes { Goes W.fault_count W.did since world.old result world.new monitor.new }
     ensures going { OnErr result (W.failed_at_next world.new → is_halted (phase_of monitor.new.content) ≡ false) }
     ensures told { result ≡ Ok false → monitor.new.content.notices ≡ [] }
-    ensures ended { result ≡ Ok false → (is_halted (phase_of monitor.new.content) ≡ true) ⊎ W.has_ended world.new }
+    ensures ended { result ≡ Ok false → (is_halted (phase_of monitor.new.content) ≡ true) ⊎ W.has_ended world.new monitor.new }
 {
     if has_halted(monitor) {
         return Ok(false);

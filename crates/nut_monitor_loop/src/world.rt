@@ -6,6 +6,7 @@ ghost use Rattle.nut_monitor_spec.specs.Content.{phase_of};
 ghost use Rattle.nut_monitor_spec.specs.Decision.{is_halted};
 ghost use Rattle.nut_io.specs.Writes.{IsWithin, late_after};
 ghost use Rattle.nut_monitor.specs.Events.{event_of};
+ghost use Rattle.nut_monitor.specs.Monitors.{MonitorValue};
 ghost use Rattle.nut_monitor_loop.specs.Record.{Entry, Gave, WasClosed, WasTold, LeadsTo, written_by, NothingIsWithheld};
 
 use crate::Next;
@@ -34,8 +35,8 @@ pub trait MonWorld {
     /// It tells that its last fault was one of `next`.
     ghost failed_at_next: { Self → Type 0 };
 
-    /// Nothing more will come.
-    ghost has_ended: { Self → Type 0 };
+    /// Nothing more will come for this monitor.
+    ghost has_ended: { Self → MonitorValue → Type 0 };
 
     /// Returns how many calls have returned a fault.
     fn faults(&self) -> u64
@@ -53,7 +54,7 @@ pub trait MonWorld {
         ensures ok { IfOk result (λ n. LeadsTo n piece.new.items
             (awaits monitor.now.config self.old self.new) (did monitor.now.config self.old self.new) []) }
         ensures err { OnErr result (did monitor.now.config self.old self.new []) }
-        ensures ended { result ≡ Ok Next.End → has_ended self.new }
+        ensures ended { result ≡ Ok Next.End → has_ended self.new monitor.now }
         ensures none_late { (i : ℕ) → late self.new i ≡ false }
         ensures counted { fault_count self.new ≡ (if is_ok result then fault_count self.old else fault_count self.old + 1) };
 

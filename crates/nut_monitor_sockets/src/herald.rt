@@ -2,6 +2,7 @@
 
 ghost use Rattle.std.specs.Prelude.{◌≡◌, true, List, [], ◌∷◌, ◌++◌};
 ghost use Rattle.nut_conf.specs.declared.upsmon.MonConfig.{MonConfig};
+ghost use Rattle.nut_monitor.specs.Monitors.{MonitorValue};
 ghost use Rattle.nut_monitor_spec.specs.declared.Notice.{Notice};
 
 use nut_monitor::{Monitor, Notice};
@@ -12,8 +13,8 @@ pub trait Herald: Drop {
     /// oldest first, are those that it receives by them.
     ghost told: { MonConfig → Self → Self → List Notice → Type 0 };
 
-    /// It wants the watch to end.
-    ghost wants_end: { Self → Type 0 };
+    /// It wants the watch of this monitor to end.
+    ghost wants_end: { Self → MonitorValue → Type 0 };
 
     /// Receives a notice of this monitor.
     fn announce(&mut self, monitor: &Monitor, notice: Notice)
@@ -24,7 +25,7 @@ pub trait Herald: Drop {
     /// more.
     fn second(&mut self, monitor: &Monitor) -> bool
         ensures told { told monitor.now.config self.old self.new [] }
-        ensures end { result ≡ true → wants_end self.new };
+        ensures end { result ≡ true → wants_end self.new monitor.now };
 
     /// Without a call none is received.
     ghost told_self: { (config : MonConfig) (h : Self) → told config h h [] };

@@ -149,7 +149,7 @@ impl<'r, 'e, R: Net + Clock + Processes, H: Herald> MonWorld for MioMonWorld<'r,
 
     ghost failed_at_next = { λ w. Unit {0} };
 
-    ghost has_ended = { λ w. H.wants_end w.herald };
+    ghost has_ended = { λ w m. H.wants_end w.herald m };
 
     ghost did_self = { λ config w. (
       none_handed (H.told config w.herald w.herald) w.held_losses.lines.items (H.told_self config w.herald),

@@ -2,6 +2,7 @@
 use Rattle.std.specs.Prelude.{◌≡◌, ℕ, Bool, false, List, [], ◌∷◌, ◌++◌, map, Option, Some, IfSome, option_map}
 use Rattle.std.specs.List.{AllByRecursion}
 use Rattle.nut_conf.specs.declared.upsmon.MonConfig.{MonConfig}
+use Rattle.nut_monitor.specs.Monitors.{MonitorValue}
 use Rattle.nut_monitor_spec.specs.declared.Notice.{Notice}
 use Rattle.nut_monitor_spec.specs.declared.Phase.{Phase}
 use Rattle.nut_monitor_spec.specs.declared.Phase.TheVariants.{Halted}
@@ -14,6 +15,7 @@ use Rattle.nut_monitor_loop.specs.Record.{Entry}
 use Rattle.nut_monitor_loop.specs.Watched.{Step, Told, entries_of, history_of}
 use Rattle.nut_monitor_sockets.specs.Handing.{StandFor, lost}
 use Rattle.nut_upsmon.specs.Acts.{Act, Printed, Called, IfTold, IsHalted, told}
+use Rattle.nut_upsmon.specs.Reload.{MayReload}
 
 -- the acts that tell a notice, of a history
 abbrev pub tellings : List Act → List Act
@@ -52,6 +54,15 @@ last_phase w = phase_of (content (configuration_of w.config) (history_of w.steps
 abbrev pub GoesOn : Watch → Type 0
 GoesOn w = is_halted (last_phase w) ≡ false
 
+-- the monitor of a watch, at the end
+abbrev pub monitor_after : Watch → MonitorValue
+monitor_after w = record { config = w.config; content = content (configuration_of w.config) (history_of w.steps) }
+
+-- Of these watches, the newest first, and then one of this configuration, each may replace the one before it by a reload.
+abbrev pub AreReloads : List Watch → MonConfig → Type 0
+AreReloads [] config = Unit {0}
+AreReloads (w ∷ ws) config = MayReload (monitor_after w) config × AreReloads ws w.config
+
 -- a history after these watches, the newest first
 abbrev pub told_in_turn : List Watch → Option (List Act) → Option (List Act)
 told_in_turn [] acts = acts
@@ -64,7 +75,8 @@ Ran {W} Did Turns (w ∷ ws) first last =
     (begun : W) × (ended : W) × Ran Did Turns ws first begun × Did w.config begun ended (entries_of w.steps) × Turns ended last
 
 -- The machine was halted after these watches, as the monitor of the last one said, by its configuration. No earlier monitor
--- said so. All notices were told, each as the configuration of its watch says, and no more.
+-- said so, and the reloads forgot nothing that could have led to that. All notices were told, each as the configuration of its
+-- watch says, and no more.
 pub record EndsInHalt {W : Type 0} (Did : MonConfig → W → W → List Entry → Type 0) (Turns : W → W → Type 0)
     (acts : W → Option (List Act)) (old new : W) : Type 0 where
   pub last : Watch
@@ -74,6 +86,7 @@ pub record EndsInHalt {W : Type 0} (Did : MonConfig → W → W → List Entry �
   pub each : AllByRecursion IsWatch (last ∷ earlier)
   pub says : last_phase last ≡ Halted flag
   pub others : AllByRecursion GoesOn earlier
+  pub reloads : AreReloads earlier last.config
   pub halted : IfSome (acts new) (IsHalted last.config flag)
   pub given : AllByRecursion IsTold (last ∷ earlier)
   pub told : IfTold (option_map tellings (acts new)) (told_in_turn (last ∷ earlier) (option_map tellings (acts old)))

@@ -3,6 +3,7 @@
 ghost use Rattle.std.specs.Prelude.{◌≡◌, Some, None, true, is_some, OnOk, OnErr, if◌then◌else◌};
 ghost use Rattle.nut_conf.specs.declared.upsmon.MonConfig.{MonConfig};
 ghost use Rattle.nut_upsmon.specs.Acts.{does, is_to_call, is_to_print, told, Readied, Changed, TriedFlag, RanShutdown, IfTold, halt_of};
+ghost use Rattle.nut_upsmon.specs.inside.Ready.{IsFollowed};
 ghost use Rattle.nut_upsmon.specs.inside.Telling.{Tells, tells_on, tells_self};
 
 use crate::actor::Actor;
@@ -80,7 +81,7 @@ impl<A: Actor> Guard<A> {
 impl<A: Actor> Herald for Guard<A> {
     ghost told = { λ config a b given. Tells config (A.log a.actor) a.next (A.log b.actor) b.next given };
 
-    ghost wants_end = { λ g. is_some g.next ≡ true };
+    ghost wants_end = { λ g m. IsFollowed g.next m };
 
     ghost told_self = { λ config g. tells_self config (A.log g.actor) g.next };
 
@@ -91,10 +92,13 @@ impl<A: Actor> Herald for Guard<A> {
     }
 
     fn second(&mut self, monitor: &Monitor) -> bool {
-        if let Some(next) = self.actor.second(monitor) {
-            drop(self.next.replace(next));
+        match self.actor.second(monitor) {
+            Some(next) => {
+                drop(self.next.replace(next));
+                true
+            }
+            None => false,
         }
-        self.next.is_some()
     }
 }
 

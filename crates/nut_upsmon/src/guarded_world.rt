@@ -1,7 +1,8 @@
 //! The world of one watch after the other.
 
-ghost use Rattle.std.specs.Prelude.{◌≡◌, ◌+◌, ◌-◌, ◌^◌, ◌<◌, ℕ, List, [], Option, Some, None, is_ok, is_some, if◌then◌else◌, OnOk};
+ghost use Rattle.std.specs.Prelude.{◌≡◌, ◌+◌, ◌-◌, ◌^◌, ◌<◌, ℕ, List, [], Option, Some, None, true, is_ok, is_some, if◌then◌else◌, OnOk};
 ghost use Rattle.nut_conf.specs.declared.upsmon.MonConfig.{MonConfig};
+ghost use Rattle.nut_monitor.specs.Monitors.{MonitorValue};
 ghost use Rattle.nut_monitor_loop.specs.Record.{Entry};
 ghost use Rattle.nut_monitor_loop.specs.Watched.{handed};
 ghost use Rattle.nut_monitor_sockets.specs.Handing.{HandsOn};
@@ -9,6 +10,7 @@ ghost use Rattle.nut_poll.specs.Turns.{TakesTurns};
 ghost use Rattle.nut_poll.specs.inside.TurnLaws.{turns_on, turns_self};
 ghost use Rattle.nut_upsmon.specs.declared.beginning.Beginning.{Beginning as Begins};
 ghost use Rattle.nut_upsmon.specs.Acts.{Act, Changed, TriedFlag, RanShutdown, IfTold, does};
+ghost use Rattle.nut_upsmon.specs.inside.Ready.{IsFollowed};
 ghost use Rattle.nut_upsmon.specs.inside.Telling.{Tells};
 
 use crate::actor::Actor;
@@ -51,7 +53,7 @@ pub trait GuardedWorld: MonWorld {
 
     /// Has the actor halt and tell by the configuration that it is ready for. Returns what its watch begins with.
     fn change(&mut self) -> Beginning
-        requires ended { Self.has_ended self.old }
+        requires next { is_some (upcoming self.old) ≡ true }
         ensures turns { turns self.old self.new }
         ensures acts { IfTold (acts self.new) (does Changed (acts self.old)) }
         ensures was { upcoming self.old ≡ Some result }
@@ -68,6 +70,9 @@ pub trait GuardedWorld: MonWorld {
         ensures turns { turns self.old self.new }
         ensures acts { IfTold (acts self.new)
             (does RanShutdown (if is_flagged then does TriedFlag (acts self.old) else acts self.old)) };
+
+    /// A watch ends once the next one has its beginning, and may take its place.
+    ghost ends: { (w : Self) (m : MonitorValue) → Self.has_ended w m → IsFollowed (upcoming w) m };
 
     /// Without a call nothing changes.
     ghost turns_self: { (w : Self) → turns w w };
@@ -92,6 +97,8 @@ where
     ghost held = { λ w. w.held_losses.lines.items };
 
     ghost turns = { λ a b. TakesTurns a.links.rounds b.links.rounds };
+
+    ghost ends = { λ w m ended. ended };
 
     ghost turns_self = { λ w. turns_self w.links.rounds };
 

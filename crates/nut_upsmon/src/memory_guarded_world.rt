@@ -1,10 +1,11 @@
 //! A world over memory in which one monitor watches after the other.
 
-ghost use Rattle.std.specs.Prelude.{◌≡◌, ◌<◌, ◌+◌, ◌-◌, ◌^◌, true, false, [], ◌∷◌, refl, Some, None, is_some, IfSome, IfOk, OnOk, OnErr};
+ghost use Rattle.std.specs.Prelude.{◌≡◌, ◌<◌, ◌+◌, ◌-◌, ◌^◌, true, false, [], ◌∷◌, refl, Some, None, IfSome, IfOk, OnOk, OnErr};
 ghost use Rattle.nut_monitor_loop.specs.Memory.{GoesOn};
 ghost use Rattle.nut_monitor_loop.specs.Watched.{handed};
 ghost use Rattle.nut_monitor_loop.specs.inside.MemoryLaws.{goes_on_self};
 ghost use Rattle.nut_upsmon.specs.Acts.{Changed, ClearedFlag, Readied, halt_of};
+ghost use Rattle.nut_upsmon.specs.inside.Ready.{IsFollowed};
 ghost use Rattle.nut_upsmon.specs.inside.Telling.{Tells, tells_self};
 ghost use Rattle.nut_upsmon.specs.inside.Remembering.{all_handed, remembers_on, same_twice};
 
@@ -81,7 +82,7 @@ impl MonWorld for MemoryGuardedWorld {
 
     ghost failed_at_next = { λ w. w.failed_at_next ≡ true };
 
-    ghost has_ended = { λ w. is_some w.guard.next ≡ true };
+    ghost has_ended = { λ w m. IsFollowed w.guard.next m };
 
     ghost did_self = { λ config w. (goes_on_self w.world, tells_self config w.guard.actor w.guard.next) };
 
@@ -141,6 +142,8 @@ impl GuardedWorld for MemoryGuardedWorld {
     ghost held = { λ w. [] };
 
     ghost turns = { λ a b. b.world ≡ a.world };
+
+    ghost ends = { λ w m ended. ended };
 
     ghost turns_self = { λ w. refl };
 

@@ -1,6 +1,6 @@
 //! Watches one configuration after the other.
 
-ghost use Rattle.std.specs.Prelude.{◌≡◌, ◌⊎◌, ◌+◌, ◌-◌, ◌^◌, ◌<◌, ◌∷◌, List, [], true, None, is_ok, if◌then◌else◌, IfOk, IfSome, OnOk, OnErr};
+ghost use Rattle.std.specs.Prelude.{◌≡◌, ◌+◌, ◌-◌, ◌^◌, ◌<◌, ◌∷◌, List, [], true, false, None, is_ok, is_some, if◌then◌else◌, IfOk, IfSome, OnOk, OnErr};
 ghost use Rattle.std.specs.List.{AllByRecursion};
 ghost use Rattle.nut_monitor_spec.specs.Configuration.{configuration_of};
 ghost use Rattle.nut_monitor_spec.specs.Content.{content};
@@ -141,11 +141,11 @@ fn watch_once<W: GuardedWorld>(
     beginning: Beginning,
 ) -> Result<Phase, ServeFault>
     requires few { W.fault_count world.old < 2 ^ 64 - 1 }
-    ensures ok { IfOk result (λ phase. Leads W.did W.turns W.acts beginning.monitor.config world.old world.new phase) }
+    ensures ok { IfOk result (λ phase. Leads W.did W.turns W.acts W.upcoming beginning.monitor.config world.old world.new phase) }
     ensures err { OnErr result (W.failed_at_next world.new → Fails W.did W.turns beginning.monitor.config world.old world.new) }
     ensures ready { IsReady (W.acts world.old) (W.upcoming world.old) beginning.monitor.config
         → IsReady (W.acts world.new) (W.upcoming world.new) beginning.monitor.config }
-    ensures ended { IfOk result (λ phase. (is_halted phase ≡ true) ⊎ W.has_ended world.new) }
+    ensures ended { IfOk result (λ phase. is_halted phase ≡ false → is_some (W.upcoming world.new) ≡ true) }
     ensures counted { W.fault_count world.new ≡ (if is_ok result then W.fault_count world.old else W.fault_count world.old + 1) }
 {
     let Beginning { monitor, links } = beginning;
@@ -161,10 +161,9 @@ fn watch_from<W: MonWorld>(
 ) -> Result<Phase, ServeFault>
     requires untold { monitor.content ≡ content (configuration_of monitor.config) [] }
     requires few { W.fault_count world.old < 2 ^ 64 - 1 }
-    ensures ok { IfOk result (Whole monitor.config (W.did monitor.config world.old world.new)) }
+    ensures ok { IfOk result (Whole monitor.config (W.did monitor.config world.old world.new) (W.has_ended world.new)) }
     ensures err { OnErr result (W.failed_at_next world.new → Broken monitor.config (W.did monitor.config world.old world.new)) }
     ensures did { (entries : List Entry) × W.did monitor.config world.old world.new entries }
-    ensures ended { IfOk result (λ phase. (is_halted phase ≡ true) ⊎ W.has_ended world.new) }
     ensures counted { W.fault_count world.new ≡ (if is_ok result then W.fault_count world.old else W.fault_count world.old + 1) }
 {
     watch(rt, &mut monitor, world)

@@ -5,7 +5,8 @@ use Rattle.nut_upsmon.proofs.watching.watch_from.Goals as goal
 
 pub returns-clause-ok : goal.returns-clause-ok
 returns-clause-ok g c =
-    whole _ c.args.monitor.config _ _ c.watch.result (ap (λ (s : Content). s.configuration) c.requires.untold) c.watch.ensures.ok c.watch.ensures.told c.watch.ensures.phase
+    whole _ c.args.monitor.config _ _ c.watch.new.monitor c.watch.result (ap (λ (s : Content). s.configuration) c.requires.untold) c.watch.ensures.config
+    c.watch.ensures.ok c.watch.ensures.told c.watch.ensures.phase c.watch.ensures.ended
 
 pub returns-clause-err : goal.returns-clause-err
 returns-clause-err g c =

@@ -1,12 +1,18 @@
 use Rattle.nut_upsmon.specs.inside.Running.{Fails}
-use Rattle.nut_upsmon.proofs.Coursing.{fails, fails_at_once, leads, on_err, same_ready}
+use Rattle.nut_upsmon.proofs.Coursing.{fails, fails_at_once, has_next, leads, on_err, same_ready}
 use Rattle.nut_upsmon.proofs.watching.watch_once.Goals as goal
 
 pub returns-clause-ok : goal.returns-clause-ok
 returns-clause-ok g c =
     leads g.W.MonWorld.did g.W.GuardedWorld.turns g.W.GuardedWorld.acts g.W.GuardedWorld.upcoming g.W.GuardedWorld.held c.args.beginning.monitor.config
     c.args.world.now c.begin.new.self c.watch_from.new.world c.watch_from.result c.begin.ensures.turns c.begin.ensures.acts c.in_ok-begin.ensures.held
-    (λ entries did. g.met.W.GuardedWorld.tells _ _ _ entries did) c.watch_from.ensures.ok
+    (λ entries did. g.met.W.GuardedWorld.tells _ _ _ entries did)
+    g.W.MonWorld.has_ended (g.met.W.GuardedWorld.ends c.watch_from.new.world) c.watch_from.ensures.ok
+
+pub returns-clause-ended : goal.returns-clause-ended
+returns-clause-ended g c =
+    has_next g.W.MonWorld.did g.W.GuardedWorld.turns g.W.GuardedWorld.acts g.W.GuardedWorld.upcoming c.args.beginning.monitor.config
+    c.args.world.now c.watch_from.new.world c.watch_from.result (returns-clause-ok g c)
 
 pub returns-clause-err : goal.returns-clause-err
 returns-clause-err g c =
