@@ -59,8 +59,7 @@ pub fn listen(
     match listeners.take_obstacle() {
         Some(missing) => {
             let (host, port, error) = missing.into_parts();
-            let remark = format!(in alloc; "{error}").ok();
-            Err(Failure::Own(UpsdFault::Listen(host, port, remark)))
+            Err(listen_fault(alloc, host, port, &error))
         }
         None => Ok(listeners),
     }
@@ -94,10 +93,13 @@ fn cannot_listen(alloc: Global, host: &str, port: u16, error: &io::Error) -> Fai
         return Failure::Memory;
     }
     match String::from_str(alloc, host) {
-        Ok(host) => {
-            let remark = format!(in alloc; "{error}").ok();
-            Failure::Own(UpsdFault::Listen(host, port, remark))
-        }
+        Ok(host) => listen_fault(alloc, host, port, error),
         Err(_) => Failure::Memory,
     }
+}
+
+/// Returns the fault that this error makes it impossible to listen at a host.
+fn listen_fault(alloc: Global, host: String, port: u16, error: &io::Error) -> Failure<UpsdFault> {
+    let remark = format!(in alloc; "{error}").ok();
+    Failure::Own(UpsdFault::Listen(host, port, remark))
 }
