@@ -35,11 +35,11 @@ CRATES_OF_LAWS = "nut_server_spec nut_monitor_spec nut_conf nut_client nut_dummy
 
 HEAD = """# What has to be believed
 
-For whoever checks what is proved. If you believe the definitions below, you believe what the clauses of these calls and laws say
+For whoever checks what is proved. If you believe the definitions below, you believe what these calls and laws say
 (docs/proved.md; a law's definition has its name). Each section lists what it adds to those before it: by crate, with the number of
 lines, comments included, and by file, in the order in which definitions build on each other. Lines of `nut_words` is
 `crates/nut_words/specs/Lines.antt`, whose comments say what it means. The last section has the types and constants of the code that
-definitions name. Words of the toolchain's library aren't listed. `python3 -m tests.gate.believe 'A monitor'` prints all that one
+definitions name. Words of the toolchain aren't listed. `python3 -m tests.gate.believe 'A monitor'` prints all that one
 section leads to.
 
 Two files have second forms. If you believe `nut_words: Spelling`, you need only `has_backslash`, `with_backslash` and `Gives` of
@@ -47,14 +47,13 @@ Two files have second forms. If you believe `nut_words: Spelling`, you need only
 `line_adds` of `nut_state: Step` (law `every_table_holds`).
 
 `Server::arrive` looks back at all arrivals. If you prefer a machine, `Server::step` says what one arrival makes of the server's content.
-With what callers see, but without `Server::new`, it leads to STEP_LINES lines, of which `nut_server_spec: machine/Machine` and
+With what callers see, without `Server::new`, it leads to STEP_LINES lines, of which `nut_server_spec: machine/Machine` and
 `MachineOutcome` stand in no section.
 
 `HasPlayed` of `nut_play` stands for some relation. You needn't know which: `Fleet::new` says that it holds, `Fleet::play` that it goes
-on, and what follows from it stands beside it. So what it leads to isn't listed.
+on, and what follows stands beside it. So what it leads to isn't listed.
 
-`python3 -m tests.gate.believe --write` makes this page. A test fails if the page differs, if it doesn't find a name that a clause or a
-definition has, or if a law is in no section.
+`python3 -m tests.gate.believe --write` makes this page. A test fails if it differs, or if a name or a law is in no section.
 """
 
 
@@ -95,16 +94,21 @@ def clauses(text, at):
             break
         i += 1
     names = set(re.findall(rf"\b({WORD})\s*:(?!:)", parameters or text[start_of_parameters:i]))
-    return names | set(re.findall(rf"[<,]\s*({WORD})\s*(?=[:,>])", text[at:start_of_parameters])), found
+    return names | type_parameters(text[at:start_of_parameters]), found
+
+
+def type_parameters(text):
+    """Returns the type parameters in front of those of a function, or of an impl."""
+    return set(re.findall(rf"[<,]\s*({WORD})\s*(?=[:,>])", text))
 
 
 def owners(text):
-    """Returns where each impl or trait block of a file begins and ends, the name of its type, and whether all of its members count
-    as public."""
+    """Returns where each impl or trait block of a file begins and ends, the name of its type, whether all of its members count as
+    public, whether it is an impl of a trait, and its type parameters."""
     found = []
     for block in re.finditer(rf"^(?:pub )?(impl(?:<[^\n]*?>)? ((?:[\w:<>', +]+ for )?)|trait )({WORD})[^\n{{]*", text, re.M):
         end = text.find("\n}", block.start())
-        found.append((block.start(), end, block[3], block[1].startswith("trait"), bool(block[2])))
+        found.append((block.start(), end, block[3], block[1].startswith("trait"), bool(block[2]), type_parameters(block[0])))
     return found
 
 
@@ -133,6 +137,7 @@ class Source:
             if block and block[4]:
                 continue
             names, said = clauses(self.text, it.end())
+            names |= block[5] if block else set()
             yield Function(f"{block[2]}.{it[2]}" if block else it[2], bool(it[1]) or bool(block and block[3]),
                 bool(STATES.search(before)), names, said)
 
