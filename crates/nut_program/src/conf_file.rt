@@ -1,37 +1,66 @@
 //! Configuration files in their folder.
 
+ghost use Rattle.std.specs.Prelude.{◌≡◌, ◌≢◌, ℕ, List, Result, Ok, Err, Some, None, IfOk, IfSome, IfNone};
+ghost use Rattle.std.specs.Path.{path_join};
+ghost use Rattle.nut_conf.specs.Files.{IsFaultOf, Means};
+ghost use Rattle.nut_program.specs.Reading.{WasRead, telling};
+
+use crate::conf_files::ConfFiles;
 use crate::remark::remark_on;
 use nut_conf::{
-    ConfFault, Descriptions, FILE_MAX, FaultKind, MonConfig, UpsConf, UpsdConf, UsersConf,
-    read_descriptions, read_ups, read_upsd, read_upsmon, read_users,
+    ConfFault, Descriptions, FaultKind, MonConfig, UpsConf, UpsdConf, UsersConf, read_descriptions,
+    read_ups, read_upsd, read_upsmon, read_users,
 };
 use std::alloc::{AllocError, Global};
-use std::fs::File;
-use std::io::{ErrorKind, Read};
-use std::path::{AsPath, Path};
-use std::rt::Files;
-use std::{fmt, fs, io};
+use std::io::ErrorKind;
+use std::path::Path;
+use std::{fmt, io};
 
 /// A configuration that is read from a file.
 pub trait ConfFile: Drop + Sized {
+    ghost use Rattle.nut_conf.specs.declared.fault.FaultKind.{FaultKind};
+
     /// The file's name in its folder.
-    const FILE_NAME: &'static str;
+    ghost name: { List ℕ };
+
+    /// The lines that the bytes of a file spell, or the first fault.
+    ghost reading: { List ℕ → Result (List (List (List ℕ))) (ℕ × FaultKind) };
+
+    /// The configuration holds what these lines set.
+    ghost Holds: { Self → List (List (List ℕ)) → Type 0 };
 
     /// Whether passwords stand in the file.
     const HAS_PASSWORDS: bool;
+
+    /// Returns the file's name in its folder.
+    fn file_name() -> &'static str
+        ensures { result.now ≡ name };
 
     /// Reads the bytes of the file.
     ///
     /// # Errors
     ///
     /// The first fault of the file; `FaultKind::Memory` if memory cannot be allocated.
-    fn read(alloc: Global, bytes: &[u8]) -> Result<Self, ConfFault>;
+    fn read(alloc: Global, bytes: &[u8]) -> Result<Self, ConfFault>
+        ensures { Means (reading bytes.now) Holds result };
 }
 
 impl ConfFile for UpsConf {
-    const FILE_NAME: &'static str = "ups.conf";
+    ghost use Rattle.std.specs.Prelude.{codes};
+    ghost use Rattle.nut_conf.specs.Files.{read_file};
+    ghost use Rattle.nut_conf.specs.Ups.{UpsConfHolds, ups_fault};
+
+    ghost name = { codes "ups.conf" };
+
+    ghost reading = { read_file ups_fault };
+
+    ghost Holds = { UpsConfHolds };
 
     const HAS_PASSWORDS: bool = false;
+
+    fn file_name() -> &'static str {
+        "ups.conf"
+    }
 
     fn read(alloc: Global, bytes: &[u8]) -> Result<Self, ConfFault> {
         read_ups(alloc, bytes)
@@ -39,9 +68,21 @@ impl ConfFile for UpsConf {
 }
 
 impl ConfFile for UsersConf {
-    const FILE_NAME: &'static str = "upsd.users";
+    ghost use Rattle.std.specs.Prelude.{codes};
+    ghost use Rattle.nut_conf.specs.Files.{read_file};
+    ghost use Rattle.nut_conf.specs.Users.{UsersConfHolds, users_fault};
+
+    ghost name = { codes "upsd.users" };
+
+    ghost reading = { read_file users_fault };
+
+    ghost Holds = { UsersConfHolds };
 
     const HAS_PASSWORDS: bool = true;
+
+    fn file_name() -> &'static str {
+        "upsd.users"
+    }
 
     fn read(alloc: Global, bytes: &[u8]) -> Result<Self, ConfFault> {
         read_users(alloc, bytes)
@@ -49,9 +90,21 @@ impl ConfFile for UsersConf {
 }
 
 impl ConfFile for UpsdConf {
-    const FILE_NAME: &'static str = "upsd.conf";
+    ghost use Rattle.std.specs.Prelude.{codes};
+    ghost use Rattle.nut_conf.specs.Files.{read_file};
+    ghost use Rattle.nut_conf.specs.Upsd.{UpsdHolds, upsd_fault};
+
+    ghost name = { codes "upsd.conf" };
+
+    ghost reading = { read_file upsd_fault };
+
+    ghost Holds = { UpsdHolds };
 
     const HAS_PASSWORDS: bool = false;
+
+    fn file_name() -> &'static str {
+        "upsd.conf"
+    }
 
     fn read(alloc: Global, bytes: &[u8]) -> Result<Self, ConfFault> {
         read_upsd(alloc, bytes)
@@ -59,9 +112,20 @@ impl ConfFile for UpsdConf {
 }
 
 impl ConfFile for MonConfig {
-    const FILE_NAME: &'static str = "upsmon.conf";
+    ghost use Rattle.std.specs.Prelude.{codes};
+    ghost use Rattle.nut_conf.specs.Upsmon.{UpsmonHolds, upsmon_reading};
+
+    ghost name = { codes "upsmon.conf" };
+
+    ghost reading = { upsmon_reading };
+
+    ghost Holds = { UpsmonHolds };
 
     const HAS_PASSWORDS: bool = true;
+
+    fn file_name() -> &'static str {
+        "upsmon.conf"
+    }
 
     fn read(alloc: Global, bytes: &[u8]) -> Result<Self, ConfFault> {
         read_upsmon(alloc, bytes)
@@ -69,9 +133,21 @@ impl ConfFile for MonConfig {
 }
 
 impl ConfFile for Descriptions {
-    const FILE_NAME: &'static str = "cmdvartab";
+    ghost use Rattle.std.specs.Prelude.{codes};
+    ghost use Rattle.nut_conf.specs.Files.{read_file};
+    ghost use Rattle.nut_conf.specs.Descriptions.{DescriptionsHold, descriptions_fault};
+
+    ghost name = { codes "cmdvartab" };
+
+    ghost reading = { read_file descriptions_fault };
+
+    ghost Holds = { DescriptionsHold };
 
     const HAS_PASSWORDS: bool = false;
+
+    fn file_name() -> &'static str {
+        "cmdvartab"
+    }
 
     fn read(alloc: Global, bytes: &[u8]) -> Result<Self, ConfFault> {
         read_descriptions(alloc, bytes)
@@ -108,8 +184,10 @@ impl<'a> From<AllocError> for FileFault<'a> {
 }
 
 impl<'a> FileFault<'a> {
-    /// Returns why [`read_file`] failed for the file with this path, which the fault calls by this name.
-    pub fn unread(alloc: Global, path: &str, error: &io::Error, name: &'a str) -> FileFault<'a> {
+    /// Returns why the file with this path, which the fault calls by this name, couldn't be read.
+    pub fn unread(alloc: Global, path: &str, error: &io::Error, name: &'a str) -> FileFault<'a>
+        ensures { (file : _) (line : ℕ) (kind : FaultKind) (remark : _) → result ≢ FileFault.Conf file line kind remark }
+    {
         let remark = match error.kind() {
             ErrorKind::OutOfMemory => return FileFault::Memory,
             ErrorKind::InvalidInput => format!(in alloc; "{path}: not a plain file"),
@@ -137,14 +215,22 @@ impl<'a> FileFault<'a> {
 ///
 /// `CannotRead` if the file isn't a plain one or cannot be opened or read, `Conf` with its first fault, `Memory` if
 /// memory cannot be allocated.
-pub fn read_conf<C: ConfFile>(
-    files: &impl Files,
+pub fn read_conf<C: ConfFile, F: ConfFiles>(
+    files: &mut F,
     alloc: Global,
     folder: &str,
-) -> Result<C, FileFault<'static>> {
-    let name = C::FILE_NAME;
-    let path = Path::new(folder).join(alloc, name)?;
-    read_conf_at(files, alloc, path, name)
+) -> Result<C, FileFault<'static>>
+    ensures conf { IfOk result (λ conf. WasRead C.reading C.Holds (path_join folder.now C.name) (F.told files.old) conf
+        (F.told files.new)) }
+    ensures fault { (name : _) (line : ℕ) (kind : FaultKind) (remark : _) → result ≡ Err (FileFault.Conf name line kind remark)
+        → (bytes : List ℕ) × (F.told files.new ≡ telling (path_join folder.now C.name) (Some bytes) (F.told files.old))
+        × IsFaultOf line kind (C.reading bytes) }
+{
+    let name = C::file_name();
+    let Ok(path) = Path::new(folder).join(alloc, name) else {
+        return Err(FileFault::Memory);
+    };
+    read_conf_at(files, alloc, path.as_str(), name)
 }
 
 /// Reads a configuration from its file in a folder, if the file is there: `None` if it isn't.
@@ -152,17 +238,27 @@ pub fn read_conf<C: ConfFile>(
 /// # Errors
 ///
 /// Those of [`read_conf`], but none for a file that doesn't exist.
-pub fn read_conf_if_there<C: ConfFile>(
-    files: &impl Files,
+pub fn read_conf_if_there<C: ConfFile, F: ConfFiles>(
+    files: &mut F,
     alloc: Global,
     folder: &str,
-) -> Result<Option<C>, FileFault<'static>> {
-    let name = C::FILE_NAME;
-    let path = Path::new(folder).join(alloc, name)?;
-    match read_file(files, alloc, &path, READ_MAX) {
+) -> Result<Option<C>, FileFault<'static>>
+    ensures conf { IfOk result (λ found. IfSome found (λ conf. WasRead C.reading C.Holds (path_join folder.now C.name) (F.told files.old)
+        conf (F.told files.new))) }
+    ensures absent { IfOk result (λ found. IfNone found (F.told files.new
+        ≡ telling (path_join folder.now C.name) None (F.told files.old))) }
+    ensures fault { (name : _) (line : ℕ) (kind : FaultKind) (remark : _) → result ≡ Err (FileFault.Conf name line kind remark)
+        → (bytes : List ℕ) × (F.told files.new ≡ telling (path_join folder.now C.name) (Some bytes) (F.told files.old))
+        × IsFaultOf line kind (C.reading bytes) }
+{
+    let name = C::file_name();
+    let Ok(path) = Path::new(folder).join(alloc, name) else {
+        return Err(FileFault::Memory);
+    };
+    match files.read(alloc, path.as_str()) {
         Ok(bytes) => conf_of(alloc, bytes.as_slice(), name).map(Some),
         Err(error) if error.kind() == ErrorKind::NotFound => Ok(None),
-        Err(error) => Err(FileFault::unread(alloc, path.path_text(), &error, name)),
+        Err(error) => Err(FileFault::unread(alloc, path.as_str(), &error, name)),
     }
 }
 
@@ -171,27 +267,29 @@ pub fn read_conf_if_there<C: ConfFile>(
 /// # Errors
 ///
 /// Those of [`read_conf`].
-pub fn read_conf_at<'a, C: ConfFile, P: AsPath>(
-    files: &impl Files,
+pub fn read_conf_at<'a, C: ConfFile, F: ConfFiles>(
+    files: &mut F,
     alloc: Global,
-    path: P,
+    path: &str,
     name: &'a str,
-) -> Result<C, FileFault<'a>> {
-    match read_file(files, alloc, &path, READ_MAX) {
+) -> Result<C, FileFault<'a>>
+    ensures conf { IfOk result (λ conf. WasRead C.reading C.Holds path.now (F.told files.old) conf (F.told files.new)) }
+    ensures fault { (name : _) (line : ℕ) (kind : FaultKind) (remark : _) → result ≡ Err (FileFault.Conf name line kind remark)
+        → (bytes : List ℕ) × (F.told files.new ≡ telling path.now (Some bytes) (F.told files.old))
+        × IsFaultOf line kind (C.reading bytes) }
+{
+    match files.read(alloc, path) {
         Ok(bytes) => conf_of(alloc, bytes.as_slice(), name),
-        Err(error) => Err(FileFault::unread(alloc, path.path_text(), &error, name)),
+        Err(error) => Err(FileFault::unread(alloc, path, &error, name)),
     }
 }
 
-/// Of a file that is too long no more bytes are read than show that.
-const READ_MAX: u64 = FILE_MAX as u64 + 1;
-
 /// Reads a configuration from the bytes of its file.
-fn conf_of<'a, C: ConfFile>(
-    alloc: Global,
-    bytes: &[u8],
-    name: &'a str,
-) -> Result<C, FileFault<'a>> {
+fn conf_of<'a, C: ConfFile>(alloc: Global, bytes: &[u8], name: &'a str) -> Result<C, FileFault<'a>>
+    ensures conf { IfOk result (λ conf. Means (C.reading bytes.now) C.Holds (Ok conf)) }
+    ensures fault { (name : _) (line : ℕ) (kind : FaultKind) (remark : _) → result ≡ Err (FileFault.Conf name line kind remark)
+        → IsFaultOf line kind (C.reading bytes.now) }
+{
     match C::read(alloc, bytes) {
         Ok(conf) => Ok(conf),
         Err(fault) if fault.kind == FaultKind::Memory => Err(FileFault::Memory),
@@ -200,26 +298,4 @@ fn conf_of<'a, C: ConfFile>(
             Err(FileFault::Conf(name, fault.line, fault.kind, remark))
         }
     }
-}
-
-/// Returns the bytes of a plain file, of a longer one the first `most`. No other file is opened: a pipe could block the
-/// program for ever, and a device may have no end.
-///
-/// # Errors
-///
-/// That of the system if the file doesn't exist, or cannot be opened or read; of the kind `InvalidInput` if it isn't a
-/// plain file; of the kind `OutOfMemory` if memory cannot be allocated.
-pub fn read_file<P: AsPath>(
-    files: &impl Files,
-    alloc: Global,
-    path: P,
-    most: u64,
-) -> io::Result<Vec<u8>> {
-    if !fs::metadata(files, &path)?.is_file() {
-        return Err(io::Error::from(ErrorKind::InvalidInput));
-    }
-    let file = File::open(files, path)?;
-    let mut bytes = Vec::new(alloc);
-    file.take(most).read_to_end(&mut bytes)?;
-    Ok(bytes)
 }

@@ -4,8 +4,10 @@
 mod arguments;
 mod command_line;
 mod conf_file;
+mod conf_files;
 mod failure;
 mod folder;
+mod memory_files;
 mod named_lines;
 mod nuts_option;
 mod pairing;
@@ -23,9 +25,11 @@ pub use arguments::{refuse_start, words_of};
 pub use command_line::{
     UNKNOWN_OPTION, check_option, debug_option, foreground_option, quiet_option,
 };
-pub use conf_file::{ConfFile, FileFault, read_conf, read_conf_at, read_conf_if_there, read_file};
+pub use conf_file::{ConfFile, FileFault, read_conf, read_conf_at, read_conf_if_there};
+pub use conf_files::{ConfFiles, SystemFiles, read_file};
 pub use failure::{Failure, OwnFault, tell_not_reloaded};
 pub use folder::conf_folder;
+pub use memory_files::MemoryFiles;
 pub use named_lines::NamedLines;
 pub use nuts_option::{NutsOption, way_of};
 pub use pairing::paired;

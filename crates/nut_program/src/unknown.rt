@@ -37,7 +37,7 @@ pub fn remark_on_unknown<C: ConfFile>(alloc: Global, line: &[u8]) -> Option<Stri
             return format!(in alloc; "{word} isn't taken here: see from-nut(7)").ok();
         }
     }
-    let name = C::FILE_NAME;
+    let name = C::file_name();
     format!(in alloc; "a directive of {name} is meant").ok()
 }
 

@@ -3,14 +3,13 @@
 ghost use Rattle.std.specs.Prelude.{◌↔◌, ◌≡◌, ◌≢◌, IsSome, bit_and};
 
 use crate::conf_file::ConfFile;
+use crate::conf_files::ConfFiles;
 use nut_log::{Level, Lines};
 use std::alloc::{AllocError, Global};
+use std::fmt;
 use std::fmt::Display;
 use std::io::Write;
-use std::os::unix::fs::PermissionsExt;
 use std::path::Path;
-use std::rt::Files;
-use std::{fmt, fs};
 
 /// The bit of a file's mode that lets users read it who are neither its owner nor in its group.
 const OTHERS_READ: u32 = 0o004;
@@ -53,14 +52,14 @@ impl Readable {
 /// Warns if the file of a configuration, which holds passwords, can be read by everybody. If there is no such file, it
 /// doesn't warn.
 pub fn readable_file<C: ConfFile>(
-    files: &impl Files,
+    files: &impl ConfFiles,
     alloc: Global,
     folder: &str,
 ) -> Result<Option<Readable>, AllocError> {
-    let name = C::FILE_NAME;
+    let name = C::file_name();
     let path = Path::new(folder).join(alloc, name)?;
-    match fs::metadata(files, path) {
-        Ok(found) => Ok(Readable::of_mode(name, found.permissions().mode())),
+    match files.mode(path.as_str()) {
+        Ok(mode) => Ok(Readable::of_mode(name, mode)),
         Err(_) => Ok(None),
     }
 }

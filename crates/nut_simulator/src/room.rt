@@ -2,14 +2,13 @@
 
 use crate::fault::NutsimFault;
 use nut_conf::MonConfig;
-use nut_program::{Failure, FileFault, paired, read_conf, read_conf_at};
+use nut_program::{ConfFiles, Failure, FileFault, paired, read_conf, read_conf_at};
 use nut_server::Config;
 use std::alloc::{AllocError, Global};
-use std::rt::Files;
 
 /// Reads ups.conf, upsd.users and upsd.conf in a directory.
 pub fn read_config(
-    files: &impl Files,
+    files: &mut impl ConfFiles,
     alloc: Global,
     folder: &str,
 ) -> Result<Config, FileFault<'static>> {
@@ -21,7 +20,7 @@ pub fn read_config(
 
 /// Reads the upsmon.conf of each monitor, in order, whatever the file is called.
 pub fn read_monitors<'a>(
-    files: &impl Files,
+    files: &mut impl ConfFiles,
     alloc: Global,
     paths: &[&'a str],
 ) -> Result<Vec<MonConfig>, Failure<NutsimFault<'a>>> {

@@ -5,7 +5,7 @@ use crate::fault::NutsimFault;
 use crate::playing::play_schedule;
 use crate::room::{read_config, read_monitors};
 use nut_play::Fleet;
-use nut_program::{Failure, FileFault, NamedLines, hold_closed_streams, paired};
+use nut_program::{Failure, FileFault, NamedLines, SystemFiles, hold_closed_streams, paired};
 use std::alloc::Global;
 use std::convert::AsStr;
 use std::fs::File;
@@ -92,13 +92,13 @@ fn play_room<'a, O: Write, E: Write>(
     err: &mut E,
     is_terminal: bool,
 ) -> Result<(), Failure<NutsimFault<'a>>> {
-    let config = read_config(files, alloc, names.folder)?;
+    let config = read_config(&mut SystemFiles::new(files), alloc, names.folder)?;
     let path = names.schedule;
     let schedule = open_schedule(files, alloc, path).map_err(|error| FileFault::unread(
         alloc, path, &error, path,
     ));
     let (schedule, config) = paired(schedule, config)?;
-    let monitors = read_monitors(files, alloc, names.monitors);
+    let monitors = read_monitors(&mut SystemFiles::new(files), alloc, names.monitors);
     let (monitors, (mut schedule, config)) = paired(monitors, (schedule, config))?;
     let Ok(mut fleet) = Fleet::new(alloc, config, monitors) else {
         return Err(Failure::Memory);

@@ -1,14 +1,19 @@
 //! The configuration that upsd's command line names.
 
+ghost use Rattle.std.specs.Prelude.{◌≡◌, Ok, IfOk, OnOk};
+ghost use Rattle.nut_server.specs.Configured.{configuration_of};
+ghost use Rattle.nut_upsd.specs.Reading.{WereRead};
+
 use crate::read_ups_options;
 use crate::upsd_fault::UpsdFault;
 use clap::ArgMatches;
 use nut_conf::{Descriptions, FaultKind, UpsConf, UpsdConf, UsersConf};
 use nut_poll::ErrorLines;
-use nut_program::{Failure, FileFault, paired, read_conf, read_conf_if_there, readable_file, warn};
+use nut_program::{
+    ConfFiles, Failure, FileFault, paired, read_conf, read_conf_if_there, readable_file, warn,
+};
 use nut_server::Config;
 use std::alloc::Global;
-use std::rt::Files;
 
 /// What ups.conf, upsd.users and upsd.conf set, and cmdvartab, if it is there.
 #[derive(Drop)]
@@ -31,12 +36,14 @@ impl Settings {
     }
 
     /// Reads the files of a folder, up to the first that has a fault.
-    fn read(
+    fn read<F: ConfFiles>(
         &mut self,
-        files: &impl Files,
+        files: &mut F,
         alloc: Global,
         folder: &str,
-    ) -> Result<(), FileFault<'static>> {
+    ) -> Result<(), FileFault<'static>>
+        ensures { OnOk result (WereRead folder.now (F.told files.old) self.new (F.told files.new)) }
+    {
         put(&mut self.ups, read_conf(files, alloc, folder))?;
         put(&mut self.users, read_conf(files, alloc, folder))?;
         put(&mut self.upsd, read_conf(files, alloc, folder))?;
@@ -47,7 +54,9 @@ impl Settings {
     }
 
     /// Makes the configuration of a server.
-    pub fn into_config(self) -> Config {
+    pub fn into_config(self) -> Config
+        ensures { result ≡ configuration_of self.ups self.users self.upsd self.descriptions }
+    {
         let Settings {
             ups,
             users,
@@ -67,7 +76,9 @@ impl Settings {
 fn put<T: Drop>(
     place: &mut T,
     read: Result<T, FileFault<'static>>,
-) -> Result<(), FileFault<'static>> {
+) -> Result<(), FileFault<'static>>
+    ensures { OnOk result (read.entry ≡ Ok place.new) }
+{
     *place = read?;
     Ok(())
 }
@@ -77,8 +88,8 @@ fn put<T: Drop>(
 /// # Errors
 ///
 /// The first fault of the files or of `--ups`, or a lack of memory.
-pub fn read_options(
-    files: &impl Files,
+pub fn read_options<F: ConfFiles>(
+    files: &mut F,
     alloc: Global,
     matches: &ArgMatches<'_>,
 ) -> Result<Settings, Failure<UpsdFault>> {
@@ -98,11 +109,13 @@ pub fn read_options(
 }
 
 /// Reads the files of a folder.
-fn read_settings(
-    files: &impl Files,
+fn read_settings<F: ConfFiles>(
+    files: &mut F,
     alloc: Global,
     folder: &str,
-) -> Result<Settings, FileFault<'static>> {
+) -> Result<Settings, FileFault<'static>>
+    ensures { IfOk result (λ settings. WereRead folder.now (F.told files.old) settings (F.told files.new)) }
+{
     let mut settings = Settings::new(alloc);
     let read = settings.read(files, alloc, folder);
     // `and` drops the settings if that failed
@@ -114,12 +127,14 @@ fn read_settings(
 /// # Errors
 ///
 /// The first fault of a file; [`FileFault::Memory`] if memory cannot be allocated.
-pub fn read_folder(
-    files: &impl Files,
+pub fn read_folder<F: ConfFiles>(
+    files: &mut F,
     alloc: Global,
     folder: &str,
     err: &mut ErrorLines,
-) -> Result<Settings, FileFault<'static>> {
+) -> Result<Settings, FileFault<'static>>
+    ensures { IfOk result (λ settings. WereRead folder.now (F.told files.old) settings (F.told files.new)) }
+{
     let settings = read_settings(files, alloc, folder)?;
     let (readable, settings) = paired(readable_file::<UsersConf>(files, alloc, folder), settings)?;
     warn(readable, err);

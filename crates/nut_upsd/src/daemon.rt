@@ -13,7 +13,7 @@ use crate::upsd_fault::{UpsdFault, exit_status};
 use clap::ArgMatches;
 use libc::geteuid;
 use nut_poll::{ErrorLines, Reports};
-use nut_program::{Failure, conf_folder, hold_closed_streams, paired};
+use nut_program::{ConfFiles, Failure, SystemFiles, conf_folder, hold_closed_streams, paired};
 use nut_server::{Config, Server};
 use nut_server_loop::serve;
 use nut_server_sockets::{Drivers, Listeners, MioWorld, Reloader};
@@ -82,11 +82,14 @@ fn run<S: AsStr, I: Read, O: Write>(
     if matches.get_flag("check") {
         let folder = conf_folder(rt, alloc, &matches)?;
         // dropped by a call, which keeps the proof of this function short
-        drop(read_folder(rt, alloc, folder.as_str(), err)?);
+        drop(read_folder(&mut SystemFiles::new(rt), alloc, folder.as_str(), err)?);
         return Ok(());
     }
     match matches.get_str("sockets") {
-        Some(sockets) => serve_sockets(rt, alloc, &Options::new(&matches, sockets), err),
+        Some(sockets) => {
+            let options = Options::new(&matches, sockets);
+            serve_sockets(rt, &mut SystemFiles::new(rt), alloc, &options, err)
+        }
         None => serve_options(rt, alloc, &matches, input, out),
     }
 }
@@ -113,15 +116,16 @@ impl<'m> Options<'m> {
 
 /// Serves clients over sockets, at the addresses and with the configuration of a folder's files, and reports to the operator
 /// on `err` unless that is to be quiet. Returns only with a fault: of the files, of a listener, of memory, or of the world.
-fn serve_sockets<R: Wait + Files + Net + Clock + Processes>(
+fn serve_sockets<R: Wait + Files + Net + Clock + Processes, F: ConfFiles>(
     rt: &R,
+    files: &mut F,
     alloc: Global,
     options: &Options<'_>,
     err: &mut ErrorLines,
 ) -> Result<(), Failure<UpsdFault>> {
     // no file and no socket takes the place of a standard stream that is closed
     let _held = hold_closed_streams(rt, alloc)?;
-    let folder = Folder::new(rt, alloc, options.conf, options.sockets)?;
+    let mut folder = Folder::new(rt, files, alloc, options.conf, options.sockets)?;
     let (settings, folder) = paired(folder.read(err), folder)?;
     let listeners = listen(rt, alloc, &settings.upsd);
     let (listeners, (settings, mut folder)) = paired(listeners, (settings, folder))?;

@@ -1,11 +1,15 @@
 //! Reads the files again when the operator asks for that.
 
+ghost use Rattle.std.specs.Prelude.{◌≡◌, IfOk, IfSome};
+ghost use Rattle.nut_server.specs.Configured.{configuration_of};
+ghost use Rattle.nut_upsd.specs.Reading.{WereRead};
+
 use crate::changes::changes;
 use crate::configuration::{Settings, read_folder};
 use nut_conf::{Endpoint, MonConfig};
 use nut_poll::{ErrorLines, Reports};
 use nut_program::{
-    ConfFile, FileFault, Look, ReloadFile, ReloadReport, Turn, paired, tell_not_reloaded,
+    ConfFile, ConfFiles, FileFault, Look, ReloadFile, ReloadReport, Turn, paired, tell_not_reloaded,
 };
 use nut_server::{Config, Refused, Server};
 use nut_server_sockets::Reloader;
@@ -20,8 +24,10 @@ const TURN: Turn = Turn::First;
 /// in the one of the drivers' sockets: upsd can remove a file from the second one even where only root may write to the
 /// first one, or nobody.
 #[derive(Drop)]
-pub struct Folder<'r, F> {
-    files: &'r F,
+pub struct Folder<'r, R, F> {
+    rt: &'r R,
+    /// Who reads the files of the configuration.
+    files: &'r mut F,
     alloc: Global,
     folder: &'r str,
     /// The file in the folder of the files.
@@ -34,22 +40,24 @@ pub struct Folder<'r, F> {
     changes: Option<String>,
 }
 
-impl<'r, F: Files> Folder<'r, F> {
+impl<'r, R: Files, F: ConfFiles> Folder<'r, R, F> {
     /// Returns the folder with this path, beside the folder of the drivers' sockets. A request for a reload counts from now
     /// on.
     pub fn new(
-        files: &'r F,
+        rt: &'r R,
+        files: &'r mut F,
         alloc: Global,
         folder: &'r str,
         sockets: &str,
     ) -> Result<Self, AllocError> {
-        let file = file_in(files, alloc, folder)?;
+        let file = file_in(rt, alloc, folder)?;
         let socket_file = if sockets == folder {
             None
         } else {
-            Some(file_in(files, alloc, sockets)?)
+            Some(file_in(rt, alloc, sockets)?)
         };
         Ok(Folder {
+            rt,
             files,
             alloc,
             folder,
@@ -65,12 +73,17 @@ impl<'r, F: Files> Folder<'r, F> {
     /// # Errors
     ///
     /// Those of [`read_folder`].
-    pub fn read(&self, err: &mut ErrorLines) -> Result<Settings, FileFault<'static>> {
+    pub fn read(&mut self, err: &mut ErrorLines) -> Result<Settings, FileFault<'static>>
+        ensures read { IfOk result (λ settings. WereRead self.old.folder.now (F.told self.old.files.now) settings (F.told self.new.files.now)) }
+        ensures stays { (self.new.folder ≡ self.old.folder) × (self.new.endpoints ≡ self.old.endpoints) }
+    {
         read_folder(self.files, self.alloc, self.folder, err)
     }
 
     /// Makes the configuration of the start, whose LISTEN lines stay in force.
-    pub fn start(&mut self, mut settings: Settings) -> Config {
+    pub fn start(&mut self, mut settings: Settings) -> Config
+        ensures { result ≡ configuration_of settings.ups settings.users settings.upsd settings.descriptions }
+    {
         self.endpoints = mem::replace(&mut settings.upsd.listen.lines, Vec::new(self.alloc));
         settings.into_config()
     }
@@ -80,7 +93,12 @@ impl<'r, F: Files> Folder<'r, F> {
         &mut self,
         server: &Server,
         err: &mut ErrorLines,
-    ) -> Result<Box<Config>, FileFault<'static>> {
+    ) -> Result<Box<Config>, FileFault<'static>>
+        ensures read { IfOk result (λ config. (settings : Settings)
+            × WereRead self.old.folder.now (F.told self.old.files.now) settings (F.told self.new.files.now)
+            × (config.value ≡ configuration_of settings.ups settings.users settings.upsd settings.descriptions)) }
+        ensures stays { (self.new.folder ≡ self.old.folder) × (self.new.endpoints ≡ self.old.endpoints) }
+    {
         let settings = self.read(err)?;
         let listens_elsewhere = settings.upsd.listen.lines != self.endpoints;
         let Ok(config) = Box::new(self.alloc, settings.into_config()) else {
@@ -96,7 +114,7 @@ impl<'r, F: Files> Folder<'r, F> {
 /// Returns the file `reload` of a folder.
 fn file_in(files: &impl Files, alloc: Global, folder: &str) -> Result<ReloadFile, AllocError> {
     // upsmon may have the folder, too, if its file is there
-    ReloadFile::new(files, alloc, folder, MonConfig::FILE_NAME, TURN)
+    ReloadFile::new(files, alloc, folder, MonConfig::file_name(), TURN)
 }
 
 /// Whether a file asks for a reload. That it can't be removed is reported.
@@ -111,12 +129,18 @@ fn asks(files: &impl Files, file: &mut ReloadFile, reports: &mut Reports<'_>) ->
     }
 }
 
-impl<'r, F: Files> Reloader for Folder<'r, F> {
-    fn look(&mut self, server: &Server, reports: &mut Reports<'_>) -> Option<Box<Config>> {
-        let mut is_asked = asks(self.files, &mut self.file, reports);
+impl<'r, R: Files, F: ConfFiles> Reloader for Folder<'r, R, F> {
+    /// What it gives is made of the files of the folder as they were read last. If one of them has a fault, nothing is given.
+    fn look(&mut self, server: &Server, reports: &mut Reports<'_>) -> Option<Box<Config>>
+        ensures read { IfSome result (λ config. (settings : Settings)
+            × WereRead self.old.folder.now (F.told self.old.files.now) settings (F.told self.new.files.now)
+            × (config.value ≡ configuration_of settings.ups settings.users settings.upsd settings.descriptions)) }
+        ensures stays { (self.new.folder ≡ self.old.folder) × (self.new.endpoints ≡ self.old.endpoints) }
+    {
+        let mut is_asked = asks(self.rt, &mut self.file, reports);
         // both are looked at, so that together they are one request
         if let Some(socket_file) = &mut self.socket_file {
-            is_asked |= asks(self.files, socket_file, reports);
+            is_asked |= asks(self.rt, socket_file, reports);
         }
         if !is_asked {
             return None;

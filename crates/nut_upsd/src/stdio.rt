@@ -7,7 +7,7 @@ use crate::command_line::stdio_command;
 use crate::configuration::read_options;
 use crate::upsd_fault::{UpsdFault, exit_status};
 use clap::ArgMatches;
-use nut_program::{Failure, NamedLines, hold_closed_streams};
+use nut_program::{Failure, NamedLines, SystemFiles, hold_closed_streams};
 use nut_server::Server;
 use nut_server_loop::{StreamWorld, WorldStream, serve};
 use std::alloc::Global;
@@ -73,7 +73,7 @@ pub fn serve_options<I: Read, O: Write>(
 ) -> Result<(), Failure<UpsdFault>> {
     // no file takes the place of a standard stream that is closed
     let _held = hold_closed_streams(rt, alloc)?;
-    let settings = read_options(rt, alloc, matches)?;
+    let settings = read_options(&mut SystemFiles::new(rt), alloc, matches)?;
     let Ok(mut server) = Server::new(alloc, settings.into_config()) else {
         return Err(Failure::Memory);
     };

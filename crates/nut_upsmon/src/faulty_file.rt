@@ -27,7 +27,7 @@ pub fn last_flag_in(
     alloc: Global,
     folder: &str,
 ) -> io::Result<Option<PowerDownFlag>> {
-    let path = Path::new(folder).join(alloc, MonConfig::FILE_NAME)?;
+    let path = Path::new(folder).join(alloc, MonConfig::file_name())?;
     let bytes = read_file(files, alloc, path, FILE_MAX as u64)?;
     for line in bytes.rsplit(|byte| *byte == b'\n') {
         let flag = flag_of_line(alloc, line)?;

@@ -19,7 +19,7 @@ use crate::watching::watch_over_sockets;
 use nut_conf::MonConfig;
 use nut_log::LogStream;
 use nut_poll::{ErrorLines, LossyLines};
-use nut_program::{Failure, FileFault, Streams, read_conf, way_of};
+use nut_program::{Failure, FileFault, Streams, SystemFiles, read_conf, way_of};
 use std::alloc::{Alloc, Global};
 use std::convert::AsStr;
 use std::env::Env;
@@ -157,7 +157,7 @@ fn read_config(
     alloc: Global,
     folder: &str,
 ) -> Result<MonConfig, Failure<UpsmonFault>> {
-    Ok(read_conf(files, alloc, folder)?)
+    Ok(read_conf(&mut SystemFiles::new(files), alloc, folder)?)
 }
 
 /// Reads upsmon.conf in this folder, writes what it should set otherwise and how soon its machine stops, reports what is

@@ -11,7 +11,7 @@ use nut_conf::MonConfig;
 use nut_halter::{Halter, Order, Orders, obey};
 use nut_log::{Level, Lines};
 use nut_poll::{ErrorLines, LossyLines, OutputLines};
-use nut_program::{Failure, Streams, read_conf};
+use nut_program::{Failure, Streams, SystemFiles, read_conf};
 use std::alloc::{AllocError, Global};
 use std::io::{ErrorKind, Read, Write};
 use std::mem;
@@ -39,7 +39,7 @@ pub fn obey_input<R, I: Read>(
 where
     R: Files + Clock + Processes,
 {
-    let config: MonConfig = read_conf(rt, alloc, folder)?;
+    let config: MonConfig = read_conf(&mut SystemFiles::new(rt), alloc, folder)?;
     // before anything that memory or descriptors may be lacking for
     clear_left_flag(rt, alloc, &config, err)?;
     let heap = halt_heap(alloc);
@@ -129,7 +129,11 @@ impl<'r, R: Files + Processes + Clock> HaltedMachine<'r, R> {
     /// Prepares the halt of a changed upsmon.conf, and then gives up that of the former one. If that fails, nothing has
     /// changed.
     fn try_take_up(&mut self) -> Result<(), UnreadyFault> {
-        let changed: MonConfig = read_conf(self.rt, self.alloc, self.folder)?;
+        let changed: MonConfig = read_conf(
+            &mut SystemFiles::new(self.rt),
+            self.alloc,
+            self.folder,
+        )?;
         let next = PreparedHalt::changed(self.rt, self.alloc, self.heap, &changed)?;
         next.ready_changed_flag(&self.config, &changed, &mut self.err);
         drop(mem::replace(&mut self.config, changed));

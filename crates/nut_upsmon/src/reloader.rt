@@ -78,7 +78,7 @@ impl UpsmonReloader {
     ) -> Result<UpsmonReloader, AllocError> {
         let folder = String::from_str(alloc, folder)?;
         // upsd may have the folder, too, if its file is there
-        let beside = UpsdConf::FILE_NAME;
+        let beside = UpsdConf::file_name();
         let file = ReloadFile::new(files, alloc, folder.as_str(), beside, TURN)?;
         Ok(UpsmonReloader {
             alloc,

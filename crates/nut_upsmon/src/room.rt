@@ -14,7 +14,7 @@ use nut_log::{Level, Lines, LogStream};
 use nut_monitor::has_primary;
 use nut_monitor_sockets::ANSWER_ON_BATTERY;
 use nut_poll::ErrorLines;
-use nut_program::{Failure, read_conf};
+use nut_program::{Failure, SystemFiles, read_conf};
 use std::alloc::Global;
 use std::io;
 use std::io::{Stdout, Write};
@@ -52,7 +52,7 @@ pub fn check_room(
 ) -> Result<u8, Failure<UpsmonFault>> {
     let mut machines = Vec::new(alloc);
     for folder in folders {
-        let read = read_conf(files, alloc, folder);
+        let read = read_conf(&mut SystemFiles::new(files), alloc, folder);
         if read.is_err() {
             let _ = writeln!(err.begin(Level::Error), "in {folder}:");
         }

@@ -5,7 +5,7 @@ ghost use Rattle.std.specs.Prelude.{◌↔◌, ◌≡◌, ◌<◌, ◌+◌, IsSo
 use crate::stopping::DELAY;
 use nut_conf::MonConfig;
 use nut_poll::ErrorLines;
-use nut_program::{FileFault, read_conf, readable_file, warn};
+use nut_program::{FileFault, SystemFiles, read_conf, readable_file, warn};
 use std::alloc::{AllocError, Global};
 use std::fmt;
 use std::io::Write;
@@ -111,8 +111,9 @@ pub fn read_and_warn(
     folder: &str,
     err: &mut ErrorLines,
 ) -> Result<MonConfig, FileFault<'static>> {
-    let config = read_conf(files, alloc, folder)?;
-    match readable_file::<MonConfig>(files, alloc, folder) {
+    let mut files = SystemFiles::new(files);
+    let config = read_conf(&mut files, alloc, folder)?;
+    match readable_file::<MonConfig>(&files, alloc, folder) {
         Ok(readable) => warn(readable, err),
         Err(AllocError) => return Err(FileFault::Memory),
     }
