@@ -52,7 +52,7 @@ FAILED_BELOW = ("no proof: it calls", "not proved; it calls", "not proved; it st
 NAMES = re.compile(r"has no field|is not in scope|has no `|was not admitted")
 UNREAD = re.compile(f"{NAMES.pattern}|rattle does not read")
 # The one about an answer or an invariant that stands under the name of no goal.
-LOST = re.compile(r": error: `(\S+)`: .*: module `\S+\.(?:Goals|Given)` has no `\1`")
+LOST = re.compile(r"(?s): error: `(\S+)`: .*module `\S+\.(?:Goals|Given)`\s+has no `\1`")
 # The beginning of what is said of an edit whose refusal shows nothing, as it stands.
 IN_DOUBT = "IN DOUBT: "
 # A declaration that antt refuses, and how its message begins. A check prints a file to begin with for a function that has open
