@@ -25,7 +25,7 @@ PROVED = os.path.join(DOCS, "proved.md")
 # The greatest sizes, in bytes: of all of docs/, and of some pages.
 ALL_DOCS = 212_000
 SIZES = {
-    "DECISIONS.md": 30_000, "believe.md": 27_000, "maintaining.md": 4_000, "proved.md": 28_500, "room.md": 12_500, "room-law.md": 7_500,
+    "DECISIONS.md": 30_000, "believe.md": 27_500, "maintaining.md": 4_000, "proved.md": 28_500, "room.md": 12_500, "room-law.md": 7_500,
     "decision.md": 4_500, "room.svg": 9_000,
 }
 
