@@ -280,7 +280,8 @@ impl Links {
         ensures turns { self.new.rounds ≡ self.old.rounds }
         ensures waits { (k : ℕ) → WaitsUnread k self.old → WaitsUnread k self.new }
         ensures silent { result ≡ true
-            → IsSilent self.old.limits.answer (self.old.rounds.seconds.told + (if self.old.has_moved_on then 1 else 0)) monitor.now.content i }
+            → IsSilent self.old.limits.answer (self.old.rounds.seconds.told + (if self.old.has_moved_on then 1 else 0))
+            monitor.now.content i }
     {
         let (Some(query), Some(upstream)) = (outstanding(monitor, i), self.upstreams.get(i)) else {
             return false;

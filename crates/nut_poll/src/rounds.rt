@@ -111,7 +111,8 @@ impl Rounds {
     ///
     /// The error of the clock.
     pub fn look_at_clock(&mut self, clock: &impl Clock) -> io::Result<bool>
-        ensures second { IfOk result (λ is_over. self.new.ready ≡ (if is_over then first_joined self.old.fixed self.old.ready else self.old.ready)) }
+        ensures second { IfOk result (λ is_over. self.new.ready
+            ≡ (if is_over then first_joined self.old.fixed self.old.ready else self.old.ready)) }
         ensures heeds { Heeds [] self.old self.new }
     {
         let passed = self.seconds.elapsed(clock)?;

@@ -26,7 +26,8 @@ lists_in (line ∷ lines) = (if asks_for_list (command_of line) then 1 else 0) +
 -- the client: one list of at most 578,146 bytes, and 64 KiB of other answers.
 abbrev pub OneListWaits : Type 0
 OneListWaits =
-    (first : Configuration) (h : List Event) → AreWithin first h → IsAccepted first h → (c : ℕ) (k : Session) → session_of c (content first h).sessions ≡ Some k →
+    (first : Configuration) (h : List Event) → AreWithin first h → IsAccepted first h →
+    (c : ℕ) (k : Session) → session_of c (content first h).sessions ≡ Some k →
     lists_in (drop (length (lines (input c (before_piece c h)))) (lines (input c h))) ≤ 1 → length k.waits ≤ 578_146 + 64 * 1024
 
 -- A piece in which only the last line may be another than a plain one completes at most one line that asks for a list.

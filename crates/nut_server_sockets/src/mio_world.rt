@@ -134,7 +134,8 @@ impl<'r, 'e, R: Net + Clock + Processes, L: Reloader + Drop> World for MioWorld<
         ensures reached { OnErr result (GoesOn self.old.sockets self.new.sockets) }
         ensures turns { IfOk result (λ n. ComesInTurn self.old.sockets server.now n self.new.sockets) }
         ensures seats { IfOk result (λ n. LeavesOthers n self.old.sockets.clients.sockets self.new.sockets.clients.sockets) }
-        ensures light { IfOk result (λ n. IsPieceLight self.old.sockets.clients.sockets n piece.new.items self.new.sockets.clients.sockets) }
+        ensures light { IfOk result (λ n. IsPieceLight self.old.sockets.clients.sockets n piece.new.items
+            self.new.sockets.clients.sockets) }
     {
         self.late.clear();
         self.late_drivers.clear();

@@ -74,7 +74,8 @@ impl<'r, R: Files, F: ConfFiles> Folder<'r, R, F> {
     ///
     /// Those of [`read_folder`].
     pub fn read(&mut self, err: &mut ErrorLines) -> Result<Settings, FileFault<'static>>
-        ensures read { IfOk result (λ settings. WereRead self.old.folder.now (F.told self.old.files.now) settings (F.told self.new.files.now)) }
+        ensures read { IfOk result (λ settings. WereRead self.old.folder.now (F.told self.old.files.now) settings
+            (F.told self.new.files.now)) }
         ensures stays { (self.new.folder ≡ self.old.folder) × (self.new.endpoints ≡ self.old.endpoints) }
     {
         read_folder(self.files, self.alloc, self.folder, err)

@@ -13,7 +13,8 @@ use Rattle.nut_monitor_spec.specs.Decision.{is_critical}
 -- A UPS is at rest if what is known of it never makes it critical, however much time passes.
 abbrev pub IsAtRest : Known → Type 0
 IsAtRest known =
-    (configuration : Configuration) (line : Line) (clock : ℕ) → is_critical configuration line clock known.calm known.polled known.flags ≡ false
+    (configuration : Configuration) (line : Line) (clock : ℕ) →
+    is_critical configuration line clock known.calm known.polled known.flags ≡ false
 
 -- The UPS of line i is at rest if this configuration continues watching it.
 abbrev pub IsReadyAt : ℕ → Monitored → MonitorValue → MonConfig → Type 0
