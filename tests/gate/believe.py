@@ -35,11 +35,11 @@ CRATES_OF_LAWS = "nut_server_spec nut_monitor_spec nut_conf nut_client nut_dummy
 
 HEAD = """# What has to be believed
 
-For whoever checks what is proved. If you believe the definitions below, you believe what these calls and laws say
+For whoever checks what is proved. If you believe the definitions below, you believe what the clauses of these calls and laws say
 (docs/proved.md; a law's definition has its name). Each section lists what it adds to those before it: by crate, with the number of
 lines, comments included, and by file, in the order in which definitions build on each other. Lines of `nut_words` is
 `crates/nut_words/specs/Lines.antt`, whose comments say what it means. The last section has the types and constants of the code that
-definitions name. Words of the toolchain aren't listed. `python3 -m tests.gate.believe 'A monitor'` prints all that one
+definitions name. Words of the toolchain's library aren't listed. `python3 -m tests.gate.believe 'A monitor'` prints all that one
 section leads to.
 
 Two files have second forms. If you believe `nut_words: Spelling`, you need only `has_backslash`, `with_backslash` and `Gives` of
@@ -47,13 +47,14 @@ Two files have second forms. If you believe `nut_words: Spelling`, you need only
 `line_adds` of `nut_state: Step` (law `every_table_holds`).
 
 `Server::arrive` looks back at all arrivals. If you prefer a machine, `Server::step` says what one arrival makes of the server's content.
-With what callers see, without `Server::new`, it leads to STEP_LINES lines, of which `nut_server_spec: machine/Machine` and
+With what callers see, but without `Server::new`, it leads to STEP_LINES lines, of which `nut_server_spec: machine/Machine` and
 `MachineOutcome` stand in no section.
 
 `HasPlayed` of `nut_play` stands for some relation. You needn't know which: `Fleet::new` says that it holds, `Fleet::play` that it goes
-on, and what follows stands beside it. So what it leads to isn't listed.
+on, and what follows from it stands beside it. So what it leads to isn't listed.
 
-`python3 -m tests.gate.believe --write` makes this page. A test fails if it differs, or if a name or a law is in no section.
+`python3 -m tests.gate.believe --write` makes this page. A test fails if the page differs, if it doesn't find a name that a clause or a
+definition has, or if a law is in no section.
 """
 
 
