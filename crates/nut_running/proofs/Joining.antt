@@ -2,7 +2,7 @@
 use Rattle.nut_server_spec.proofs.Kept.{opened_lines, opened_reports}
 use Rattle.nut_server_spec.proofs.Others.{closed-stays, opened-fresh}
 use Rattle.std.proofs.Common.{◌≡◌, ◌⊎◌, ℕ, zero, suc, ◌<◌, ◌≤◌, ◌==◌, ◌&&◌, ◌||◌, min, append_assoc, length-append, Bool, true, false, inl, inr, List, [], ◌∷◌, ◌++◌, length, take, drop, Option, Some, None, is_some, refl, sym, ◌∙◌, ap, subst, arith}
-use Rattle.std.specs.Prelude.{nat_lt}
+use Rattle.std.specs.Prelude.{nat_lt, slice_index_or}
 use Rattle.std.proofs.lemmas.Bool.{cases_Bool, cases_eq, and_parts, eqb-true, eq-eqb, ne_eqb, ltb-true, ltb-false, lt-ltb}
 use Rattle.std.proofs.lemmas.Slice.Eq.{bytes_eq-Decides}
 use Rattle.nut_words.specs.Quoting.{Begins}
@@ -20,10 +20,11 @@ use Rattle.nut_monitor_spec.specs.Acceptance as monitor_tests
 use Rattle.nut_monitor_spec.specs.Trace.{trace, linked, notices_waiting}
 use Rattle.nut_monitor_spec.specs.Trace as monitor
 use Rattle.nut_fleet.specs.Schedule.{Step, IsFront, MonitorClock, CutMonitor, Call, Accept, Write, Land, Reach, Other}
-use Rattle.nut_fleet.specs.World.{Setup, World, Deed, Tell, Inform, Renew, Meet, monitor_of, seen, served, known, is_open, is_linked, tell, inform, carried, any_below, is_of_link, are_next, is_unknown, heeded, keeps_all, may_tell, has_link, deed, after, all_taken, informed, for_monitor, world}
-use Rattle.nut_running.specs.Running.{Happening, AtServer, AtMonitor, server_history, history, calls, sent_on, Network, IsNetwork, May, IsCarried}
-use Rattle.nut_running.specs.Rooms.{quiet_history, Has}
+use Rattle.nut_fleet.specs.World.{Setup, World, Deed, Tell, Inform, Renew, Meet, no_monitor, monitor_of, seen, served, known, is_open, is_linked, tell, inform, carried, any_below, is_of_link, are_next, is_unknown, heeded, keeps_all, may_tell, has_link, deed, after, all_taken, informed, for_monitor, world}
+use Rattle.nut_running.specs.Running.{Happening, AtServer, AtMonitor, server_history, history, calls, Network, IsNetwork, May}
+use Rattle.nut_running.specs.Rooms.{Has}
 use Rattle.nut_fleet.proofs.Fronts.{begins-then, begins-nothing, drop-front, length-0}
+use Rattle.nut_monitor_spec.specs.declared.MonitorFault.{MonitorFault}
 use Rattle.nut_monitor_spec.specs.declared.Notice.{Notice}
 use Rattle.nut_monitor_spec.proofs.Kept.{keeps-content}
 use Rattle.nut_monitor_spec.proofs.Answering.{linked-made}
@@ -33,7 +34,7 @@ use Rattle.nut_fleet.specs.Moves.{makes}
 use Rattle.nut_fleet.proofs.Moves.{taken-same-link, linked-before, IsSame, still-open}
 use Rattle.nut_fleet.proofs.Server.{is_of, opened-grows, unopened-input, other-input}
 use Rattle.nut_fleet.proofs.Steps.{for-own, for-other, line-within, zero-closed}
-use Rattle.nut_running.proofs.Calls.{calls-same, calls-made, calls-grow, sent_on-later, sent_on-now, sent_on-other, sent_on-past, sent_on-grows}
+use Rattle.nut_running.proofs.Calls.{sent_on, calls-same, calls-made, calls-grow, sent_on-later, sent_on-now, sent_on-other, sent_on-past, sent_on-grows, sent_on-front}
 
 -- ---- what the loops say of a run
 
@@ -52,7 +53,21 @@ abbrev pub IsOrdered : Setup → List Happening → Happening → Type 0
 IsOrdered setup run (AtServer event) = Unit {0}
 IsOrdered setup run (AtMonitor m event) = (m < length setup.monitors) × IsPromptAt (monitor_of setup m) (history m run) event
 
+-- each happening may follow those before it
+abbrev pub IsCarried : Setup → Network → List Happening → Type 0
+IsCarried setup network run = (next : Happening) (so_far : List Happening) → IsFront (next ∷ so_far) run → May setup network so_far next
+
+may-last : (setup : Setup) (network : Network) (next : Happening) (run : List Happening) → IsCarried setup network (next ∷ run) → May setup network run next
+may-last setup network next run carried = carried next run (inl refl)
+
+carried-before : (setup : Setup) (network : Network) (next : Happening) (run : List Happening) → IsCarried setup network (next ∷ run) → IsCarried setup network run
+carried-before setup network next run carried other so_far older = carried other so_far (inr older)
+
 -- ---- histories
+
+-- the history of monitor m once the notices that wait have been handed over
+abbrev pub quiet_history : Setup → ℕ → List Happening → List Event
+quiet_history setup m run = all_taken (notices_waiting (trace (monitor_of setup m) (history m run))) (history m run)
 
 pub history-own : (m : ℕ) (event : Event) (run : List Happening) → history m (AtMonitor m event ∷ run) ≡ event ∷ history m run
 history-own m event run = rw (eq-eqb m m refl) refl
@@ -61,10 +76,7 @@ pub history-other : (m n : ℕ) (event : Event) (run : List Happening) → (n �
 history-other m n event run ne = rw (ne_eqb n m ne) refl
 
 -- what came on a connection is a beginning of what was sent on the link whose end it is
-module _ (setup : Setup) (joined : Network) (fine : IsNetwork setup joined) where
-  within : (m i k c : ℕ) → joined m i k ≡ Some c → i < length (monitor_of setup m).lines
-  within m i k c is = line-within setup m i (fine.of_links m i k c is)
-
+module _ (setup : Setup) (joined : Network) where
   accepted-before : (happening : Happening) (run : List Happening) → IsAccepted setup (happening ∷ run) → IsAccepted setup run
   accepted-before (AtServer event) run a = record { server = a.server.0; monitors = a.monitors }
   accepted-before (AtMonitor n event) run a = record {
@@ -80,44 +92,58 @@ module _ (setup : Setup) (joined : Network) (fine : IsNetwork setup joined) wher
   }
 
   Carried : List Happening → Type 0
-  Carried run = (m i k c : ℕ) → joined m i k ≡ Some c →
+  Carried run = (m i k c : ℕ) → has_link setup m i ≡ true → joined m i k ≡ Some c →
       Begins (arrivals.input c (server_history run)) (sent_on (monitor_of setup m) i k (history m run))
 
-  carried-server : (event : arrivals.Event) (run : List Happening) → May setup joined run (AtServer event) → Carried run → Carried (AtServer event ∷ run)
+  -- a piece on the connection of a call is the next that was sent in that call
+  pub continues : (c : ℕ) (piece : List ℕ) (run : List Happening) → IsAccepted setup run → May setup joined run (AtServer (arrivals.Bytes c piece)) →
+      (m i k : ℕ) → has_link setup m i ≡ true → joined m i k ≡ Some c →
+      (piece ≡ [] → ⊥) × Begins (arrivals.input c (server_history run) ++ piece) (sent_on (monitor_of setup m) i k (history m run))
+  continues c piece run accepted may m i k there is =
+      let found = may m i k is in
+      let begins : Begins (monitor.sent (monitor_of setup m) i (trace (monitor_of setup m) found.0)) (sent_on (monitor_of setup m) i k (history m run)) =
+      sent_on-front setup m i k found.0 (history m run) (accepted.monitors m) (line-within setup m i there) found.1 found.2 in
+      (found.3.0, begins-then _ _ _ found.3.1 begins)
+
+  carried-server : (event : arrivals.Event) (run : List Happening) → IsAccepted setup run → May setup joined run (AtServer event) → Carried run →
+      Carried (AtServer event ∷ run)
   unfolding Carried
-  carried-server (arrivals.Bytes d piece) run may before m i k c is = elim (cases_Bool (d == c)) [
+  carried-server (arrivals.Bytes d piece) run accepted may before m i k c there is = elim (cases_Bool (d == c)) [
     | inl same ↦
         let equal : d ≡ c = eqb-true d c same in
         rw same
         (subst (λ x. Begins (arrivals.input x (server_history run) ++ piece) (sent_on (monitor_of setup m) i k (history m run))) equal
-        (may.1 m i k (is ∙ ap (λ x. Some x) (sym equal))))
-    | inr other ↦ rw other (before m i k c is)
+        (continues d piece run accepted may m i k there (is ∙ ap (λ x. Some x) (sym equal))).1)
+    | inr other ↦ rw other (before m i k c there is)
   ]
-  carried-server event run may before m i k c is = before m i k c is
+  carried-server event run accepted may before m i k c there is = before m i k c there is
 
   carried-monitor : (n : ℕ) (event : Event) (run : List Happening) → IsAccepted setup (AtMonitor n event ∷ run) → Carried run → Carried (AtMonitor n event ∷ run)
   unfolding Carried
-  carried-monitor n event run accepted before m i k c is = elim (cases_eq n m) [
+  carried-monitor n event run accepted before m i k c there is = elim (cases_eq n m) [
     | inr ne ↦
-        subst (λ h. Begins (arrivals.input c (server_history run)) (sent_on (monitor_of setup m) i k h)) (sym (history-other m n event run ne)) (before m i k c is)
+        subst (λ h. Begins (arrivals.input c (server_history run)) (sent_on (monitor_of setup m) i k h)) (sym (history-other m n event run ne))
+        (before m i k c there is)
     | inl same ↦
         let now : history m (AtMonitor n event ∷ run) ≡ event ∷ history m run = rw (eq-eqb n m same) refl in
         let all : monitor_tests.IsAccepted (monitor_of setup m) (event ∷ history m run) =
         subst (λ h. monitor_tests.IsAccepted (monitor_of setup m) h) now (accepted.monitors m) in
         subst (λ h. Begins (arrivals.input c (server_history run)) (sent_on (monitor_of setup m) i k h)) (sym now)
-        (begins-then _ _ _ (before m i k c is) (sent_on-grows setup m i k event (history m run) all (within m i k c is)))
+        (begins-then _ _ _ (before m i k c there is) (sent_on-grows setup m i k event (history m run) all (line-within setup m i there)))
   ]
 
   nothing : Carried []
   unfolding Carried
-  nothing m i k c joins = begins-nothing (sent_on (monitor_of setup m) i k [])
+  nothing m i k c there joins = begins-nothing (sent_on (monitor_of setup m) i k [])
 
   came-in : (run : List Happening) → IsCarried setup joined run → IsAccepted setup run → Carried run
   came-in [] is accepted = nothing
   came-in (AtServer event ∷ run) is accepted =
-      carried-server event run is.1 (came-in run is.0 (accepted-before (AtServer event) run accepted))
+      let earlier = accepted-before (AtServer event) run accepted in
+      carried-server event run earlier (may-last setup joined (AtServer event) run is) (came-in run (carried-before setup joined (AtServer event) run is) earlier)
   came-in (AtMonitor n event ∷ run) is accepted =
-      carried-monitor n event run accepted (came-in run is.0 (accepted-before (AtMonitor n event) run accepted))
+      carried-monitor n event run accepted
+      (came-in run (carried-before setup joined (AtMonitor n event) run is) (accepted-before (AtMonitor n event) run accepted))
 
 -- ---- a world that a run leads to
 
@@ -130,7 +156,7 @@ pub record IsGone (setup : Setup) (h : List arrivals.Event) (c : ℕ) : Type 0 w
 -- a connection that was given up is the end of a link that has been made again since
 abbrev pub IsOld : Setup → Network → List Happening → ℕ → List ℕ → Type 0
 IsOld setup joined run c bytes = (c ≡ 0) ⊎ ((m i k : ℕ) × (joined m i k ≡ Some c) × (k < calls i (history m run))
-    × (bytes ≡ sent_on (monitor_of setup m) i k (history m run)))
+    × (bytes ≡ sent_on (monitor_of setup m) i k (history m run)) × (has_link setup m i ≡ true))
 
 pub record Follows (setup : Setup) (joined : Network) (run : List Happening) (w : World) : Type 0 where
   pub server : w.server ≡ server_history run
@@ -289,27 +315,34 @@ monitor-bytes : (s : server_content.Content) (piece : List ℕ) (o : Option serv
     (monitor_tests.is_linked o ≡ true) × (length piece ≤ PIECE_MAX)
 monitor-bytes s piece o accepted = grind (arith, ltb-false)
 
--- the lines of events that a monitor accepts
-linked-within : (configuration : Configuration) (told : List Event) (i : ℕ) → monitor_tests.refusal (content configuration told) (Linked i) ≡ None → i < length configuration.lines
-linked-within configuration told i ok = by (monitor_tests.watch_at i (content configuration told).watches) refl ok
+-- An event of a link has a line, if the test refuses it where there is none.
+line-of : (configuration : Configuration) (told : List Event) (i : ℕ) (test : Option server_content.Watch → Option MonitorFault) →
+    (test None ≡ None → ⊥) → test (monitor_tests.watch_at i (content configuration told).watches) ≡ None → i < length configuration.lines
+line-of configuration told i test refuses ok = by (monitor_tests.watch_at i (content configuration told).watches) refl
   where
-    by : (o : Option server_content.Watch) → monitor_tests.watch_at i (content configuration told).watches ≡ o → monitor_tests.linked_refusal o ≡ None → i < length configuration.lines
-    by None is accepted = cc
-    by (Some watch) is accepted = found_within i (server_content.watch configuration (trace configuration told)) configuration.lines watch is
+    by : (o : Option server_content.Watch) → monitor_tests.watch_at i (content configuration told).watches ≡ o → i < length configuration.lines
+    by None is = absurd (refuses (ap test (sym is) ∙ ok))
+    by (Some watch) is = found_within i (server_content.watch configuration (trace configuration told)) configuration.lines watch is
 
-lost-within : (configuration : Configuration) (told : List Event) (i : ℕ) → monitor_tests.refusal (content configuration told) (LinkLost i) ≡ None → i < length configuration.lines
-lost-within configuration told i ok = by (monitor_tests.watch_at i (content configuration told).watches) refl ok
+-- A link that is up has a line.
+line-up : (setup : Setup) (m i : ℕ) (h : List Event) → monitor_tests.IsAccepted (monitor_of setup m) h → linked i (trace (monitor_of setup m) h) ≡ true →
+    i < length (monitor_of setup m).lines
+line-up setup m i [] accepted up = cc
+line-up setup m i (event ∷ h) accepted up = elim (cases_Bool (makes i event)) [
+  | inr same ↦ line-up setup m i h accepted.0 (linked-before setup m i h event same up)
+  | inl fresh ↦ made event fresh accepted.1.0
+]
   where
-    by : (o : Option server_content.Watch) → monitor_tests.watch_at i (content configuration told).watches ≡ o → monitor_tests.lost_refusal o ≡ None → i < length configuration.lines
-    by None is accepted = cc
-    by (Some watch) is accepted = found_within i (server_content.watch configuration (trace configuration told)) configuration.lines watch is
+    made : (e : Event) → makes i e ≡ true → monitor_tests.refusal (content (monitor_of setup m) h) e ≡ None → i < length (monitor_of setup m).lines
+    made (Linked j) fresh ok =
+        subst (λ x. x < length (monitor_of setup m).lines) (eqb-true j i fresh) (line-of (monitor_of setup m) h j monitor_tests.linked_refusal (λ no. cc) ok)
+    made e fresh ok = cc
 
-took-within : (configuration : Configuration) (told : List Event) (i n : ℕ) → monitor_tests.refusal (content configuration told) (LinkTook i n) ≡ None → i < length configuration.lines
-took-within configuration told i n ok = by (monitor_tests.watch_at i (content configuration told).watches) refl ok
-  where
-    by : (o : Option server_content.Watch) → monitor_tests.watch_at i (content configuration told).watches ≡ o → monitor_tests.took_refusal n o ≡ None → i < length configuration.lines
-    by None is accepted = cc
-    by (Some watch) is accepted = found_within i (server_content.watch configuration (trace configuration told)) configuration.lines watch is
+-- a number with a line is that of a monitor
+has-monitor : (monitors : List Configuration) (m i : ℕ) → i < length (slice_index_or monitors m no_monitor).lines → m < length monitors
+has-monitor [] m i less = absurd (omega (arith, less))
+has-monitor (monitor ∷ monitors) zero i less = omega arith
+has-monitor (monitor ∷ monitors) (suc m) i less = let rest = has-monitor monitors m i less in omega (arith, rest)
 
 -- ---- searches
 
@@ -430,7 +463,7 @@ by-two setup joined run earlier second first f between = record { schedule = sec
     found early (inr (inl now)) = inr (subst (λ s. Has setup run (world setup s)) (sym now) between)
     found early (inr (inr older)) = inl older
 
-module _ (setup : Setup) (joined : Network) (fine : IsNetwork setup joined) (run : List Happening) (is_run : IsCarried setup joined run) (accepted : IsAccepted setup run)
+module _ (setup : Setup) (joined : Network) (fine : IsNetwork joined) (run : List Happening) (is_run : IsCarried setup joined run) (accepted : IsAccepted setup run)
     (schedule : List Step) (f : Follows setup joined run (world setup schedule)) where
   abbrev w : World
   w = world setup schedule
@@ -441,8 +474,11 @@ module _ (setup : Setup) (joined : Network) (fine : IsNetwork setup joined) (run
   abbrev config : ℕ → Configuration
   config m = monitor_of setup m
 
-  link-there : (m i : ℕ) → m < length setup.monitors → i < length (config m).lines → has_link setup m i ≡ true
-  link-there m i lm li = rw (lt-ltb m (length setup.monitors) lm, lt-ltb i (length (monitor_of setup m).lines) li) refl
+  link-there : (m i : ℕ) → i < length (config m).lines → has_link setup m i ≡ true
+  link-there m i within = rw (lt-ltb m (length setup.monitors) (has-monitor setup.monitors m i within), lt-ltb i (length (monitor_of setup m).lines) within) refl
+
+  up-there : (m i : ℕ) → linked i (trace (config m) (history m run)) ≡ true → has_link setup m i ≡ true
+  up-there m i up = link-there m i (line-up setup m i (history m run) (accepted.monitors m) up)
 
   -- the world has the server's content
   at-server : (event : arrivals.Event) → server_tests.refusal (server.content setup.server h) event ≡ None → server_tests.refusal (served setup w) event ≡ None
@@ -454,9 +490,9 @@ module _ (setup : Setup) (joined : Network) (fine : IsNetwork setup joined) (run
       subst (λ x. IsSame setup m i (history m run) x) (sym (f.monitors m))
       (taken-same-link setup m i (notices_waiting (trace (config m) (history m run))) (history m run) (accepted.monitors m) (line-within setup m i there) refl)
 
-  came-of : (m i k c : ℕ) → joined m i k ≡ Some c → Begins (arrivals.input c h) (sent_on (config m) i k (history m run))
+  came-of : (m i k c : ℕ) → has_link setup m i ≡ true → joined m i k ≡ Some c → Begins (arrivals.input c h) (sent_on (config m) i k (history m run))
   unfolding Carried
-  came-of m i k c is = came-in setup joined fine run is_run accepted m i k c is
+  came-of m i k c there is = came-in setup joined run is_run accepted m i k c there is
 
   not-zero : (c : ℕ) (piece : List ℕ) → server_tests.refusal (server.content setup.server h) (arrivals.Bytes c piece) ≡ None → c ≡ 0 → ⊥
   not-zero c piece ok nil =
@@ -483,9 +519,9 @@ module _ (setup : Setup) (joined : Network) (fine : IsNetwork setup joined) (run
     | inr joins ↦
         let known_by = same m i there in
         let sizes = server-bytes piece (server_tests.session_of c (server.content setup.server h).sessions) ok in
+        let more = continues setup joined c piece run accepted may m i (calls i (history m run)) there (joins ∙ ap (λ x. Some x) is) in
         let now : Begins (arrivals.input c h ++ piece) (monitor.sent (config m) i (seen setup w m)) =
-        subst (λ x. Begins (arrivals.input c h ++ piece) x) (sent_on-now setup m i (calls i (history m run)) (history m run) refl ∙ sym known_by.sent)
-        (may.1 m i (calls i (history m run)) (joins ∙ ap (λ x. Some x) is)) in
+        subst (λ x. Begins (arrivals.input c h ++ piece) x) (sent_on-now setup m i (calls i (history m run)) (history m run) refl ∙ sym known_by.sent) more.1 in
         let next : take (min (length piece) PIECE_MAX) (drop (length (arrivals.input (w.connection m i) w.server)) (monitor.sent (config m) i (seen setup w m))) ≡ piece =
         ap (λ x. take (min (length piece) PIECE_MAX) (drop (length (arrivals.input x w.server)) (monitor.sent (config m) i (seen setup w m)))) is
         ∙ ap (λ x. take (min (length piece) PIECE_MAX) (drop (length (arrivals.input c x)) (monitor.sent (config m) i (seen setup w m)))) f.server
@@ -493,7 +529,7 @@ module _ (setup : Setup) (joined : Network) (fine : IsNetwork setup joined) (run
         let up : is_open setup w m i ≡ true =
         ap (λ x. is_some (server_tests.session_of x (served setup w).sessions)) is
         ∙ ap (λ x. is_some (server_tests.session_of c (server.content setup.server x).sessions)) f.server ∙ sizes.0 in
-        let deed_is = played-reach setup w m i piece there up may.0 next
+        let deed_is = played-reach setup w m i piece there up more.0 next
         (subst (λ x. server_tests.refusal (served setup w) (arrivals.Bytes x piece) ≡ None) (sym is) (at-server (arrivals.Bytes c piece) ok)) in
         by-one setup joined (AtServer (arrivals.Bytes c piece) ∷ run) schedule (Reach m i (length piece))
         (subst (λ d. Follows setup joined (AtServer (arrivals.Bytes c piece) ∷ run) (after setup w d)) (sym (deed_is ∙ ap (λ x. Tell (arrivals.Bytes x piece)) is))
@@ -515,7 +551,7 @@ module _ (setup : Setup) (joined : Network) (fine : IsNetwork setup joined) (run
         | inl nil ↦ absurd (not-zero c piece ok nil)
         | inr old ↦
             let begins : Begins (arrivals.input c h ++ piece) bytes =
-            subst (λ x. Begins (arrivals.input c h ++ piece) x) (sym old.5) (may.1 old.0 old.1 old.2 old.3) in
+            subst (λ x. Begins (arrivals.input c h ++ piece) x) (sym old.5) (continues setup joined c piece run accepted may old.0 old.1 old.2 old.6 old.3).1 in
             (bytes_eq-Decides _ _).1
             (sym (ap (λ x. take (length piece) (drop (length (arrivals.input c x)) bytes)) f.server ∙ front-piece (arrivals.input c h) piece bytes begins))
       ]
@@ -533,7 +569,7 @@ module _ (setup : Setup) (joined : Network) (fine : IsNetwork setup joined) (run
         (λ m i d is up late le.
         let new : d ≡ c = omega arith in
         let yes : (monitor.is_link c (joined m i (calls i (history m run))) && linked i (trace (config m) (history m run))) ≡ true = rw (is, eq-eqb d c new, up) refl in
-        let no : true ≡ false = sym yes ∙ none m i (fine.of_links m i (calls i (history m run)) d is) in
+        let no : true ≡ false = sym yes ∙ none m i (up-there m i up) in
         cc)))
     | inl found ↦
         let m = found.0 in
@@ -592,7 +628,7 @@ module _ (setup : Setup) (joined : Network) (fine : IsNetwork setup joined) (run
           kept (Some bytes) e = elim (f.given c bytes e) [
             | inl nil ↦ absurd (omega arith)
             | inr old ↦
-                let one = fine.distinct m i (calls i (history m run)) old.0 old.1 old.2 c is old.3 in
+                let one = fine m i (calls i (history m run)) old.0 old.1 old.2 c is old.3 in
                 let lt : old.2 < calls old.1 (history old.0 run) = old.4 in
                 let k : calls i (history m run) ≡ old.2 = one.2 in
                 let here : calls old.1 (history old.0 run) ≡ calls i (history m run) =
@@ -618,7 +654,7 @@ module _ (setup : Setup) (joined : Network) (fine : IsNetwork setup joined) (run
               opened (past setup.server h) < d → d ≤ opened (past setup.server (arrivals.Open address ∷ h)) → with_end w.connection m i c n j ≡ d
           fresh n j d js js_up late le =
               let new : d ≡ c = omega arith in
-              let same = fine.distinct m i (calls i (history m run)) n j (calls j (history n run)) c is (js ∙ ap (λ x. Some x) new) in
+              let same = fine m i (calls i (history m run)) n j (calls j (history n run)) c is (js ∙ ap (λ x. Some x) new) in
               elim (ends w.connection m i c n j) [
                 | inl here ↦ here.2 ∙ sym new
                 | inr there ↦ absurd (there.0 (sym same.0, sym same.1))
@@ -686,7 +722,7 @@ module _ (setup : Setup) (joined : Network) (fine : IsNetwork setup joined) (run
       elim (cases_eq m n) [
         | inr ne ↦
             let h' = history-other n m event run ne in
-            inr (n, i, k, old.3, subst (λ x. k < calls i x) (sym h') old.4, old.5 ∙ ap (sent_on (config n) i k) (sym h'))
+            inr (n, i, k, old.3, subst (λ x. k < calls i x) (sym h') old.4, old.5 ∙ ap (sent_on (config n) i k) (sym h'), old.6)
         | inl same ↦
             let h' : history n (AtMonitor m event ∷ run) ≡ event ∷ history n run = rw (eq-eqb m n same) refl in
             let lt : k < calls i (history n run) = old.4 in
@@ -698,6 +734,7 @@ module _ (setup : Setup) (joined : Network) (fine : IsNetwork setup joined) (run
               old.3,
               subst (λ x. k < calls i x) (sym h') (omega arith),
               old.5 ∙ sym (sent_on-past setup n i k event (history n run) lt) ∙ ap (sent_on (config n) i k) (sym h'),
+              old.6,
             )
       ]
 
@@ -750,10 +787,10 @@ module _ (setup : Setup) (joined : Network) (fine : IsNetwork setup joined) (run
       monitor_tests.refusal (content (config m) (history m run)) (LinkBytes i piece) ≡ None → Extends setup joined (AtMonitor m (LinkBytes i piece) ∷ run) schedule
   by-piece m i piece may quiet ok =
       by-own m (LinkBytes i piece) (Land m i (length piece)) (λ j. refl) quiet
-      (played-land setup w m i piece there up may.0 next (at-monitor m (LinkBytes i piece) quiet ok))
+      (played-land setup w m i piece there up may.2.0 next (at-monitor m (LinkBytes i piece) quiet ok))
     where
       there : has_link setup m i ≡ true
-      there = fine.of_links m i (calls i (history m run)) may.1 may.2
+      there = link-there m i (line-of (config m) (history m run) i (monitor_tests.bytes_refusal (content (config m) (history m run)) piece) (λ no. cc) ok)
 
       sizes : (monitor_tests.is_linked (monitor_tests.watch_at i (content (config m) (history m run)).watches) ≡ true) × (length piece ≤ PIECE_MAX)
       sizes = monitor-bytes (content (config m) (history m run)) piece (monitor_tests.watch_at i (content (config m) (history m run)).watches) ok
@@ -764,17 +801,17 @@ module _ (setup : Setup) (joined : Network) (fine : IsNetwork setup joined) (run
       up : is_linked setup w m i ≡ true
       up = ap (λ x. linked i (trace (config m) x)) (told-same m quiet) ∙ was-up
 
-      some : server.sent setup.server may.1 h ≡ [] → ⊥
-      some none = may.0 (nothing-left (monitor.input i (trace (config m) (history m run))) piece (subst (λ x. Begins (monitor.input i (trace (config m) (history m run)) ++ piece) x) none may.3))
+      some : server.sent setup.server may.0 h ≡ [] → ⊥
+      some none = may.2.0 (nothing-left (monitor.input i (trace (config m) (history m run))) piece (subst (λ x. Begins (monitor.input i (trace (config m) (history m run)) ++ piece) x) none may.2.1))
 
-      joins : w.connection m i ≡ may.1
-      joins = elim (cases_Bool (nat_lt (opened (past setup.server h)) may.1)) [
+      joins : w.connection m i ≡ may.0
+      joins = elim (cases_Bool (nat_lt (opened (past setup.server h)) may.0)) [
         | inl later ↦
-            absurd (some (silent-sent setup.server h may.1
-            (unopened-input setup.server h may.1 accepted.server (ltb-true (opened (past setup.server h)) may.1 later))))
-        | inr before ↦ elim (f.met m i may.1 may.2 was-up (ltb-false (opened (past setup.server h)) may.1 before)) [
+            absurd (some (silent-sent setup.server h may.0
+            (unopened-input setup.server h may.0 accepted.server (ltb-true (opened (past setup.server h)) may.0 later))))
+        | inr before ↦ elim (f.met m i may.0 may.1 was-up (ltb-false (opened (past setup.server h)) may.0 before)) [
           | inl is ↦ is
-          | inr gone ↦ absurd (some (silent-sent setup.server h may.1 gone.silent))
+          | inr gone ↦ absurd (some (silent-sent setup.server h may.0 gone.silent))
         ]
       ]
 
@@ -782,8 +819,8 @@ module _ (setup : Setup) (joined : Network) (fine : IsNetwork setup joined) (run
       next =
           ap (λ x. take (min (length piece) PIECE_MAX) (drop (length (monitor.input i (trace (config m) x))) (server.sent setup.server (w.connection m i) w.server))) (told-same m quiet)
           ∙ ap (λ x. take (min (length piece) PIECE_MAX) (drop (length (monitor.input i (trace (config m) (history m run)))) (server.sent setup.server x w.server))) joins
-          ∙ ap (λ x. take (min (length piece) PIECE_MAX) (drop (length (monitor.input i (trace (config m) (history m run)))) (server.sent setup.server may.1 x))) f.server
-          ∙ next-piece (monitor.input i (trace (config m) (history m run))) piece (server.sent setup.server may.1 h) may.3 sizes.1
+          ∙ ap (λ x. take (min (length piece) PIECE_MAX) (drop (length (monitor.input i (trace (config m) (history m run)))) (server.sent setup.server may.0 x))) f.server
+          ∙ next-piece (monitor.input i (trace (config m) (history m run))) piece (server.sent setup.server may.0 h) may.2.1 sizes.1
 
   -- ---- a link is made
 
@@ -820,7 +857,7 @@ module _ (setup : Setup) (joined : Network) (fine : IsNetwork setup joined) (run
             ∙ sym (sent_on-other setup m i (calls i (history m run)) (Linked i) (history m run)
             (λ x. let one = calls-made i (Linked i) (history m run) (eq-eqb i i refl) in omega arith))
             ∙ ap (sent_on (config m) i (calls i (history m run))) (sym (history-own m (Linked i) run)) in
-            inr (m, i, calls i (history m run), joins ∙ ap (λ x. Some x) (sym same), (let one = anew in omega arith), sent)
+            inr (m, i, calls i (history m run), joins ∙ ap (λ x. Some x) (sym same), (let one = anew in omega arith), sent, there)
       ]
     ]
 
@@ -924,7 +961,7 @@ module _ (setup : Setup) (joined : Network) (fine : IsNetwork setup joined) (run
         silent =
             ap (arrivals.input c) f.server
             ∙ begun-by-nothing (arrivals.input c h)
-            (subst (λ x. Begins (arrivals.input c h) x) (sent_on-later setup m i k (history m run) (omega arith)) (came-of m i k c is))
+            (subst (λ x. Begins (arrivals.input c h) x) (sent_on-later setup m i k (history m run) (omega arith)) (came-of m i k c there is))
 
         of-other : (n j : ℕ) → has_link setup n j ≡ true → (c == v.connection n j) ≡ false
         of-other n j has = elim (ends w.connection m i 0 n j) [
@@ -932,7 +969,7 @@ module _ (setup : Setup) (joined : Network) (fine : IsNetwork setup joined) (run
           | inr old ↦ ne_eqb c (v.connection n j) (λ e. elim (f.other_end n j) [
             | inl nil ↦ some (e ∙ old.1 ∙ nil)
             | inr joins ↦
-                let same = fine.distinct m i k n j (calls j (history n run)) c is (joins ∙ ap (λ x. Some x) (sym (e ∙ old.1))) in
+                let same = fine m i k n j (calls j (history n run)) c is (joins ∙ ap (λ x. Some x) (sym (e ∙ old.1))) in
                 old.0 (sym same.0, sym same.1)
           ])
         ]
@@ -942,7 +979,7 @@ module _ (setup : Setup) (joined : Network) (fine : IsNetwork setup joined) (run
         kept (Some bytes) e = elim (given-up c bytes e) [
           | inl nil ↦ absurd (some nil)
           | inr old ↦
-              let same = fine.distinct m i k old.0 old.1 old.2 c is old.3 in
+              let same = fine m i k old.0 old.1 old.2 c is old.3 in
               let lt : old.2 < calls old.1 (history old.0 (AtMonitor m (Linked i) ∷ run)) = old.4 in
               let number : k ≡ old.2 = same.2 in
               let count : calls old.1 (history old.0 (AtMonitor m (Linked i) ∷ run)) ≡ k =
@@ -987,7 +1024,7 @@ module _ (setup : Setup) (joined : Network) (fine : IsNetwork setup joined) (run
                 let gone : IsGone setup h c = record {
                   opened = few;
                   silent = begun-by-nothing (arrivals.input c h)
-                      (subst (λ x. Begins (arrivals.input c h) x) (sent_on-later setup m i k (history m run) (omega arith)) (came-of m i k c is));
+                      (subst (λ x. Begins (arrivals.input c h) x) (sent_on-later setup m i k (history m run) (omega arith)) (came-of m i k c there is));
                   closed = closed;
                 } in
                 inr (subst (λ x. IsGone setup h x) (some-equal c d e) gone))
@@ -998,14 +1035,15 @@ module _ (setup : Setup) (joined : Network) (fine : IsNetwork setup joined) (run
   at-a-monitor m (Moment t) may order ok =
       by-own m (Moment t) (MonitorClock m t) (λ i. refl) order.1
       (played-moment setup w m t (lt-ltb m (length setup.monitors) order.0) (at-monitor m (Moment t) order.1 ok.0))
-  at-a-monitor m (Linked i) may order ok = by-call m i (link-there m i order.0 (linked-within (config m) (history m run) i ok.0)) order.1 ok.0
+  at-a-monitor m (Linked i) may order ok =
+      by-call m i (link-there m i (line-of (config m) (history m run) i monitor_tests.linked_refusal (λ no. cc) ok.0)) order.1 ok.0
   at-a-monitor m (LinkBytes i piece) may order ok = by-piece m i piece may order.1 ok.0
   at-a-monitor m (LinkLost i) may order ok =
       by-own m (LinkLost i) (CutMonitor m i) (λ j. refl) order.1
-      (played-lost setup w m i (link-there m i order.0 (lost-within (config m) (history m run) i ok.0)) (at-monitor m (LinkLost i) order.1 ok.0))
+      (played-lost setup w m i (link-there m i (line-of (config m) (history m run) i monitor_tests.lost_refusal (λ no. cc) ok.0)) (at-monitor m (LinkLost i) order.1 ok.0))
   at-a-monitor m (LinkTook i n) may order ok =
       by-own m (LinkTook i n) (Write m i n) (λ j. refl) order.1
-      (played-write setup w m i n (link-there m i order.0 (took-within (config m) (history m run) i n ok.0)) (at-monitor m (LinkTook i n) order.1 ok.0))
+      (played-write setup w m i n (link-there m i (line-of (config m) (history m run) i (monitor_tests.took_refusal n) (λ no. cc) ok.0)) (at-monitor m (LinkTook i n) order.1 ok.0))
   at-a-monitor m (OutOfMemory i piece k) may order ok = absurd may
   at-a-monitor m NoticeTaken may order ok = by-notice m ok
 
@@ -1021,7 +1059,7 @@ pub record Plays (setup : Setup) (joined : Network) (run : List Happening) : Typ
   pub follows : Follows setup joined run (world setup schedule)
   pub fronts : (early : List Step) → IsFront early schedule → (so_far : List Happening) × IsFront so_far run × Has setup so_far (world setup early)
 
-module _ (setup : Setup) (joined : Network) (fine : IsNetwork setup joined) where
+module _ (setup : Setup) (joined : Network) (fine : IsNetwork joined) where
   before-any : Follows setup joined [] (world setup [])
   before-any = record {
     server = refl;
@@ -1049,12 +1087,16 @@ module _ (setup : Setup) (joined : Network) (fine : IsNetwork setup joined) wher
   pub plays : (run : List Happening) → IsCarried setup joined run → AreOrdered setup run → IsAccepted setup run → Plays setup joined run
   plays [] is order accepted = record { schedule = []; follows = before-any; fronts = no-steps }
   plays (AtServer event ∷ run) is order accepted =
-      let earlier = accepted-before setup joined fine (AtServer event) run accepted in
-      let so_far = plays run is.0 order.0 earlier in
-      longer (AtServer event) run so_far (at-the-server setup joined fine run is.0 earlier so_far.schedule so_far.follows event is.1 accepted.server.1)
+      let earlier = accepted-before setup joined (AtServer event) run accepted in
+      let carried = carried-before setup joined (AtServer event) run is in
+      let so_far = plays run carried order.0 earlier in
+      longer (AtServer event) run so_far
+      (at-the-server setup joined fine run carried earlier so_far.schedule so_far.follows event (may-last setup joined (AtServer event) run is) accepted.server.1)
   plays (AtMonitor m event ∷ run) is order accepted =
-      let earlier = accepted-before setup joined fine (AtMonitor m event) run accepted in
-      let so_far = plays run is.0 order.0 earlier in
+      let earlier = accepted-before setup joined (AtMonitor m event) run accepted in
+      let carried = carried-before setup joined (AtMonitor m event) run is in
+      let so_far = plays run carried order.0 earlier in
       let all : monitor_tests.IsAccepted (monitor_of setup m) (event ∷ history m run) =
       subst (λ x. monitor_tests.IsAccepted (monitor_of setup m) x) (history-own m event run) (accepted.monitors m) in
-      longer (AtMonitor m event) run so_far (at-a-monitor setup joined fine run is.0 earlier so_far.schedule so_far.follows m event is.1 order.1 all.1)
+      longer (AtMonitor m event) run so_far
+      (at-a-monitor setup joined fine run carried earlier so_far.schedule so_far.follows m event (may-last setup joined (AtMonitor m event) run is) order.1 all.1)

@@ -14,15 +14,14 @@ use Rattle.nut_running.proofs.Recorded.{are-ordered, accepted}
 pub running-rooms : EveryTableHolds → RunningRoomsAreRooms
 running-rooms every setup network run fine is =
     let all = plays setup network is.joined run is.carried (are-ordered setup network run is) (accepted setup network run is) in
-    let law = lawful every setup.server in
-    record {
-      schedule = all.schedule;
-      room = record { now = record { server = all.follows.server; monitors = all.follows.monitors }; before = all.fronts };
-      shown = statuses-were_shown setup law fine all.schedule;
-      causes = shutdowns-have_causes setup law fine all.schedule;
-      supply = supply-suffices setup law fine all.schedule;
-      order = primaries-go_last setup law fine all.schedule;
-      halts = nobody-else setup law fine all.schedule;
-      forced = fsds-follow setup law fine all.schedule;
-      called = nobody-stops setup law fine all.schedule;
-    }
+    let law = lawful every setup.server in (
+      all.schedule,
+      record { now = record { server = all.follows.server; monitors = all.follows.monitors }; before = all.fronts },
+      statuses-were_shown setup law fine all.schedule,
+      shutdowns-have_causes setup law fine all.schedule,
+      supply-suffices setup law fine all.schedule,
+      primaries-go_last setup law fine all.schedule,
+      nobody-else setup law fine all.schedule,
+      fsds-follow setup law fine all.schedule,
+      nobody-stops setup law fine all.schedule,
+    )

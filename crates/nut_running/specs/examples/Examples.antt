@@ -1,9 +1,9 @@
 -- What a network carries, and what it doesn't. Each example is computed from the definitions.
-use Rattle.std.specs.Prelude.{◌≡◌, ℕ, ◌==◌, ◌&&◌, if◌then◌else◌, List, [], ◌∷◌, codes, Some, None}
+use Rattle.std.specs.Prelude.{ℕ, ◌==◌, ◌&&◌, if◌then◌else◌, List, [], ◌∷◌, codes, Some, None}
 use Rattle.nut_server_spec.specs.Event as arrivals
 use Rattle.nut_monitor_spec.specs.Event as events
-use Rattle.nut_fleet.specs.examples.Examples.{alone, primary}
-use Rattle.nut_running.specs.Running.{Happening, AtServer, AtMonitor, Network, May, sent_on}
+use Rattle.nut_fleet.specs.examples.Examples.{alone}
+use Rattle.nut_running.specs.Running.{Happening, AtServer, AtMonitor, Network, May}
 
 -- the first call of link 0 of monitor 0 got connection 1, and no other call got one
 abbrev pub first_call : Network
@@ -18,6 +18,14 @@ called =
 -- "USE" has come to the server.
 abbrev pub came : List Happening
 came = AtServer (arrivals.Bytes 1 (codes "USE")) ∷ called
+
+-- The link is lost, and the monitor calls again.
+abbrev pub again : List Happening
+again = AtMonitor 0 (events.Linked 0) ∷ AtMonitor 0 (events.LinkLost 0) ∷ called
+
+-- the second call of link 0 of monitor 0 got connection 3, and no other call got one
+abbrev pub second_call : Network
+second_call m i k = if m == 0 && i == 0 && k == 2 then Some 3 else None
 
 -- these bytes may come next on connection c
 abbrev pub Comes : List Happening → ℕ → List ℕ → Type 0
@@ -42,6 +50,6 @@ pub record RunningExamples : Type 0 where
   pub of_a_client : Comes called 2 (codes "FSD su700")
   -- the server has sent nothing yet
   pub no_answer : Lands came (codes "OK") → ⊥
-  -- what was sent after a call isn't what was sent after the next one
-  pub by_call : sent_on primary 0 1 (events.Linked 0 ∷ events.LinkLost 0 ∷ events.LinkTook 0 5 ∷ events.Linked 0 ∷ []) ≡ codes "USERN"
-  pub by_the_next : sent_on primary 0 2 (events.Linked 0 ∷ events.LinkLost 0 ∷ events.LinkTook 0 5 ∷ events.Linked 0 ∷ []) ≡ []
+  -- what was sent in a call may come after the next one, but not on the connection of that
+  pub by_call : Comes again 1 (codes "USERN")
+  pub by_the_next : May alone second_call again (AtServer (arrivals.Bytes 3 (codes "USERN"))) → ⊥
