@@ -11,11 +11,13 @@ use Rattle.nut_poll.specs.inside.TurnLaws.{heeds_as_before, heeds_on}
 use Rattle.nut_server_loop.specs.declared.types.Next.{Next}
 use Rattle.nut_server_loop.specs.declared.types.Next.TheVariants.{Moment, Open, Bytes, Close, DriverUp, DriverBytes, DriverDown, Reload, Again, End}
 use Rattle.nut_server_spec.specs.Acceptance.{may_read, session_of}
+use Rattle.nut_server_spec.specs.Configuration.{Configuration}
 use Rattle.nut_server_spec.specs.Content.{Content}
 use Rattle.slab.specs.Slab.{Slab}
 use Rattle.nut_server_sockets.specs.declared.client.Client.{Client}
 use Rattle.nut_server_sockets.specs.declared.sockets.Sockets.{Sockets}
 use Rattle.nut_server_sockets.specs.declared.source.TheConstants.{FIXED_MAX}
+use Rattle.nut_server_sockets.specs.Reloads.{IsGiven, reload_of}
 use Rattle.nut_server_sockets.specs.Seats.{HasBesides, IsSilent, KeepsSeats, number_at}
 use Rattle.nut_server_sockets.specs.Turns.{moment_of, IsGivenBy, IsOfLast, IsUnasked, LeavesOthers, Comes, ComesInTurn, GoesOn}
 use Rattle.nut_server_sockets.specs.inside.Looking.{IsApart, IsLook, KeepsHeeded, KeepsLine, LooksInTurn, OnlyQueues, Stays, WaitsAgain, is_in_line}
@@ -61,6 +63,20 @@ no_moment sockets s (DriverDown u) token given = refl
 no_moment sockets s (Reload c) token given = refl
 no_moment sockets s Again token given = refl
 no_moment sockets s End token given = refl
+
+-- what a source gives is no configuration
+pub not_reloaded : {L : Type 0} (gave : L → Option Configuration → L → Type 0) (old new : L) (sockets : Slab Client) (s : Content) (n : Next) (token : ℕ)
+    → IsGivenBy sockets s token n → IsGiven gave old None new → IsGiven gave old (reload_of n) new
+not_reloaded gave old new sockets s (Reload c) token given none = absurd given
+not_reloaded gave old new sockets s (Moment m) token given none = none
+not_reloaded gave old new sockets s (Bytes c) token given none = none
+not_reloaded gave old new sockets s (DriverBytes u) token given none = none
+not_reloaded gave old new sockets s Open token given none = none
+not_reloaded gave old new sockets s (Close c) token given none = none
+not_reloaded gave old new sockets s (DriverUp u) token given none = none
+not_reloaded gave old new sockets s (DriverDown u) token given none = none
+not_reloaded gave old new sockets s Again token given none = none
+not_reloaded gave old new sockets s End token given none = none
 
 -- Sources were looked at, and nothing came.
 abbrev pub Nothing : Rounds → Rounds → Type 0

@@ -1,5 +1,6 @@
 pub mod Batches
 pub mod Places
+pub mod Reloads
 pub mod Seats
 pub mod Turns
 pub mod Untold

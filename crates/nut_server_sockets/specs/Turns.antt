@@ -8,7 +8,7 @@ use Rattle.nut_poll.specs.Turns.{Heeds, TakesTurns}
 use Rattle.nut_poll.specs.declared.ready.TheConstants.{SOCKETS_MAX}
 use Rattle.nut_poll.specs.declared.rounds.Rounds.{Rounds}
 use Rattle.nut_server_loop.specs.declared.types.Next.{Next}
-use Rattle.nut_server_loop.specs.declared.types.Next.TheVariants.{Moment, Bytes, Close, DriverBytes}
+use Rattle.nut_server_loop.specs.declared.types.Next.TheVariants.{Moment, Bytes, Close, DriverBytes, Reload}
 use Rattle.nut_server_spec.specs.Content.{Content}
 use Rattle.slab.specs.Slab.{Slab, get}
 use Rattle.nut_server_sockets.specs.Seats.{HasBesides, IsSilent, KeepsSeats, MakesWay, is_due, number_at}
@@ -29,12 +29,14 @@ abbrev pub IsSocketOf : Slab client.Client → ℕ → ℕ → Type 0
 IsSocketOf sockets token c = (key : ℕ) × (token ≡ FIXED_MAX + key) × (number_at sockets key ≡ Some c)
 
 -- The source with this token gave this: a piece of a client, or the end of its connection, the socket of this very client; a
--- piece of a driver that of this driver; and none a moment. A client that calls may have the connection of another closed.
+-- piece of a driver that of this driver; and none a moment or a configuration. A client that calls may have the connection of
+-- another closed.
 abbrev pub IsGivenBy : Slab client.Client → Content → ℕ → Next → Type 0
 IsGivenBy sockets s token (Bytes c) = IsSocketOf sockets token c
 IsGivenBy sockets s token (Close c) = IsSocketOf sockets token c ⊎ MakesWay s c
 IsGivenBy sockets s token (DriverBytes u) = token ≡ LISTENERS_MAX + u
 IsGivenBy sockets s token (Moment m) = ⊥
+IsGivenBy sockets s token (Reload config) = ⊥
 IsGivenBy sockets s token n = Unit {0}
 
 -- This came of no source: no piece did, and a connection is closed so if its socket couldn't be kept, if it makes way, or if its

@@ -1,7 +1,8 @@
 //! What is done once a second: silent clients are closed, a new configuration is asked for, drivers are dialled, and what has
 //! changed is reported.
 
-ghost use Rattle.std.specs.Prelude.{◌≡◌, IfSome, None};
+ghost use Rattle.std.specs.Prelude.{◌≡◌, IfSome, None, option_map};
+ghost use Rattle.nut_server_sockets.specs.Reloads.{IsGiven};
 ghost use Rattle.nut_server_sockets.specs.Seats.{HasBesides, IsSilent};
 ghost use Rattle.nut_server_sockets.specs.inside.Looking.{IsApart, OnlyQueues, Stays};
 
@@ -42,13 +43,14 @@ impl Sockets {
     }
 
     /// Returns a new configuration, if one is asked for in this second.
-    pub(super) fn reload(
+    pub(super) fn reload<L: Reloader>(
         &mut self,
         server: &Server,
-        reloader: &mut impl Reloader,
+        reloader: &mut L,
         reports: &mut Reports<'_>,
     ) -> Option<Box<Config>>
-        ensures { IsApart self.old self.new }
+        ensures apart { IsApart self.old self.new }
+        ensures reloads { IsGiven L.gave reloader.old (option_map (λ config. config.value) result) reloader.new }
     {
         if !self.asks {
             return None;
