@@ -7,6 +7,8 @@ use Rattle.nut_conf.specs.Ups.{UpsConfHolds, ups_fault}
 use Rattle.nut_conf.specs.Upsd.{UpsdHolds, upsd_fault}
 use Rattle.nut_conf.specs.Users.{UsersConfHolds, users_fault}
 use Rattle.nut_program.specs.Reading.{WasRead, telling}
+use Rattle.nut_server.specs.Configured.{configuration_of}
+use Rattle.nut_server_spec.specs.Configuration.{Configuration}
 use Rattle.nut_upsd.specs.declared.configuration.Settings.{Settings}
 
 -- Each file of a folder was read once, in this order, and the settings are what their bytes mean; cmdvartab may not be there.
@@ -17,3 +19,8 @@ WereRead folder before s after = (a b c : Option (List (List ℕ × Option (List
     × WasRead (read_file upsd_fault) UpsdHolds (path_join folder (codes "upsd.conf")) b s.upsd c
     × IfSome s.descriptions (λ d. WasRead (read_file descriptions_fault) DescriptionsHold (path_join folder (codes "cmdvartab")) c d after)
     × IfNone s.descriptions (after ≡ telling (path_join folder (codes "cmdvartab")) None c)
+
+-- Each file of a folder was read once, and this is the configuration that their bytes mean.
+abbrev pub IsRead : List ℕ → Option (List (List ℕ × Option (List ℕ))) → Configuration → Option (List (List ℕ × Option (List ℕ))) → Type 0
+IsRead folder before configuration after = (s : Settings) × WereRead folder before s after
+    × (configuration ≡ configuration_of s.ups s.users s.upsd s.descriptions)

@@ -2,7 +2,7 @@
 
 ghost use Rattle.std.specs.Prelude.{◌≡◌, IfOk, IfSome};
 ghost use Rattle.nut_server.specs.Configured.{configuration_of};
-ghost use Rattle.nut_upsd.specs.Reading.{WereRead};
+ghost use Rattle.nut_upsd.specs.Reading.{IsRead, WereRead};
 
 use crate::changes::changes;
 use crate::configuration::{Settings, read_folder};
@@ -95,9 +95,8 @@ impl<'r, R: Files, F: ConfFiles> Folder<'r, R, F> {
         server: &Server,
         err: &mut ErrorLines,
     ) -> Result<Box<Config>, FileFault<'static>>
-        ensures read { IfOk result (λ config. (settings : Settings)
-            × WereRead self.old.folder.now (F.told self.old.files.now) settings (F.told self.new.files.now)
-            × (config.value ≡ configuration_of settings.ups settings.users settings.upsd settings.descriptions)) }
+        ensures read { IfOk result (λ config. IsRead self.old.folder.now (F.told self.old.files.now) config.value
+            (F.told self.new.files.now)) }
         ensures stays { (self.new.folder ≡ self.old.folder) × (self.new.endpoints ≡ self.old.endpoints) }
     {
         let settings = self.read(err)?;
@@ -131,13 +130,13 @@ fn asks(files: &impl Files, file: &mut ReloadFile, reports: &mut Reports<'_>) ->
 }
 
 impl<'r, R: Files, F: ConfFiles> Reloader for Folder<'r, R, F> {
-    /// What it gives is made of the files of the folder as they were read last. If one of them has a fault, nothing is given.
-    fn look(&mut self, server: &Server, reports: &mut Reports<'_>) -> Option<Box<Config>>
-        ensures read { IfSome result (λ config. (settings : Settings)
-            × WereRead self.old.folder.now (F.told self.old.files.now) settings (F.told self.new.files.now)
-            × (config.value ≡ configuration_of settings.ups settings.users settings.upsd settings.descriptions)) }
-        ensures stays { (self.new.folder ≡ self.old.folder) × (self.new.endpoints ≡ self.old.endpoints) }
-    {
+    /// What it gives is made of the files of the folder as they were read last. The folder stays, and so do the LISTEN lines of
+    /// the start.
+    ghost gave = { λ old given new. (new.folder ≡ old.folder) × (new.endpoints ≡ old.endpoints)
+        × IfSome given (λ configuration. IsRead old.folder.now (F.told old.files.now) configuration (F.told new.files.now)) };
+
+    /// If one of the files has a fault, nothing is given.
+    fn look(&mut self, server: &Server, reports: &mut Reports<'_>) -> Option<Box<Config>> {
         let mut is_asked = asks(self.rt, &mut self.file, reports);
         // both are looked at, so that together they are one request
         if let Some(socket_file) = &mut self.socket_file {
