@@ -1,13 +1,12 @@
 -- A machine whose UPSes may be at several servers stops by what it reads.
 use Rattle.std.proofs.Common.{◌≡◌, ℕ, suc, ◌+◌, ◌≤◌, inl, List, [], ◌∷◌, ◌++◌, length, Bool, true, refl, ◌∙◌, ap, arith}
-use Rattle.nut_monitor_spec.specs.declared.Phase.TheVariants.{Halted}
 use Rattle.nut_monitor_spec.specs.Acceptance.{IsAccepted}
-use Rattle.nut_monitor_spec.specs.Configuration.{Configuration, has_primary}
+use Rattle.nut_monitor_spec.specs.Configuration.{Configuration}
 use Rattle.nut_monitor_spec.specs.Event.{Event}
-use Rattle.nut_monitor_spec.specs.Trace.{Entry, begun, clock, critical, entry_of, has_begun, is_any, is_over_at, is_short, linked, phase, status, trace}
-use Rattle.nut_in_time.specs.AnyServers.{Always, EachGiven, IsEven, IsTold, MachinesStopAsTold}
+use Rattle.nut_monitor_spec.specs.Trace.{Entry, begun, clock, critical, entry_of, has_begun, is_any, is_over_at, is_short, linked, status, trace}
+use Rattle.nut_in_time.specs.AnyServers.{Always, EachGiven, IsEven, IsTold, MachinesStopAsTold, StopsBy}
 use Rattle.nut_in_time.specs.Pace.{Pace, IsPolled, IsPrompt, Says}
-use Rattle.nut_in_time.specs.InTime.{BeginsBy, has_fsd, is_low, secondary_by, seen_by, to_halted, turn}
+use Rattle.nut_in_time.specs.InTime.{BeginsBy, has_fsd, is_low, secondary_by, seen_by, turn}
 use Rattle.nut_in_time.proofs.Beginning.{fsd-critical, lasts-know, low-critical, begins-by}
 use Rattle.nut_in_time.proofs.Calming.{seen-first, late-by}
 use Rattle.nut_in_time.proofs.Ending.{EndsInTime, earliest-sooner, earliest-stays, ends-next, halted-then}
@@ -35,6 +34,24 @@ begun-on configuration told (event ∷ later) any =
     let past = trace configuration (later ++ told) in
     let same = begun-on configuration told later any in
     earliest-stays (is_short configuration) (entry_of configuration past event) past (ap is_any same ∙ any) ∙ same
+
+-- A shutdown that begins in time continues to Halted.
+pub stops-by : (configuration : Configuration) (pace : Pace) (by more : ℕ) (first newest later : List Event) → IsEven configuration pace first newest →
+    clock (trace configuration first) ≤ by → BeginsBy configuration by (by + more) (trace configuration (newest ++ first)) →
+    StopsBy configuration pace by more (newest ++ first) later
+stops-by configuration pace by more first newest later even young b = (
+  b,
+  λ began still late.
+      let told = newest ++ first in
+      let t0 = clock (trace configuration first) in
+      let same = begun-on configuration told later began in
+      let at = ap clock same in
+      let le = b.began began in
+      let sooner = earliest-sooner (is_over_at configuration) (trace configuration first) in
+      halted-then configuration pace (trace configuration (later ++ told)) t0 (by + more)
+      (ends-even configuration pace t0 told later still (ends-even configuration pace t0 first newest even (λ any. inl sooner))) (omega (arith, young))
+      (ap is_any same ∙ began) (omega (arith, at, le)) late,
+)
 
 module _ (configuration : Configuration) (pace : Pace) (Words : List (List ℕ) → Bool) (low : ℕ → Bool) (first : List Event) where
   abbrev Keeps : List Event → Type 0
@@ -84,20 +101,6 @@ module _ (configuration : Configuration) (pace : Pace) (Words : List (List ℕ) 
   along : Along configuration (length first) pace Words low first (newest ++ first)
   along = since configuration pace Words low first newest is.accepted is.even all-keep all-given
 
-  -- the shutdown continues to Halted
-  halts : (latest : ℕ) → clock (trace configuration first) ≤ latest → (later : List Event) → has_begun configuration (trace configuration (newest ++ first)) ≡ true →
-      clock (begun configuration (trace configuration (newest ++ first))) ≤ latest → IsEven configuration pace (newest ++ first) later →
-      latest + to_halted configuration pace ≤ clock (trace configuration (later ++ (newest ++ first))) →
-      phase configuration (trace configuration (later ++ (newest ++ first))) ≡ Halted (has_primary configuration.lines)
-  halts latest sooner_first later began le even late =
-      let same = begun-on configuration (newest ++ first) later began in
-      let at = ap clock same in
-      let sooner = earliest-sooner (is_over_at configuration) (trace configuration first) in
-      let t0 = clock (trace configuration first) in
-      halted-then configuration pace (trace configuration (later ++ (newest ++ first))) t0 latest
-      (ends-even configuration pace t0 (newest ++ first) later even (ends-even configuration pace t0 first newest is.even (λ any. inl sooner))) sooner_first
-      (ap is_any same ∙ began) (omega (arith, at, le)) late
-
   -- lines whose words are critical at once
   at-once : ((past : List Entry) → Chosen configuration low (λ i. Says Words (status i past) → critical configuration i past ≡ true)) →
       BeginsBy configuration (seen_by configuration pace (clock (trace configuration first))) (seen_by configuration pace (clock (trace configuration first)) + 0) (trace configuration (newest ++ first))
@@ -112,18 +115,14 @@ module _ (configuration : Configuration) (pace : Pace) (Words : List (List ℕ) 
 pub machines-stop : (configuration : Configuration) (pace : Pace) (low : ℕ → Bool) → MachinesStopAsTold configuration pace low
 machines-stop configuration pace low = record {
   primaries = λ first newest later is primary.
-      let b = at-once configuration pace is_low low first newest is (λ past i less l says. low-critical configuration i past says (inl (primary i less l))) in
-      (b, λ began even late. halts configuration pace is_low low first newest is (seen_by configuration pace (clock (trace configuration first)) + 0) (omega arith) later began (b.began began) even late);
+      stops-by configuration pace (seen_by configuration pace (clock (trace configuration first))) 0 first newest later is.even (omega arith)
+      (at-once configuration pace is_low low first newest is (λ past i less l says. low-critical configuration i past says (inl (primary i less l))));
   secondaries = λ known first newest later is has_status.
-      let b = late-by configuration pace known low first (newest ++ first) is.needs (lasts-first configuration pace is_low low first newest is (turn configuration pace)) has_status
-      (good-now configuration pace is_low low first newest is) (along configuration pace is_low low first newest is) in
-      let seen = seen-first configuration pace known (clock (trace configuration first)) in (
-        b,
-        λ began even late.
-            halts configuration pace is_low low first newest is (secondary_by configuration pace known (clock (trace configuration first)) + suc pace.skip)
-            (omega (arith, seen)) later began (b.began began) even late,
-      );
+      let seen = seen-first configuration pace known (clock (trace configuration first)) in
+      stops-by configuration pace (secondary_by configuration pace known (clock (trace configuration first))) (suc pace.skip) first newest later is.even (omega (arith, seen))
+      (late-by configuration pace known low first (newest ++ first) is.needs (lasts-first configuration pace is_low low first newest is (turn configuration pace)) has_status
+      (good-now configuration pace is_low low first newest is) (along configuration pace is_low low first newest is));
   forced = λ first newest later is none.
-      let b = at-once configuration pace has_fsd low first newest is (λ past i less l says. fsd-critical configuration i past says) in
-      (b, λ began even late. halts configuration pace has_fsd low first newest is (seen_by configuration pace (clock (trace configuration first)) + 0) (omega arith) later began (b.began began) even late);
+      stops-by configuration pace (seen_by configuration pace (clock (trace configuration first))) 0 first newest later is.even (omega arith)
+      (at-once configuration pace has_fsd low first newest is (λ past i less l says. fsd-critical configuration i past says));
 }

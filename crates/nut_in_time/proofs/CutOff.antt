@@ -1,5 +1,5 @@
--- Machines that hear nothing more of their UPSes, or nothing but that these are low or forced.
-use Rattle.std.proofs.Common.{◌≡◌, ◌⊎◌, ℕ, suc, ◌+◌, ◌<◌, ◌≤◌, ◌&&◌, ◌||◌, ◌==◌, inl, inr, List, [], ◌∷◌, length, Bool, true, false, not, take, Option, Some, None, is_some, refl, sym, ◌∙◌, ap, subst, arith}
+-- A machine that hears nothing more of its UPSes, or nothing but that these are low or forced.
+use Rattle.std.proofs.Common.{◌≡◌, ◌⊎◌, ℕ, suc, ◌+◌, ◌<◌, ◌≤◌, ◌&&◌, ◌||◌, ◌==◌, inl, inr, List, [], ◌∷◌, ◌++◌, length, Bool, true, false, not, take, Option, Some, None, is_some, refl, sym, ◌∙◌, ap, subst, arith}
 use Rattle.std.specs.Prelude.{if◌then◌else◌}
 use Rattle.std.proofs.lemmas.Bool.{cases_Bool, and_parts, eqb-true, ltb-true, not-true}
 use Rattle.nut_words.specs.Lines.{LineText}
@@ -8,29 +8,24 @@ use Rattle.nut_monitor_spec.specs.Acceptance as tests
 use Rattle.nut_monitor_spec.specs.Configuration.{Configuration, line_in}
 use Rattle.nut_monitor_spec.specs.Content.{Content, Watch, content}
 use Rattle.nut_monitor_spec.specs.Decision.{power_where}
-use Rattle.nut_monitor_spec.specs.Event.{Event, LinkBytes, OutOfMemory, NoticeTaken}
+use Rattle.nut_monitor_spec.specs.Event.{Event, LinkBytes, OutOfMemory}
 use Rattle.nut_monitor_spec.specs.Query.{status_in}
 use Rattle.nut_monitor_spec.specs.Trace.{Answer, Entry, all_taken, answer_of, are_calm, calm, is_any, newest_answer, status_of_answer, answer_to, brought, first_answer, outstanding, at_status, begun, clock, critical, entry_of, gives_status, has_begun, is_short, linked, polled, status, supply, trace}
 use Rattle.nut_monitor_spec.proofs.Answering.{linked-made}
 use Rattle.nut_monitor_spec.proofs.Newest.{calm-step}
-use Rattle.nut_fleet.specs.Schedule.{Step, IsFront}
-use Rattle.nut_fleet.specs.World.{Setup, line_of, monitor_of, world}
-use Rattle.nut_fleet.specs.Fleet.{IsSetup}
-use Rattle.nut_fleet.proofs.Fronts.{front-self}
-use Rattle.nut_fleet.proofs.Sound.{IsLawful}
-use Rattle.nut_fleet.proofs.Worlds.{sound}
-use Rattle.nut_in_time.specs.Pace.{Pace, IsSteady, Says, seen_at}
-use Rattle.nut_in_time.specs.InTime.{BeginsBy, has_fsd, is_low}
-use Rattle.nut_in_time.specs.CutOff.{CutOffStop, IsCutOff, HearsOnly, NoneBeginsOnLine, NothingIsHeard, begins_in, calls, is_on_battery, is_on_line}
+use Rattle.nut_in_time.specs.Pace.{Pace, Says}
+use Rattle.nut_in_time.specs.InTime.{has_fsd, is_low}
+use Rattle.nut_in_time.specs.AnyServers.{Always, IsEven}
+use Rattle.nut_in_time.specs.CutOff.{CutOffStop, HearsOnly, NoneBeginsOnLine, NothingIsHeard, begins_in, calls, is_on_battery, is_on_line}
+use Rattle.nut_in_time.proofs.AnyServers.{always-now, stops-by}
 use Rattle.nut_in_time.proofs.Asking.{to-is}
 use Rattle.nut_in_time.proofs.Beginning.{low-begun, critical-for, fsd-critical, low-critical}
 use Rattle.nut_in_time.proofs.Calming.{latest-sooner, low-tense, status-any}
-use Rattle.nut_in_time.proofs.Climbing.{front-of, each-event_with}
-use Rattle.nut_in_time.proofs.Ending.{earliest-now, earliest-sooner, false-if, halted-by_then, each-steady, at-most, begun-by, if-not}
+use Rattle.nut_in_time.proofs.Ending.{earliest-now, earliest-sooner, false-if, at-most, begun-by}
 use Rattle.nut_in_time.proofs.Lasting.{Chosen}
 use Rattle.nut_in_time.proofs.Polling.{status-read, status-unread}
 use Rattle.nut_in_time.proofs.RoomSteps.{latest-shorter}
-use Rattle.nut_fleet.proofs.Entries.{entry-answer, entry-linked}
+use Rattle.nut_fleet.proofs.Entries.{entry-answer}
 use Rattle.nut_fleet.proofs.Shutdowns.{power-more}
 
 -- ---- an event that brings no status
@@ -87,48 +82,27 @@ calm-stays : (i : ℕ) (entry : Entry) (past : List Entry) → is_any (at_status
     (gives_status i entry.answer ≡ false) ⊎ (are_calm (status_of_answer entry.answer) ≡ false) → calm i (entry ∷ past) ≡ calm i past
 calm-stays i entry past any either = grind (arith, calm-step, cases_Bool)
 
--- ---- over a schedule
+-- ---- event by event
 
-module _ (setup : Setup) (m : ℕ) (Words : ℕ → List (List ℕ) → Bool) (cut : ℕ → Bool) (start schedule : List Step) (front : IsFront start schedule)
-    (hears : Chosen (monitor_of setup m) cut (λ i. HearsOnly (Words i) setup m start schedule i)) where
-  abbrev config : Configuration
-  config = monitor_of setup m
-
-  -- the last status is that of `start`, or passes the test
-  abbrev Heard : ℕ → List Event → Type 0
-  Heard i told =
-      (at_status i (trace (monitor_of setup m) told) ≡ at_status i (seen_at setup m start)) ⊎ Says (Words i) (status i (trace (monitor_of setup m) told))
-
-  -- so it is for these lines by the end of these events
+module _ (configuration : Configuration) (Words : ℕ → List (List ℕ) → Bool) (cut : ℕ → Bool) (first : List Event) where
+  -- the last status of each of these lines is that of `first`, or passes the test
   abbrev Quiet : List Event → Type 0
-  Quiet told = Chosen (monitor_of setup m) cut (λ i. Heard i told)
+  Quiet told = Chosen configuration cut (λ i. (at_status i (trace configuration told) ≡ at_status i (trace configuration first)) ⊎ Says (Words i) (status i (trace configuration told)))
 
-  quiet-before : (told : List Event) → Quiet (NoticeTaken ∷ told) → Quiet told
-  quiet-before told q i within is =
-      let same = same-unread config i (trace config told) NoticeTaken refl in
-      elim (q i within is) [
-        | inl old ↦ inl (sym same ∙ old)
-        | inr says ↦ inr (subst (λ p. Says (Words i) (status_of_answer (newest_answer p))) same says)
-      ]
+  abbrev Hears : List Event → Type 0
+  Hears newest = Chosen configuration cut (λ i. HearsOnly configuration (Words i) first newest i)
 
-  quiet-at : (early : List Step) → IsFront early schedule → IsFront start early → Quiet ((world setup early).monitor m)
-  quiet-at early within since i less is = hears i less is early within since
-
-  -- event by event, the taking of each notice included
-  each-quiet : (pace : Pace) (P : List Event → Type 0) → IsSteady setup pace m start schedule → P ((world setup start).monitor m) →
-      ((told : List Event) (event : Event) → Quiet told → Quiet (event ∷ told) →
-      clock (trace (monitor_of setup m) (event ∷ told)) ≤ clock (trace (monitor_of setup m) told) + suc pace.skip → P told → P (event ∷ told)) →
-      P ((world setup schedule).monitor m)
-  each-quiet pace P steady = each-steady setup m start schedule pace P Quiet front steady quiet-before quiet-at
+  quiet : (newest : List Event) → Hears newest → Quiet (newest ++ first)
+  quiet newest hears i less is =
+      always-now configuration (λ past. (at_status i past ≡ at_status i (trace configuration first)) ⊎ Says (Words i) (status i past)) first newest (hears i less is)
 
   -- ---- on line power
 
   module _ (on_line : (i : ℕ) (words : List (List ℕ)) → Words i words ≡ true → is_on_line words ≡ true)
-      (known : (i : ℕ) → i < length (monitor_of setup m).lines → cut i ≡ true → (words : List (List ℕ)) → status i (seen_at setup m start) ≡ Some words → is_on_line words ≡ true)
-      (enough : (monitor_of setup m).min_supplies ≤ power_where cut (monitor_of setup m).lines) where
-    known-line : (told : List Event) → Quiet told → (i : ℕ) → i < length (monitor_of setup m).lines → cut i ≡ true → (words : List (List ℕ)) →
-        status i (trace (monitor_of setup m) told) ≡ Some words → is_on_line words ≡ true
-    known-line told quiet i within is words there = elim (quiet i within is) [
+      (known : Chosen configuration cut (λ i. (words : List (List ℕ)) → status i (trace configuration first) ≡ Some words → is_on_line words ≡ true))
+      (enough : configuration.min_supplies ≤ power_where cut configuration.lines) where
+    known-line : (told : List Event) → Quiet told → Chosen configuration cut (λ i. (words : List (List ℕ)) → status i (trace configuration told) ≡ Some words → is_on_line words ≡ true)
+    known-line told q i within is words there = elim (q i within is) [
       | inl old ↦ known i within is words (sym (ap (λ p. status_of_answer (newest_answer p)) old) ∙ there)
       | inr says ↦
           let same : Some says.0 ≡ Some words = sym says.1 ∙ there in
@@ -136,18 +110,19 @@ module _ (setup : Setup) (m : ℕ) (Words : ℕ → List (List ℕ) → Bool) (c
           subst (λ w. is_on_line w ≡ true) same' (on_line i says.0 says.2)
     ]
 
-    tame-line : (told : List Event) → Quiet told → (i : ℕ) → i < length (monitor_of setup m).lines → cut i ≡ true → critical (monitor_of setup m) i (trace (monitor_of setup m) told) ≡ false
-    tame-line told quiet i within is = grind (arith, and_parts, not-true, known-line)
+    tame-line : (told : List Event) → Quiet told → Chosen configuration cut (λ i. critical configuration i (trace configuration told) ≡ false)
+    tame-line told q i within is = grind (arith, and_parts, not-true, known-line)
 
-    tame-next : (told : List Event) (event : Event) → Quiet (event ∷ told) → has_begun (monitor_of setup m) (trace (monitor_of setup m) told) ≡ false →
-        has_begun (monitor_of setup m) (trace (monitor_of setup m) (event ∷ told)) ≡ false
-    tame-next told event now not_begun = false-if (has_begun (monitor_of setup m) (trace (monitor_of setup m) (event ∷ told))) (λ any.
-        let config = monitor_of setup m in
-        let past = trace config told in
-        let entry = entry_of config past event in
-        let short : is_short config (entry ∷ past) ≡ true = (earliest-now (is_short config) entry past not_begun any).1 in
-        let less = ltb-true (supply config (entry ∷ past)) config.min_supplies short in
-        let more = power-more cut (λ i. not (critical config i (entry ∷ past))) config.lines (λ i within is. ap not (tame-line (event ∷ told) now i within is)) in
+    tame : (newest : List Event) → Hears newest → has_begun configuration (trace configuration first) ≡ false → has_begun configuration (trace configuration (newest ++ first)) ≡ false
+    tame [] hears not_begun = not_begun
+    tame (event ∷ newest) hears not_begun = false-if (has_begun configuration (trace configuration (event ∷ (newest ++ first)))) (λ any.
+        let past = trace configuration (newest ++ first) in
+        let entry = entry_of configuration past event in
+        let before = tame newest (λ i less is. (hears i less is).1) not_begun in
+        let short : is_short configuration (entry ∷ past) ≡ true = (earliest-now (is_short configuration) entry past before any).1 in
+        let less = ltb-true (supply configuration (entry ∷ past)) configuration.min_supplies short in
+        let more = power-more cut (λ i. not (critical configuration i (entry ∷ past))) configuration.lines
+        (λ i within is. ap not (tame-line (event ∷ (newest ++ first)) (quiet (event ∷ newest) hears) i within is)) in
         absurd (omega (arith, less, enough, more)))
 
 -- ---- on battery
@@ -162,116 +137,110 @@ late-any n (entry ∷ past) late = refl
 some-any : (i : ℕ) (past : List Entry) (words : List (List ℕ)) → status i past ≡ Some words → is_any (at_status i past) ≡ true
 some-any i past words is = status-any i past (ap is_some is)
 
-module _ (setup : Setup) (m : ℕ) (waits : Bool) (cut : ℕ → Bool) (last : ℕ) (start schedule : List Step) (c : IsCutOff setup m waits cut last start schedule) where
+module _ (configuration : Configuration) (waits : Bool) (cut : ℕ → Bool) (last : ℕ) (first : List Event)
+    (known : Chosen configuration cut (λ i. Says is_on_battery (status i (trace configuration first)))) where
   abbrev called : ℕ → List (List ℕ) → Bool
-  called i = calls waits (line_of setup m i)
+  called i = calls waits (line_in configuration.lines i)
 
   abbrev by : ℕ
-  by = last + begins_in (monitor_of setup m) waits
+  by = last + begins_in configuration waits
 
-  abbrev quiet : List Event → Type 0
-  quiet told = Quiet setup m called cut start schedule c.front c.hears told
+  abbrev Called : List Event → Type 0
+  Called told = Quiet configuration called cut first told
 
-  known-any : (told : List Event) → quiet told → Chosen (monitor_of setup m) cut (λ i. is_any (at_status i (trace (monitor_of setup m) told)) ≡ true)
+  known-any : (told : List Event) → Called told → Chosen configuration cut (λ i. is_any (at_status i (trace configuration told)) ≡ true)
   known-any told q i within is = elim (q i within is) [
-    | inl old ↦ ap is_any old ∙ (let says = c.known i within is in some-any i (seen_at setup m start) says.0 says.1)
-    | inr says ↦ some-any i (trace (monitor_of setup m) told) says.0 says.1
+    | inl old ↦ ap is_any old ∙ (let says = known i within is in some-any i (trace configuration first) says.0 says.1)
+    | inr says ↦ some-any i (trace configuration told) says.0 says.1
   ]
 
-  -- no other status came since `last`, and the shutdown began in time
-  record Stays (pace : Pace) (told : List Event) : Type 0 where
-    pub long : length (seen_at setup m start) ≤ length (trace (monitor_of setup m) told)
-    pub calms : Chosen (monitor_of setup m) cut (λ i. waits ≡ true → calm i (trace (monitor_of setup m) told) ≤ last)
-    pub began : has_begun (monitor_of setup m) (trace (monitor_of setup m) told) ≡ true → clock (begun (monitor_of setup m) (trace (monitor_of setup m) told)) ≤ by + suc pace.skip
-
-  gone-begun : (pace : Pace) (told : List Event) → quiet told → Stays pace told → by < clock (trace (monitor_of setup m) told) →
-      has_begun (monitor_of setup m) (trace (monitor_of setup m) told) ≡ true
-  gone-begun pace told q s late =
-      let config = monitor_of setup m in
-      let past = trace config told in
-      low-begun config cut past (late-any by past late) c.needs.short (λ i within is. elim (q i within is) [
-        | inl old ↦
-            let at = ap clock old in
-            let read = c.read i within is in
-            let first = dead-first config waits in
-            dead-critical config i past (subst (λ p. Says is_on_battery (status_of_answer (newest_answer p))) (sym old) (c.known i within is)) (omega (arith, at, read, first, late))
-        | inr says ↦ calls-critical config i last waits past says (s.calms i within is) late
-      ])
-
-  calm-next : (told : List Event) (event : Event) → quiet told → quiet (event ∷ told) → length (seen_at setup m start) ≤ length (trace (monitor_of setup m) told) →
-      (i : ℕ) → i < length (monitor_of setup m).lines → cut i ≡ true → waits ≡ true →
-      calm i (trace (monitor_of setup m) (event ∷ told)) ≡ calm i (trace (monitor_of setup m) told)
+  calm-next : (told : List Event) (event : Event) → Called told → Called (event ∷ told) → length (trace configuration first) ≤ length (trace configuration told) →
+      Chosen configuration cut (λ i. waits ≡ true → calm i (trace configuration (event ∷ told)) ≡ calm i (trace configuration told))
   calm-next told event before now long i within is slow =
-      let config = monitor_of setup m in
-      let past = trace config told in
-      let entry = entry_of config past event in
-      let answer = answer_of config past event in
+      let past = trace configuration told in
+      let entry = entry_of configuration past event in
+      let answer = answer_of configuration past event in
       let any = known-any told before i within is in
       elim (cases_Bool (gives_status i answer)) [
-        | inr unread ↦ calm-stays i entry past any (inl (ap (gives_status i) (entry-answer config past event) ∙ unread))
+        | inr unread ↦ calm-stays i entry past any (inl (ap (gives_status i) (entry-answer configuration past event) ∙ unread))
         | inl read ↦
-            let front : at_status i (entry ∷ past) ≡ entry ∷ past = status-read config i 0 0 0 (record { delay = 0; skip = 0 }) (λ words. true) past event read in
+            let front : at_status i (entry ∷ past) ≡ entry ∷ past = status-read configuration i 0 0 0 (record { delay = 0; skip = 0 }) (λ words. true) past event read in
             elim (now i within is) [
               | inl old ↦
                   let same = ap length (sym front ∙ old) in
-                  let short = latest-shorter (λ e p. gives_status i e.answer) (seen_at setup m start) in
+                  let short = latest-shorter (λ e p. gives_status i e.answer) (trace configuration first) in
                   absurd (omega (arith, same, short, long))
               | inr says ↦
                   let low : Says is_low (status_of_answer entry.answer) =
-                  (says.0, sym (ap (λ p. status_of_answer (newest_answer p)) front) ∙ says.1, sym (ap (λ b. if b then is_low says.0 else has_fsd says.0 || ((line_of setup m i).primary && is_low says.0)) slow) ∙ says.2) in
+                  (says.0, sym (ap (λ p. status_of_answer (newest_answer p)) front) ∙ says.1, sym (ap (λ b. if b then is_low says.0 else has_fsd says.0 || ((line_in configuration.lines i).primary && is_low says.0)) slow) ∙ says.2) in
                   calm-stays i entry past any (inr (low-not_calm (status_of_answer entry.answer) low))
             ]
       ]
 
-  stays-next : (pace : Pace) (told : List Event) (event : Event) → quiet told → quiet (event ∷ told) →
-      clock (trace (monitor_of setup m) (event ∷ told)) ≤ clock (trace (monitor_of setup m) told) + suc pace.skip → Stays pace told → Stays pace (event ∷ told)
-  stays-next pace told event before now steady s =
-      let config = monitor_of setup m in
-      let past = trace config told in
-      let long = s.long in
-      record {
-        long = omega (arith, long);
-        calms = λ i within is slow. let le = s.calms i within is slow in let same = calm-next told event before now s.long i within is slow in omega (arith, le, same);
-        began = begun-by config (entry_of config past event) past (λ front. clock front ≤ by + suc pace.skip) s.began (λ was_not.
-            let le = at-most (clock past) by (λ late. let bad : false ≡ true = sym was_not ∙ gone-begun pace told before s late in cc) in
-            omega (arith, le, steady));
-      }
+  module _ (pace : Pace) (short : power_where (λ i. not (cut i)) configuration.lines < configuration.min_supplies)
+      (read : Chosen configuration cut (λ i. polled i (trace configuration first) ≤ last)) (young : clock (trace configuration first) ≤ by) where
+    -- no other status came since `last`, and the shutdown began in time
+    record Stays (told : List Event) : Type 0 where
+      pub long : length (trace configuration first) ≤ length (trace configuration told)
+      pub calms : Chosen configuration cut (λ i. waits ≡ true → calm i (trace configuration told) ≤ last)
+      pub began : has_begun configuration (trace configuration told) ≡ true → clock (begun configuration (trace configuration told)) ≤ by + suc pace.skip
+
+    gone-begun : (told : List Event) → Called told → Stays told → by < clock (trace configuration told) → has_begun configuration (trace configuration told) ≡ true
+    gone-begun told q s late =
+        let past = trace configuration told in
+        low-begun configuration cut past (late-any by past late) short (λ i within is. elim (q i within is) [
+          | inl old ↦
+              let at = ap clock old in
+              let was = read i within is in
+              let sooner = dead-first configuration waits in
+              dead-critical configuration i past (subst (λ p. Says is_on_battery (status_of_answer (newest_answer p))) (sym old) (known i within is)) (omega (arith, at, was, sooner, late))
+          | inr says ↦ calls-critical configuration i last waits past says (s.calms i within is) late
+        ])
+
+    stays : (newest : List Event) → Hears configuration called cut first newest → IsEven configuration pace first newest → Stays (newest ++ first)
+    stays [] hears even =
+        let sooner = earliest-sooner (is_short configuration) (trace configuration first) in
+        record {
+          long = omega arith;
+          calms = λ i less is slow. let le = calm-polled i (trace configuration first) in let was = read i less is in omega (arith, le, was);
+          began = λ any. omega (arith, sooner, young);
+        }
+    stays (event ∷ newest) hears even =
+        let told = newest ++ first in
+        let past = trace configuration told in
+        let hears' : Hears configuration called cut first newest = λ i less is. (hears i less is).1 in
+        let before = quiet configuration called cut first newest hears' in
+        let s = stays newest hears' even.1 in
+        let long = s.long in
+        let little = even.0 in
+        record {
+          long = omega (arith, long);
+          calms = λ i less is slow.
+              let le = s.calms i less is slow in
+              let same = calm-next told event before (quiet configuration called cut first (event ∷ newest) hears) long i less is slow in
+              omega (arith, le, same);
+          began = begun-by configuration (entry_of configuration past event) past (λ front. clock front ≤ by + suc pace.skip) s.began (λ was_not.
+              let le = at-most (clock past) by (λ late. let bad : false ≡ true = sym was_not ∙ gone-begun told before s late in cc) in
+              omega (arith, le, little));
+        }
 
 -- ---- as laws
 
-pub cut_off-stop : (setup : Setup) (schedule : List Step) → CutOffStop setup schedule
-cut_off-stop setup schedule pace m waits cut last start middle within c steady =
-    let config = monitor_of setup m in
-    let t = last + begins_in config waits in
-    let sooner = earliest-sooner (is_short config) (seen_at setup m start) in
-    let young = c.young in
-    let called : ℕ → List (List ℕ) → Bool = λ i. calls waits (line_of setup m i) in
-    let end : Stays setup m waits cut last start middle c pace ((world setup middle).monitor m) =
-    each-quiet setup m called cut start middle c.front c.hears pace (Stays setup m waits cut last start middle c pace)
-    (λ step early inside since. steady step early (front-of (step ∷ early) middle schedule inside within) since)
-    (record {
-      long = omega arith;
-      calms = λ i less is slow. let le = calm-polled i (seen_at setup m start) in let read = c.read i less is in omega (arith, le, read);
-      began = λ any. omega (arith, sooner, young);
-    })
-    (stays-next setup m waits cut last start middle c pace) in
-    let begins : BeginsBy config t (t + suc pace.skip) (seen_at setup m middle) = record {
-      begins = gone-begun setup m waits cut last start middle c pace ((world setup middle).monitor m)
-          (quiet-at setup m called cut start middle c.front c.hears middle (front-self middle) c.front) end;
+pub cut_off-stop : (configuration : Configuration) → CutOffStop configuration
+cut_off-stop configuration pace waits cut last first newest later c even =
+    let known : Chosen configuration cut (λ i. Says is_on_battery (status i (trace configuration first))) = λ i less is. (c.lines i less is).1 in
+    let read : Chosen configuration cut (λ i. polled i (trace configuration first) ≤ last) = λ i less is. (c.lines i less is).2 in
+    let hears : Hears configuration (called configuration waits cut last first known) cut first newest = λ i less is. (c.lines i less is).0 in
+    let end = stays configuration waits cut last first known pace c.needs.short read c.young newest hears even in
+    stops-by configuration pace (last + begins_in configuration waits) (suc pace.skip) first newest later even c.young (record {
+      begins = gone-begun configuration waits cut last first known pace c.needs.short read c.young (newest ++ first)
+          (quiet configuration (called configuration waits cut last first known) cut first newest hears) end;
       began = end.began;
-    } in (
-      begins,
-      λ over again late.
-          let began : has_begun config (seen_at setup m middle) ≡ true = if-not (has_begun config (seen_at setup m middle)) (λ f. begins.begins (over f)) in
-          halted-by_then setup schedule pace m start middle (t + suc pace.skip) c.front within (omega (arith, young)) began (begins.began began) steady late,
-    )
+    })
 
-pub none-begins_on_line : (setup : Setup) (schedule : List Step) → NoneBeginsOnLine setup schedule
-none-begins_on_line setup schedule m cut start front hears known enough not_begun =
-    let words : ℕ → List (List ℕ) → Bool = λ i. is_on_line in
-    each-event_with setup m start schedule (λ told. has_begun (monitor_of setup m) (trace (monitor_of setup m) told) ≡ false) (Quiet setup m words cut start schedule front hears) front
-    (quiet-before setup m words cut start schedule front hears) (quiet-at setup m words cut start schedule front hears) not_begun
-    (λ told event before now. tame-next setup m words cut start schedule front hears (λ i w is. is) known enough told event now)
+pub none-begins_on_line : (configuration : Configuration) → NoneBeginsOnLine configuration
+none-begins_on_line configuration cut first newest lines enough not_begun =
+    tame configuration (λ i. is_on_line) cut first (λ i words is. is) (λ i less is. (lines i less is).1) enough newest (λ i less is. (lines i less is).0) not_begun
 
 -- ---- a link that is down
 
@@ -309,11 +278,15 @@ unheard configuration told i (OutOfMemory j piece k) within accepted down = elim
 ]
 unheard configuration told i event within accepted down = refl
 
-pub nothing-heard : (setup : Setup) → IsLawful setup.server → IsSetup setup → (schedule : List Step) → NothingIsHeard setup schedule
-nothing-heard setup law fine schedule m i Words start less front down early inside since =
-    let config = monitor_of setup m in
-    inl (each-event_with setup m start early (λ told. at_status i (trace config told) ≡ at_status i (seen_at setup m start))
-    (λ told. IsAccepted config told × (linked i (trace config told) ≡ false)) since
-    (λ told q. (q.0.0, sym (entry-linked config (trace config told) NoticeTaken i) ∙ q.1))
-    (λ e within from. (((sound setup law fine e).monitors m).accepted, down e (front-of e early schedule within inside) from)) refl
-    (λ told event q q' before. same-unread config i (trace config told) event (unheard config told i event less q'.0.1 q.1) ∙ before))
+pub nothing-heard : (configuration : Configuration) → NothingIsHeard configuration
+nothing-heard configuration i Words first [] less accepted down = inl refl
+nothing-heard configuration i Words first (event ∷ newest) less accepted down =
+    (inl (unread (event ∷ newest) accepted down), nothing-heard configuration i Words first newest less accepted.0 down.1)
+  where
+    unread : (newest : List Event) → IsAccepted configuration (newest ++ first) → Always configuration (λ past. linked i past ≡ false) first newest →
+        at_status i (trace configuration (newest ++ first)) ≡ at_status i (trace configuration first)
+    unread [] accepted down = refl
+    unread (event ∷ newest) accepted down =
+        let told = newest ++ first in
+        let was = always-now configuration (λ past. linked i past ≡ false) first newest down.1 in
+        same-unread configuration i (trace configuration told) event (unheard configuration told i event less accepted.1 was) ∙ unread newest accepted.0 down.1

@@ -10,7 +10,7 @@ pub returns-clause-goes_on : goal.returns-clause-goes_on
 returns-clause-goes_on c = none-begins_on_line
 
 pub returns-clause-lost : goal.returns-clause-lost
-returns-clause-lost c = λ setup schedule fine. nothing-heard setup (lawful c.every_table_holds.ensures setup.server) fine schedule
+returns-clause-lost c = nothing-heard
 
 pub returns-clause-shown : goal.returns-clause-shown
 returns-clause-shown c = λ setup schedule fine. only-shown_heard setup (lawful c.every_table_holds.ensures setup.server) fine schedule
