@@ -82,48 +82,34 @@ calm-stays : (i : ℕ) (entry : Entry) (past : List Entry) → is_any (at_status
     (gives_status i entry.answer ≡ false) ⊎ (are_calm (status_of_answer entry.answer) ≡ false) → calm i (entry ∷ past) ≡ calm i past
 calm-stays i entry past any either = grind (arith, calm-step, cases_Bool)
 
--- ---- event by event
+-- ---- on line power
 
-module _ (configuration : Configuration) (Words : ℕ → List (List ℕ) → Bool) (cut : ℕ → Bool) (first : List Event) where
-  -- the last status of each of these lines is that of `first`, or passes the test
-  abbrev Quiet : List Event → Type 0
-  Quiet told = Chosen configuration cut (λ i. (at_status i (trace configuration told) ≡ at_status i (trace configuration first)) ⊎ Says (Words i) (status i (trace configuration told)))
-
-  abbrev Hears : List Event → Type 0
-  Hears newest = Chosen configuration cut (λ i. HearsOnly configuration (Words i) first newest i)
-
-  quiet : (newest : List Event) → Hears newest → Quiet (newest ++ first)
-  quiet newest hears i less is =
-      always-now configuration (λ past. (at_status i past ≡ at_status i (trace configuration first)) ⊎ Says (Words i) (status i past)) first newest (hears i less is)
-
-  -- ---- on line power
-
-  module _ (on_line : (i : ℕ) (words : List (List ℕ)) → Words i words ≡ true → is_on_line words ≡ true)
-      (known : Chosen configuration cut (λ i. (words : List (List ℕ)) → status i (trace configuration first) ≡ Some words → is_on_line words ≡ true))
-      (enough : configuration.min_supplies ≤ power_where cut configuration.lines) where
-    known-line : (told : List Event) → Quiet told → Chosen configuration cut (λ i. (words : List (List ℕ)) → status i (trace configuration told) ≡ Some words → is_on_line words ≡ true)
-    known-line told q i within is words there = elim (q i within is) [
-      | inl old ↦ known i within is words (sym (ap (λ p. status_of_answer (newest_answer p)) old) ∙ there)
+on-line : (configuration : Configuration) (i : ℕ) (first newest : List Event) → HearsOnly configuration is_on_line first newest i →
+    ((words : List (List ℕ)) → status i (trace configuration first) ≡ Some words → is_on_line words ≡ true) →
+    (words : List (List ℕ)) → status i (trace configuration (newest ++ first)) ≡ Some words → is_on_line words ≡ true
+on-line configuration i first newest hears known words there =
+    elim (always-now configuration (λ past. (at_status i past ≡ at_status i (trace configuration first)) ⊎ Says is_on_line (status i past)) first newest hears) [
+      | inl old ↦ known words (sym (ap (λ p. status_of_answer (newest_answer p)) old) ∙ there)
       | inr says ↦
           let same : Some says.0 ≡ Some words = sym says.1 ∙ there in
           let same' : says.0 ≡ words = cc in
-          subst (λ w. is_on_line w ≡ true) same' (on_line i says.0 says.2)
+          subst (λ w. is_on_line w ≡ true) same' says.2
     ]
 
-    tame-line : (told : List Event) → Quiet told → Chosen configuration cut (λ i. critical configuration i (trace configuration told) ≡ false)
-    tame-line told q i within is = grind (arith, and_parts, not-true, known-line)
+tame-line : (configuration : Configuration) (i : ℕ) (past : List Entry) → ((words : List (List ℕ)) → status i past ≡ Some words → is_on_line words ≡ true) → critical configuration i past ≡ false
+tame-line configuration i past known = grind (arith, and_parts, not-true)
 
-    tame : (newest : List Event) → Hears newest → has_begun configuration (trace configuration first) ≡ false → has_begun configuration (trace configuration (newest ++ first)) ≡ false
-    tame [] hears not_begun = not_begun
-    tame (event ∷ newest) hears not_begun = false-if (has_begun configuration (trace configuration (event ∷ (newest ++ first)))) (λ any.
-        let past = trace configuration (newest ++ first) in
-        let entry = entry_of configuration past event in
-        let before = tame newest (λ i less is. (hears i less is).1) not_begun in
-        let short : is_short configuration (entry ∷ past) ≡ true = (earliest-now (is_short configuration) entry past before any).1 in
-        let less = ltb-true (supply configuration (entry ∷ past)) configuration.min_supplies short in
-        let more = power-more cut (λ i. not (critical configuration i (entry ∷ past))) configuration.lines
-        (λ i within is. ap not (tame-line (event ∷ (newest ++ first)) (quiet (event ∷ newest) hears) i within is)) in
-        absurd (omega (arith, less, enough, more)))
+pub none-begins_on_line : (configuration : Configuration) → NoneBeginsOnLine configuration
+none-begins_on_line configuration cut first [] lines enough not_begun = not_begun
+none-begins_on_line configuration cut first (event ∷ newest) lines enough not_begun = false-if (has_begun configuration (trace configuration (event ∷ (newest ++ first)))) (λ any.
+    let past = trace configuration (newest ++ first) in
+    let entry = entry_of configuration past event in
+    let before = none-begins_on_line configuration cut first newest (λ i less is. ((lines i less is).0.1, (lines i less is).1)) enough not_begun in
+    let short : is_short configuration (entry ∷ past) ≡ true = (earliest-now (is_short configuration) entry past before any).1 in
+    let less = ltb-true (supply configuration (entry ∷ past)) configuration.min_supplies short in
+    let more = power-more cut (λ i. not (critical configuration i (entry ∷ past))) configuration.lines
+    (λ i within is. let l = lines i within is in ap not (tame-line configuration i (entry ∷ past) (on-line configuration i first (event ∷ newest) l.0 l.1))) in
+    absurd (omega (arith, less, enough, more)))
 
 -- ---- on battery
 
@@ -139,14 +125,20 @@ some-any i past words is = status-any i past (ap is_some is)
 
 module _ (configuration : Configuration) (waits : Bool) (cut : ℕ → Bool) (last : ℕ) (first : List Event)
     (known : Chosen configuration cut (λ i. Says is_on_battery (status i (trace configuration first)))) where
-  abbrev called : ℕ → List (List ℕ) → Bool
-  called i = calls waits (line_in configuration.lines i)
+  -- the last status of each of these lines is that of `first`, or calls for a shutdown
+  abbrev Called : List Event → Type 0
+  Called told = Chosen configuration cut
+      (λ i. (at_status i (trace configuration told) ≡ at_status i (trace configuration first)) ⊎ Says (calls waits (line_in configuration.lines i)) (status i (trace configuration told)))
+
+  abbrev Hears : List Event → Type 0
+  Hears newest = Chosen configuration cut (λ i. HearsOnly configuration (calls waits (line_in configuration.lines i)) first newest i)
+
+  called : (newest : List Event) → Hears newest → Called (newest ++ first)
+  called newest hears i less is =
+      always-now configuration (λ past. (at_status i past ≡ at_status i (trace configuration first)) ⊎ Says (calls waits (line_in configuration.lines i)) (status i past)) first newest (hears i less is)
 
   abbrev by : ℕ
   by = last + begins_in configuration waits
-
-  abbrev Called : List Event → Type 0
-  Called told = Quiet configuration called cut first told
 
   known-any : (told : List Event) → Called told → Chosen configuration cut (λ i. is_any (at_status i (trace configuration told)) ≡ true)
   known-any told q i within is = elim (q i within is) [
@@ -197,7 +189,7 @@ module _ (configuration : Configuration) (waits : Bool) (cut : ℕ → Bool) (la
           | inr says ↦ calls-critical configuration i last waits past says (s.calms i within is) late
         ])
 
-    stays : (newest : List Event) → Hears configuration called cut first newest → IsEven configuration pace first newest → Stays (newest ++ first)
+    stays : (newest : List Event) → Hears newest → IsEven configuration pace first newest → Stays (newest ++ first)
     stays [] hears even =
         let sooner = earliest-sooner (is_short configuration) (trace configuration first) in
         record {
@@ -208,8 +200,8 @@ module _ (configuration : Configuration) (waits : Bool) (cut : ℕ → Bool) (la
     stays (event ∷ newest) hears even =
         let told = newest ++ first in
         let past = trace configuration told in
-        let hears' : Hears configuration called cut first newest = λ i less is. (hears i less is).1 in
-        let before = quiet configuration called cut first newest hears' in
+        let hears' : Hears newest = λ i less is. (hears i less is).1 in
+        let before = called newest hears' in
         let s = stays newest hears' even.1 in
         let long = s.long in
         let little = even.0 in
@@ -217,30 +209,23 @@ module _ (configuration : Configuration) (waits : Bool) (cut : ℕ → Bool) (la
           long = omega (arith, long);
           calms = λ i less is slow.
               let le = s.calms i less is slow in
-              let same = calm-next told event before (quiet configuration called cut first (event ∷ newest) hears) long i less is slow in
+              let same = calm-next told event before (called (event ∷ newest) hears) long i less is slow in
               omega (arith, le, same);
           began = begun-by configuration (entry_of configuration past event) past (λ front. clock front ≤ by + suc pace.skip) s.began (λ was_not.
               let le = at-most (clock past) by (λ late. let bad : false ≡ true = sym was_not ∙ gone-begun told before s late in cc) in
               omega (arith, le, little));
         }
 
--- ---- as laws
-
 pub cut_off-stop : (configuration : Configuration) → CutOffStop configuration
 cut_off-stop configuration pace waits cut last first newest later c even =
     let known : Chosen configuration cut (λ i. Says is_on_battery (status i (trace configuration first))) = λ i less is. (c.lines i less is).1 in
     let read : Chosen configuration cut (λ i. polled i (trace configuration first) ≤ last) = λ i less is. (c.lines i less is).2 in
-    let hears : Hears configuration (called configuration waits cut last first known) cut first newest = λ i less is. (c.lines i less is).0 in
+    let hears : Hears configuration waits cut last first known newest = λ i less is. (c.lines i less is).0 in
     let end = stays configuration waits cut last first known pace c.needs.short read c.young newest hears even in
     stops-by configuration pace (last + begins_in configuration waits) (suc pace.skip) first newest later even c.young (record {
-      begins = gone-begun configuration waits cut last first known pace c.needs.short read c.young (newest ++ first)
-          (quiet configuration (called configuration waits cut last first known) cut first newest hears) end;
+      begins = gone-begun configuration waits cut last first known pace c.needs.short read c.young (newest ++ first) (called configuration waits cut last first known newest hears) end;
       began = end.began;
     })
-
-pub none-begins_on_line : (configuration : Configuration) → NoneBeginsOnLine configuration
-none-begins_on_line configuration cut first newest lines enough not_begun =
-    tame configuration (λ i. is_on_line) cut first (λ i words is. is) (λ i less is. (lines i less is).1) enough newest (λ i less is. (lines i less is).0) not_begun
 
 -- ---- a link that is down
 

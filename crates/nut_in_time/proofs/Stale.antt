@@ -131,64 +131,58 @@ module _ (configuration : Configuration) (i n0 : ℕ) (first : List Entry) where
 there : (setup : Setup) (m i : ℕ) → i < length (monitor_of setup m).lines → has_link setup m i ≡ true
 there setup m i less = grind (arith, and_from, lt-ltb, has-monitor)
 
-module _ (setup : Setup) (law : IsLawful setup.server) (fine : IsSetup setup) (schedule : List Step) (m i : ℕ) (Words : List (List ℕ) → Bool) (start middle : List Step)
-    (less : i < length (monitor_of setup m).lines) (front : IsFront start middle) (shows : ShowsOnly Words setup m start schedule i)
-    (none : (asked : Asked) → outstanding i (seen_at setup m middle) ≡ Some asked → length (seen_at setup m start) < asked.event) where
-  -- the last status is that of `middle`, or passes the test
-  abbrev Heard : List Entry → Type 0
-  Heard past = (at_status i past ≡ at_status i (seen_at setup m middle)) ⊎ Says Words (status i past)
-
-  heard-before : (told : List Event) → Heard (trace (monitor_of setup m) (NoticeTaken ∷ told)) → Heard (trace (monitor_of setup m) told)
-  heard-before told heard =
-      let same = same-unread (monitor_of setup m) i (trace (monitor_of setup m) told) NoticeTaken refl in
-      elim heard [
-        | inl old ↦ inl (sym same ∙ old)
-        | inr says ↦ inr (subst (λ p. Says Words (status_of_answer (newest_answer p))) same says)
-      ]
-
-  heard : (early : List Step) → IsFront early schedule → IsFront middle early → Heard (seen_at setup m early)
-  heard early inside since =
-      let config = monitor_of setup m in
-      let first = seen_at setup m middle in
-      let n0 = length (seen_at setup m start) in
-      let few = monitor-grows setup m start middle front in
-      let a = length-trace config ((world setup start).monitor m) in
-      let b = length-trace config ((world setup middle).monitor m) in
-      let link = (((sound setup law fine middle).monitors m).links i (there setup m i less)).link in
-      let late : Late config i n0 first ((world setup early).monitor m) =
-      each-event setup m middle early (Late config i n0 first) since
-      (record {
-        long = omega (arith, few, a, b);
-        open_late = late-one n0 (length (answers i first)) (queries i first) link.one none;
-        read = inl refl;
-      })
-      (late-next config i n0 first) in
-      elim late.read [
-        | inl old ↦ inl old
-        | inr after ↦ inr (by (status i (seen_at setup m early)) refl after)
-      ]
-    where
-      by : (o : Option (List (List ℕ))) → status i (seen_at setup m early) ≡ o → length (seen_at setup m start) < asked_at (newest_answer (at_status i (seen_at setup m early))) →
-          Says Words (status i (seen_at setup m early))
-      by None is after = let zero = no-status i (seen_at setup m early) is in absurd (omega (arith, after, zero))
-      by (Some words) is after =
-          let w = status-was_shown setup early law m i (seen_at setup m early) words (((sound setup law fine early).monitors m).genuine) is in
-          let asked = w.between.asked in
-          let count = length-trace (monitor_of setup m) ((world setup start).monitor m) in
-          let from : IsFront start w.early = elim (fronts-compare start w.early early (front-of start middle early front since) w.between.front) [
-            | inl after ↦ after
-            | inr before ↦ let few = monitor-grows setup m w.early start before in absurd (omega (arith, few, count, asked, after))
-          ] in
-          (words, is, shows w.early (front-of w.early early schedule w.between.front inside) from words w.shown)
-
 pub only-shown_heard : (setup : Setup) → IsLawful setup.server → IsSetup setup → (schedule : List Step) → OnlyShownIsHeard setup schedule
 only-shown_heard setup law fine schedule m i Words start middle newest less front within shows none is =
     let config = monitor_of setup m in
     let first = (world setup middle).monitor m in
-    let all = always-at setup m middle schedule (Heard setup law fine schedule m i Words start middle less front shows none)
-    (λ told. Heard setup law fine schedule m i Words start middle less front shows none (trace config told)) within
-    (heard-before setup law fine schedule m i Words start middle less front shows none) (heard setup law fine schedule m i Words start middle less front shows none) (λ told h. h) in
+    let all = always-at setup m middle schedule Heard (λ told. Heard (trace config told)) within before now (λ told h. h) in
     subst (λ n. HearsOnly config Words first n i) (append_cancel_right all.0 newest first (sym all.1 ∙ is)) all.2
+  where
+    Heard : List Entry → Type 0
+    Heard past = (at_status i past ≡ at_status i (seen_at setup m middle)) ⊎ Says Words (status i past)
+
+    before : (told : List Event) → Heard (trace (monitor_of setup m) (NoticeTaken ∷ told)) → Heard (trace (monitor_of setup m) told)
+    before told heard =
+        let same = same-unread (monitor_of setup m) i (trace (monitor_of setup m) told) NoticeTaken refl in
+        elim heard [
+          | inl old ↦ inl (sym same ∙ old)
+          | inr says ↦ inr (subst (λ p. Says Words (status_of_answer (newest_answer p))) same says)
+        ]
+
+    by : (early : List Step) → IsFront early schedule → IsFront middle early → (o : Option (List (List ℕ))) → status i (seen_at setup m early) ≡ o →
+        length (seen_at setup m start) < asked_at (newest_answer (at_status i (seen_at setup m early))) → Says Words (status i (seen_at setup m early))
+    by early inside since None is after = let zero = no-status i (seen_at setup m early) is in absurd (omega (arith, after, zero))
+    by early inside since (Some words) is after =
+        let w = status-was_shown setup early law m i (seen_at setup m early) words (((sound setup law fine early).monitors m).genuine) is in
+        let asked = w.between.asked in
+        let count = length-trace (monitor_of setup m) ((world setup start).monitor m) in
+        let from : IsFront start w.early = elim (fronts-compare start w.early early (front-of start middle early front since) w.between.front) [
+          | inl after ↦ after
+          | inr before ↦ let few = monitor-grows setup m w.early start before in absurd (omega (arith, few, count, asked, after))
+        ] in
+        (words, is, shows w.early (front-of w.early early schedule w.between.front inside) from words w.shown)
+
+    now : (early : List Step) → IsFront early schedule → IsFront middle early → Heard (seen_at setup m early)
+    now early inside since =
+        let config = monitor_of setup m in
+        let first = seen_at setup m middle in
+        let n0 = length (seen_at setup m start) in
+        let few = monitor-grows setup m start middle front in
+        let a = length-trace config ((world setup start).monitor m) in
+        let b = length-trace config ((world setup middle).monitor m) in
+        let link = (((sound setup law fine middle).monitors m).links i (there setup m i less)).link in
+        let late : Late config i n0 first ((world setup early).monitor m) =
+        each-event setup m middle early (Late config i n0 first) since
+        (record {
+          long = omega (arith, few, a, b);
+          open_late = late-one n0 (length (answers i first)) (queries i first) link.one none;
+          read = inl refl;
+        })
+        (late-next config i n0 first) in
+        elim late.read [
+          | inl old ↦ inl old
+          | inr after ↦ inr (by early inside since (status i (seen_at setup m early)) refl after)
+        ]
 
 -- a UPS that is always shown with such words isn't shown with others
 pub only-shown : (setup : Setup) (pace : Pace) (m i : ℕ) (Words : List (List ℕ) → Bool) (start schedule : List Step) → IsWatched setup pace m i Words start schedule →

@@ -41,17 +41,17 @@ pub record IsTold (configuration : Configuration) (pace : Pace) (Words : List (L
       × Always configuration (λ past. (linked i past ≡ true) × IsPrompt pace i past) first newest
       × EachGiven i (length first) Words (trace configuration (newest ++ first))
 
--- By the end of `told` the shutdown has begun if the clock is past `by`, and it began at most `more` after that. Then the machine
--- is in Halted `to_halted` later, whatever comes next.
+-- By the end of `told` the shutdown has begun if the clock is past `by`, and it began no later than at `by` + `more`. Then the
+-- machine is in Halted `to_halted` after that time, whatever comes next.
 abbrev pub StopsBy : Configuration → Pace → ℕ → ℕ → List Event → List Event → Type 0
 StopsBy configuration pace by more told later = BeginsBy configuration by (by + more) (trace configuration told)
     × (has_begun configuration (trace configuration told) ≡ true → IsEven configuration pace told later →
     by + more + to_halted configuration pace ≤ clock (trace configuration (later ++ told)) →
     phase configuration (trace configuration (later ++ told)) ≡ Halted (has_primary configuration.lines))
 
--- A machine that is told so stops `by` a time after `first`, if this holds of the lines `low` at `first`.
+-- A machine that is told so stops by such a time, if this holds of the lines `low` at `first`.
 abbrev pub StopsAsTold : Configuration → Pace → (List (List ℕ) → Bool) → (ℕ → Bool) → (ℕ → List Entry → Type 0) → (ℕ → ℕ) → ℕ → Type 0
-StopsAsTold configuration pace Words low Has by more = (first newest later : List Event) → IsTold configuration pace Words low first newest →
+StopsAsTold configuration pace Test low Has by more = (first newest later : List Event) → IsTold configuration pace Test low first newest →
     ((i : ℕ) → i < length configuration.lines → low i ≡ true → Has i (trace configuration first)) →
     StopsBy configuration pace (by (clock (trace configuration first))) more (newest ++ first) later
 

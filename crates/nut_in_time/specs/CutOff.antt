@@ -1,4 +1,4 @@
--- A machine that hears nothing more of its UPSes, or nothing but that these are low or forced, by what it reads, whatever serves it.
+-- A machine that hears nothing more of some UPSes, or only that these are low or forced: what it does, whatever serves it.
 use Rattle.std.specs.Prelude.{ℕ, suc, ◌≡◌, ◌⊎◌, ◌+◌, ◌<◌, ◌≤◌, ◌&&◌, ◌||◌, max, if◌then◌else◌, Bool, true, false, not, List, ◌++◌, length, codes, Some}
 use Rattle.nut_monitor_spec.specs.Acceptance.{IsAccepted}
 use Rattle.nut_monitor_spec.specs.Configuration.{Configuration, Line, line_in}
@@ -12,8 +12,7 @@ use Rattle.nut_in_time.specs.Pace.{Pace, FromOn, Says, seen_at, shown_at}
 use Rattle.nut_in_time.specs.InTime.{Needs, has_fsd, is_low}
 use Rattle.nut_in_time.specs.AnyServers.{Always, IsEven, StopsBy}
 
--- Since `first` the machine has read no status of the UPS of line i, or only ones that pass the test: the last one is that of
--- `first`, or passes.
+-- Since `first` each status that is read of the UPS of line i, if any, passes the test: the last one is that of `first`, or passes.
 abbrev pub HearsOnly : Configuration → (List (List ℕ) → Bool) → List Event → List Event → ℕ → Type 0
 HearsOnly configuration Words first newest i = Always configuration
     (λ past. (at_status i past ≡ at_status i (trace configuration first)) ⊎ Says Words (status i past)) first newest
@@ -30,7 +29,7 @@ abbrev pub ShowsOnly : (List (List ℕ) → Bool) → Setup → ℕ → List Ste
 ShowsOnly Words setup m start schedule i = FromOn start schedule (λ early.
     (words : List (List ℕ)) → shown_at setup early (line_of setup m i).ups ≡ Some words → Words words ≡ true)
 
--- Then only such ones are read in the newest events, since `middle`, when no query of before `start` waits for its answer any more.
+-- Then the newest events, those since `middle`, bring only such ones, if no query of before `start` waits for its answer at `middle`.
 abbrev pub OnlyShownIsHeard : Setup → List Step → Type 0
 OnlyShownIsHeard setup schedule = (m i : ℕ) (Words : List (List ℕ) → Bool) (start middle : List Step) (newest : List Event) →
     i < length (monitor_of setup m).lines → IsFront start middle → IsFront middle schedule → ShowsOnly Words setup m start schedule i →
@@ -40,6 +39,7 @@ OnlyShownIsHeard setup schedule = (m i : ℕ) (Words : List (List ℕ) → Bool)
 
 -- ---- on battery
 
+-- the status has OB
 abbrev pub is_on_battery : List (List ℕ) → Bool
 is_on_battery words = has (codes "OB") words
 

@@ -36,7 +36,8 @@ gets_low = reverse (live (codes "OB") ++ Link 0 0 ∷ rounds 0 4 ++ seconds 0 2 
 
 -- It reads that once. Then the driver's data are stale, and a query is refused. The next one waits for n seconds.
 abbrev pub goes_stale : ℕ → List Step
-goes_stale n = reverse (seconds 2 3 ++ rounds 0 1 ++ Driver 0 (codes "DATASTALE") ∷ seconds 5 5 ++ rounds 0 1 ++ seconds 10 5 ++ seconds 15 n)
+goes_stale n =
+    reverse (seconds 2 3 ++ rounds 0 1 ++ Driver 0 (codes "DATASTALE") ∷ seconds 5 5 ++ rounds 0 1 ++ seconds 10 5 ++ seconds 15 n)
 
 -- Its shutdown has begun when the UPS is on line again, and it reads that. Then n seconds pass.
 abbrev pub comes_back : ℕ → List Step
@@ -82,5 +83,6 @@ pub record CutOffExamples : Type 0 where
   pub one_is_enough : phase two_primaries (trace two_primaries (loses_one 10 ++ both_on_battery)) ≡ Watching
   pub none_is_left : phase two_primaries (trace two_primaries (loses_one 11 ++ both_on_battery)) ≡ Forcing
   -- on line
-  pub silent : HearsOnly (monitor_of alone 0) is_on_line (told alone (lost (codes "OL"))) (told_since alone (later 60) (lost (codes "OL"))) 0
+  pub silent :
+      HearsOnly (monitor_of alone 0) is_on_line (told alone (lost (codes "OL"))) (told_since alone (later 60) (lost (codes "OL"))) 0
   pub goes_on : has_begun (monitor_of alone 0) (seen_at alone 0 (later 60 ++ lost (codes "OL"))) ≡ false
