@@ -34,6 +34,35 @@ pub same-unread : (configuration : Configuration) (i : ℕ) (past : List Entry) 
     at_status i (entry_of configuration past event ∷ past) ≡ at_status i past
 same-unread configuration i past event unread = grind (arith, status-unread)
 
+-- ---- on line power
+
+on-line : (configuration : Configuration) (i : ℕ) (first newest : List Event) → HearsOnly configuration is_on_line first newest i →
+    ((words : List (List ℕ)) → status i (trace configuration first) ≡ Some words → is_on_line words ≡ true) →
+    (words : List (List ℕ)) → status i (trace configuration (newest ++ first)) ≡ Some words → is_on_line words ≡ true
+on-line configuration i first newest hears known words there =
+    elim (always-now configuration (λ past. (at_status i past ≡ at_status i (trace configuration first)) ⊎ Says is_on_line (status i past)) first newest hears) [
+      | inl old ↦ known words (sym (ap (λ p. status_of_answer (newest_answer p)) old) ∙ there)
+      | inr says ↦
+          let same : Some says.0 ≡ Some words = sym says.1 ∙ there in
+          let same' : says.0 ≡ words = cc in
+          subst (λ w. is_on_line w ≡ true) same' says.2
+    ]
+
+tame-line : (configuration : Configuration) (i : ℕ) (past : List Entry) → ((words : List (List ℕ)) → status i past ≡ Some words → is_on_line words ≡ true) → critical configuration i past ≡ false
+tame-line configuration i past known = grind (arith, and_parts, not-true)
+
+pub none-begins_on_line : (configuration : Configuration) → NoneBeginsOnLine configuration
+none-begins_on_line configuration cut first [] lines enough not_begun = not_begun
+none-begins_on_line configuration cut first (event ∷ newest) lines enough not_begun = false-if (has_begun configuration (trace configuration (event ∷ (newest ++ first)))) (λ any.
+    let past = trace configuration (newest ++ first) in
+    let entry = entry_of configuration past event in
+    let before = none-begins_on_line configuration cut first newest (λ i less is. ((lines i less is).0.1, (lines i less is).1)) enough not_begun in
+    let short : is_short configuration (entry ∷ past) ≡ true = (earliest-now (is_short configuration) entry past before any).1 in
+    let less = ltb-true (supply configuration (entry ∷ past)) configuration.min_supplies short in
+    let more = power-more cut (λ i. not (critical configuration i (entry ∷ past))) configuration.lines
+    (λ i within is. let l = lines i within is in ap not (tame-line configuration i (entry ∷ past) (on-line configuration i first (event ∷ newest) l.0 l.1))) in
+    absurd (omega (arith, less, enough, more)))
+
 -- ---- on battery
 
 -- a UPS on battery is critical once DEADTIME is over
@@ -82,36 +111,7 @@ calm-stays : (i : ℕ) (entry : Entry) (past : List Entry) → is_any (at_status
     (gives_status i entry.answer ≡ false) ⊎ (are_calm (status_of_answer entry.answer) ≡ false) → calm i (entry ∷ past) ≡ calm i past
 calm-stays i entry past any either = grind (arith, calm-step, cases_Bool)
 
--- ---- on line power
-
-on-line : (configuration : Configuration) (i : ℕ) (first newest : List Event) → HearsOnly configuration is_on_line first newest i →
-    ((words : List (List ℕ)) → status i (trace configuration first) ≡ Some words → is_on_line words ≡ true) →
-    (words : List (List ℕ)) → status i (trace configuration (newest ++ first)) ≡ Some words → is_on_line words ≡ true
-on-line configuration i first newest hears known words there =
-    elim (always-now configuration (λ past. (at_status i past ≡ at_status i (trace configuration first)) ⊎ Says is_on_line (status i past)) first newest hears) [
-      | inl old ↦ known words (sym (ap (λ p. status_of_answer (newest_answer p)) old) ∙ there)
-      | inr says ↦
-          let same : Some says.0 ≡ Some words = sym says.1 ∙ there in
-          let same' : says.0 ≡ words = cc in
-          subst (λ w. is_on_line w ≡ true) same' says.2
-    ]
-
-tame-line : (configuration : Configuration) (i : ℕ) (past : List Entry) → ((words : List (List ℕ)) → status i past ≡ Some words → is_on_line words ≡ true) → critical configuration i past ≡ false
-tame-line configuration i past known = grind (arith, and_parts, not-true)
-
-pub none-begins_on_line : (configuration : Configuration) → NoneBeginsOnLine configuration
-none-begins_on_line configuration cut first [] lines enough not_begun = not_begun
-none-begins_on_line configuration cut first (event ∷ newest) lines enough not_begun = false-if (has_begun configuration (trace configuration (event ∷ (newest ++ first)))) (λ any.
-    let past = trace configuration (newest ++ first) in
-    let entry = entry_of configuration past event in
-    let before = none-begins_on_line configuration cut first newest (λ i less is. ((lines i less is).0.1, (lines i less is).1)) enough not_begun in
-    let short : is_short configuration (entry ∷ past) ≡ true = (earliest-now (is_short configuration) entry past before any).1 in
-    let less = ltb-true (supply configuration (entry ∷ past)) configuration.min_supplies short in
-    let more = power-more cut (λ i. not (critical configuration i (entry ∷ past))) configuration.lines
-    (λ i within is. let l = lines i within is in ap not (tame-line configuration i (entry ∷ past) (on-line configuration i first (event ∷ newest) l.0 l.1))) in
-    absurd (omega (arith, less, enough, more)))
-
--- ---- on battery
+-- ---- event by event
 
 low-not_calm : (o : Option (List (List ℕ))) → Says is_low o → are_calm o ≡ false
 low-not_calm o says = ap are_calm says.1 ∙ low-tense says.0 says.2
