@@ -1,214 +1,206 @@
--- Where a client's next byte stands, line by line.
-use Rattle.std.proofs.Common.{◌≡◌, ℕ, zero, suc, cond, ◌+◌, ◌-◌, ◌<◌, ◌≤◌, List, [], ◌∷◌, ◌++◌, Bool, true, false, length, take, drop, get_or, refl, sym, ap, subst, ◌∙◌, arith}
-use Rattle.std.specs.Prelude.{◌&&◌, ◌||◌, Some, None, slice_range}
-use Rattle.std.specs.List.{list_any}
-use Rattle.std.proofs.lemmas.List.{length-append, length-drop, length-take-le, get_or-take, get_or-drop, take_more, take_all, take-append-drop, take-take}
-use Rattle.std.proofs.Math.Seq.{take-append_seam, take-append-add}
-use Rattle.std.proofs.lemmas.Bool.{eqb-true}
+-- How a client's bytes are cut behind a line that isn't plain.
+use Rattle.std.proofs.Common.{◌≡◌, ◌⊎◌, ℕ, zero, suc, cond, ◌+◌, ◌-◌, ◌≤◌, List, [], ◌∷◌, ◌++◌, Bool, true, false, length, take, drop, get_or, refl, sym, ap, subst, ◌∙◌, arith, inl, inr, append-nil, append_assoc}
+use Rattle.std.specs.Prelude.{◌==◌, ◌&&◌, ◌||◌, if◌then◌else◌, not, nat_le, Some, None, slice_range}
+use Rattle.std.specs.List.{list_any, onto_first}
+use Rattle.std.proofs.lemmas.Bool.{cases_Bool}
+use Rattle.std.proofs.lemmas.List.{length-drop, get_or-drop, take_all, take-append-drop, length-take-le}
+use Rattle.std.proofs.Math.Seq.{take-append-add}
 use Rattle.memchr.specs.Find.{IsFirstByte, is_byte}
-use Rattle.nut_server_sockets.specs.Batches.{IsLight, is_feed, is_plain, line_at, behind, place_after, is_last, ends_last}
-use Rattle.nut_server_sockets.specs.declared.batches.InLine.{InLine}
-use Rattle.nut_server_sockets.specs.declared.batches.InLine.TheVariants.{Start, Plain, Last}
+use Rattle.nut_words.specs.Cutter.{kept_of}
+use Rattle.nut_words.specs.Lines.{LineText, Text, TooLong, completed, joined, lines_after, parts}
+use Rattle.nut_words.specs.declared.limits.TheConstants.{LINE_MAX}
+use Rattle.nut_words.proofs.LineLemmas.{FeedAt, FeedAt-found, is_some_parts, parts-append, parts_of_all}
+use Rattle.nut_server_sockets.specs.inside.Light.{begins_other, is_feed, is_plain, others_in}
 
-pub place_after-append : (p : InLine) (s t : List ℕ) → place_after p (s ++ t) ≡ place_after (place_after p s) t
-place_after-append p [] t = refl
-place_after-append p (c ∷ cs) t = place_after-append (behind p c) cs t
+-- ---- lines, one by one
 
-or_assoc : (a b c : Bool) → (a || (b || c)) ≡ ((a || b) || c)
-or_assoc true b c = refl
-or_assoc false b c = refl
+abbrev Whole : List ℕ → Type 0
+Whole text = parts text ≡ text ∷ []
 
-pub ends_last-append : (p : InLine) (s t : List ℕ) → ends_last p (s ++ t) ≡ (ends_last p s || ends_last (place_after p s) t)
-ends_last-append p [] t = refl
-ends_last-append p (c ∷ cs) t =
-    ap (λ b. (is_feed c && is_last p) || b) (ends_last-append (behind p c) cs t)
-    ∙ or_assoc (is_feed c && is_last p) (ends_last (behind p c) cs) (ends_last (place_after (behind p c) cs) t)
+-- A text with its line feed comes before the parts behind it.
+parts_line : (t more : List ℕ) → Whole t → parts (t ++ 10 ∷ more) ≡ t ∷ parts more
+parts_line t more whole = (rw whole at (parts-append t (10 ∷ more))) ∙ ap (λ u. u ∷ parts more) (append-nil t)
 
-pub first_false : (a b : Bool) → (a || b) ≡ false → a ≡ false
-first_false true b h = absurd (cc)
-first_false false b h = refl
+completed_line : (old : LineText) (t : List ℕ) (all : List (List ℕ)) (p : List ℕ) (ps : List (List ℕ)) → all ≡ p ∷ ps → completed old (t ∷ all) ≡ joined old t ∷ completed (Text []) all
+completed_line old t all p [] is = rw is refl
+completed_line old t all p (u ∷ us) is = rw is refl
 
-pub then_false : (a b : Bool) → (a || b) ≡ false → b ≡ false
-then_false true b h = absurd (cc)
-then_false false b h = h
+-- It completes one line, and those that the rest does.
+lines_line : (old : LineText) (t more : List ℕ) → Whole t → lines_after old (t ++ 10 ∷ more) ≡ joined old t ∷ lines_after (Text []) more
+lines_line old t more whole =
+    let some = is_some_parts more in
+    ap (completed old) (parts_line t more whole) ∙ completed_line old t (parts more) some.0 some.1 some.2
 
--- No line ends in a text without a line feed.
-none_ends : (p : InLine) (t : List ℕ) → list_any is_feed t ≡ false → ends_last p t ≡ false
-none_ends p [] h = refl
-none_ends p (c ∷ cs) h = rw (first_false (is_feed c) (list_any is_feed cs) h) (none_ends (line_at p c) cs (then_false (is_feed c) (list_any is_feed cs) h))
+-- The rest of a line completes none.
+lines_none : (old : LineText) (t : List ℕ) → Whole t → lines_after old t ≡ []
+lines_none old t whole = ap (completed old) whole
 
--- Nor does a line that isn't plain end in the front of a text in which none ends.
-front_ends : (p : InLine) (t : List ℕ) (n : ℕ) → ends_last p t ≡ false → ends_last p (take n t) ≡ false
-front_ends p t zero h = refl
-front_ends p [] (suc n) h = refl
-front_ends p (c ∷ cs) (suc n) h =
-    rw (first_false (is_feed c && is_last p) (ends_last (behind p c) cs) h)
-    (front_ends (behind p c) cs n (then_false (is_feed c && is_last p) (ends_last (behind p c) cs) h))
+-- ---- lines that aren't plain
 
--- The rest of a line stands where its first byte does.
-plain_stays : (t : List ℕ) → list_any is_feed t ≡ false → place_after Plain t ≡ Plain
-plain_stays [] h = refl
-plain_stays (c ∷ cs) h = rw (first_false (is_feed c) (list_any is_feed cs) h) (plain_stays cs (then_false (is_feed c) (list_any is_feed cs) h))
+one_other : (line : LineText) → others_in (line ∷ []) ≤ 1
+one_other (Text text) = by (begins_other text) where
+  by : (b : Bool) → (if b then 1 else 0) + 0 ≤ 1
+  by true = omega arith
+  by false = omega arith
+one_other TooLong = omega arith
 
-last_stays : (t : List ℕ) → list_any is_feed t ≡ false → place_after Last t ≡ Last
-last_stays [] h = refl
-last_stays (c ∷ cs) h = rw (first_false (is_feed c) (list_any is_feed cs) h) (last_stays cs (then_false (is_feed c) (list_any is_feed cs) h))
+-- A line of which nothing is kept isn't plain only if it begins so in what follows.
+plain_line : (old : LineText) (t : List ℕ) (lines : List LineText) → kept_of old ≡ 0 → begins_other t ≡ false → others_in (joined old t ∷ lines) ≡ others_in lines
+plain_line (Text []) t lines none plain =
+    elim (cases_Bool (nat_le (length t) LINE_MAX)) [
+      | inl e ↦ rw (e, plain) (omega arith)
+      | inr e ↦ rw e refl
+    ]
+plain_line (Text (c ∷ cs)) t lines none plain = absurd (omega (arith, none))
+plain_line TooLong t lines none plain = refl
 
-line_stays : (p : InLine) (c : ℕ) (t : List ℕ) → list_any is_feed t ≡ false → place_after (line_at p c) t ≡ line_at p c
-line_stays Start c t h = by (is_plain c) where
-  by : (b : Bool) → place_after (cond b Plain Last) t ≡ cond b Plain Last
-  by true = plain_stays t h
-  by false = last_stays t h
-line_stays Plain c t h = plain_stays t h
-line_stays Last c t h = last_stays t h
+-- A text up to its first line feed begins as its first byte says.
+begins : (x : List ℕ) (at : ℕ) → FeedAt x at → begins_other (take at x) ≡ not (is_plain (get_or x 0 0))
+begins [] at feed = absurd (omega (arith, feed.within))
+begins (c ∷ cs) zero feed =
+    let is : c ∷ [] ≡ 10 ∷ [] = feed.front in
+    sym (ap (λ x. not (is_plain (get_or x 0 0))) is)
+begins (c ∷ cs) (suc at) feed = refl
 
--- A text without a line feed is in one line.
-pub in_line : (p : InLine) (c : ℕ) (t : List ℕ) → list_any is_feed (c ∷ t) ≡ false → place_after p (c ∷ t) ≡ line_at p c
-in_line p c t h = rw (first_false (is_feed c) (list_any is_feed t) h) (line_stays p c t (then_false (is_feed c) (list_any is_feed t) h))
-
-in_line_of : (p : InLine) (x : List ℕ) → 0 < length x → list_any is_feed x ≡ false → place_after p x ≡ line_at p (get_or x 0 0)
-in_line_of p [] some h = absurd (omega arith)
-in_line_of p (c ∷ t) some h = in_line p c t h
-
-feed_after : (p : InLine) → place_after p (10 ∷ []) ≡ Start
-feed_after p = refl
-
-feed_ends : (p : InLine) → ends_last p (10 ∷ []) ≡ is_last p
-feed_ends Start = refl
-feed_ends Plain = refl
-feed_ends Last = refl
-
--- A line with its line feed ends where the next begins.
-pub line_after : (p : InLine) (t : List ℕ) → place_after p (t ++ 10 ∷ []) ≡ Start
-line_after p t = place_after-append p t (10 ∷ []) ∙ feed_after (place_after p t)
-
-line_ends : (p : InLine) (t : List ℕ) → list_any is_feed t ≡ false → ends_last p (t ++ 10 ∷ []) ≡ is_last (line_at p (get_or (t ++ 10 ∷ []) 0 0))
-line_ends Start [] h = refl
-line_ends Plain [] h = refl
-line_ends Last [] h = refl
-line_ends p (c ∷ cs) h =
-    ends_last-append p (c ∷ cs) (10 ∷ []) ∙ (rw (none_ends p (c ∷ cs) h, in_line p c cs h) (feed_ends (line_at p c)))
-
--- What is given is light if no line that isn't plain ends before its last byte.
-pub light_front : (p : InLine) (piece : List ℕ) (n : ℕ) → n ≤ length piece → ends_last p (take (n - 1) piece) ≡ false → IsLight p (take n piece)
-light_front p piece n within none =
-    let count : length (take n piece) ≡ n = length-take-le n piece within in
-    ap (λ m. ends_last p (take (m - 1) (take n piece))) count ∙ ap (ends_last p) (take-take (n - 1) n piece (omega arith)) ∙ none
+or_true : (a b : Bool) → b ≡ true → (a || b) ≡ true
+or_true true b is = refl
+or_true false b is = is
 
 -- ---- places in a piece
-
-unbroken : (xs : List ℕ) → ((k : ℕ) → k < length xs → is_feed (get_or xs k 0) ≡ true → ⊥) → list_any is_feed xs ≡ false
-unbroken [] h = refl
-unbroken (x ∷ xs) h = by (is_feed x) (h 0 (omega arith)) (unbroken xs (λ k l. h (suc k) (omega arith)))
-  where
-    by : (b : Bool) → (b ≡ true → ⊥) → list_any is_feed xs ≡ false → (b || list_any is_feed xs) ≡ false
-    by true none rest = absurd (none refl)
-    by false none rest = rest
-
--- The first line feed of x is at k.
-pub record FeedAt (x : List ℕ) (k : ℕ) : Type 0 where
-  pub within : k < length x
-  pub front : take (k + 1) x ≡ take k x ++ 10 ∷ []
-  pub none : list_any is_feed (take k x) ≡ false
-
-pub found : (x : List ℕ) (k : ℕ) → IsFirstByte (is_byte 10) x (Some k) → FeedAt x k
-found x k (before, here) = record {
-  within = before.high;
-  front = take_more x k 0 before.high ∙ ap (λ c. take k x ++ c ∷ []) (eqb-true _ _ here);
-  none = unbroken (take k x) (λ j l is. before.before j (omega arith) (omega (arith, length-take-le k x (omega arith))) (sym (ap is_feed (get_or-take k x j 0 (omega (arith, length-take-le k x (omega arith))))) ∙ is));
-}
 
 take_on : (n m : ℕ) (xs : List ℕ) → n ≤ length xs → take (n + m) xs ≡ take n xs ++ take m (drop n xs)
 take_on n m xs fits =
     ap (take (n + m)) (sym (take-append-drop n xs))
     ∙ (ap (λ k. take (k + m) (take n xs ++ drop n xs)) (sym (length-take-le n xs fits)) ∙ take-append-add (take n xs) (drop n xs) m)
 
--- The bytes up to `start` have been looked at: the byte there stands at `place`.
-pub record Reached (old : InLine) (piece : List ℕ) (start : ℕ) (place : InLine) : Type 0 where
+-- the unfinished line before the byte at this place, where a line begins if the place isn't the first
+abbrev here : ℕ → LineText → LineText
+here zero line = line
+here (suc n) line = Text []
+
+-- What is kept of this line may be some only if a line was begun.
+abbrev Fits : Bool → LineText → Type 0
+Fits is_begun line = is_begun ≡ false → kept_of line ≡ 0
+
+-- No line ended up to this place that isn't plain, so those behind it are counted alone.
+pub record Reached (is_begun : Bool) (piece : List ℕ) (start : ℕ) : Type 0 where
   pub within : start ≤ length piece
-  pub stands : place ≡ place_after old (take start piece)
-  pub none : ends_last old (take start piece) ≡ false
+  pub counts : (line : LineText) → Fits is_begun line → (more : List ℕ) → others_in (lines_after line (take start piece ++ more)) ≡ others_in (lines_after (here start line) more)
+  pub keeps : (more : List ℕ) → list_any begins_other (parts more) ≡ true → list_any begins_other (parts (take start piece ++ more)) ≡ true
 
-module _ (old : InLine) (piece : List ℕ) (start : ℕ) (place : InLine) (r : Reached old piece start place) where
+pub reached_start : (is_begun : Bool) (piece : List ℕ) → Reached is_begun piece 0
+reached_start is_begun piece = record { within = omega arith; counts = λ line fits more. refl; keeps = λ more is. is }
+
+-- Of how many lines this piece completes at most one isn't plain.
+abbrev IsCut : Bool → List ℕ → Type 0
+IsCut is_begun piece = (line : LineText) → Fits is_begun line → others_in (lines_after line piece) ≤ 1
+
+module _ (is_begun : Bool) (piece : List ℕ) (start : ℕ) (r : Reached is_begun piece start) where
   -- Nothing more is there.
-  pub at_end : length piece ≤ start → place ≡ place_after old (take (length piece) piece)
-  at_end end = r.stands ∙ ap (λ n. place_after old (take n piece)) (omega (arith, r.within, end))
-
-  pub light_at_end : length piece ≤ start → IsLight old (take (length piece) piece)
-  light_at_end end = light_front old piece (length piece) (omega arith) (front_ends old piece (length piece - 1) (ap (ends_last old) (sym (take_all start piece end)) ∙ r.none))
-
-  none_behind : (t : List ℕ) → list_any is_feed t ≡ false → ends_last old (take start piece ++ t) ≡ false
-  none_behind t h = ends_last-append old (take start piece) t ∙ (rw (r.none, ← r.stands) (none_ends place t h))
+  pub one_at_end : length piece ≤ start → IsCut is_begun (take (length piece) piece)
+  one_at_end end line fits =
+      let all : take (length piece) piece ≡ take start piece ++ [] =
+      ap (λ n. take n piece) (omega (arith, r.within, end)) ∙ sym (append-nil (take start piece)) in
+      omega (arith, ap (λ x. others_in (lines_after line x)) all, r.counts line fits [], ap others_in (lines_none (here start line) [] refl))
 
   rest_is : slice_range piece start (length piece) ≡ drop start piece
   rest_is = take_all (length piece - start) (drop start piece) (omega (arith, length-drop start piece))
 
-  first_is : get_or (drop start piece) 0 0 ≡ get_or piece start 0
-  first_is =
-      let same : start + 0 ≡ start = omega arith in
-      get_or-drop start piece 0 0 ∙ ap (λ n. get_or piece n 0) same
-
   -- The line goes on behind the piece.
-  module _ (more : start < length piece) (feed : IsFirstByte (is_byte 10) (slice_range piece start (length piece)) None) where
-    no_feed : IsFirstByte (is_byte 10) (drop start piece) None
-    no_feed = subst (λ x. IsFirstByte (is_byte 10) x None) rest_is feed
-
-    rest_unbroken : list_any is_feed (drop start piece) ≡ false
-    rest_unbroken = unbroken (drop start piece) (λ k l. no_feed k (omega arith) l)
-
-    pub goes_on : (line : InLine) → line ≡ line_at place (get_or piece start 0) → line ≡ place_after old (take (length piece) piece)
-    goes_on line is =
-        is ∙ (ap (line_at place) (sym first_is)
-        ∙ (sym (in_line_of place (drop start piece) (omega (arith, more, length-drop start piece)) rest_unbroken)
-        ∙ (ap (λ q. place_after q (drop start piece)) r.stands ∙ (sym (place_after-append old (take start piece) (drop start piece))
-        ∙ ap (place_after old) (take-append-drop start piece ∙ sym (take_all (length piece) piece (omega arith)))))))
-
-    pub light_goes_on : IsLight old (take (length piece) piece)
-    light_goes_on =
-        light_front old piece (length piece) (omega arith)
-        (front_ends old piece (length piece - 1) (ap (ends_last old) (sym (take-append-drop start piece)) ∙ none_behind (drop start piece) rest_unbroken))
+  pub one_unended : IsFirstByte (is_byte 10) (slice_range piece start (length piece)) None → IsCut is_begun (take (length piece) piece)
+  one_unended none line fits =
+      let whole : Whole (drop start piece) = parts_of_all (drop start piece) (subst (λ x. IsFirstByte (is_byte 10) x None) rest_is none) in
+      let all : take (length piece) piece ≡ take start piece ++ drop start piece = take_all (length piece) piece (omega arith) ∙ sym (take-append-drop start piece) in
+      omega (arith, ap (λ x. others_in (lines_after line x)) all, r.counts line fits (drop start piece), ap others_in (lines_none (here start line) (drop start piece) whole))
 
   -- A line ends at this byte.
   module _ (at : ℕ) (feed : IsFirstByte (is_byte 10) (slice_range piece start (length piece)) (Some at)) where
     at_feed : FeedAt (drop start piece) at
-    at_feed = found (drop start piece) at (subst (λ x. IsFirstByte (is_byte 10) x (Some at)) rest_is feed)
+    at_feed =
+        let is : IsFirstByte (is_byte 10) (drop start piece) (Some at) = subst (λ x. IsFirstByte (is_byte 10) x (Some at)) rest_is feed in
+        FeedAt-found (drop start piece) at is.0 is.1
 
-    up_to : take (start + (at + 1)) piece ≡ take start piece ++ (take at (drop start piece) ++ 10 ∷ [])
-    up_to = take_on start (at + 1) piece r.within ∙ ap (λ t. take start piece ++ t) at_feed.front
-
-    pub after_feed : place_after old (take (start + (at + 1)) piece) ≡ Start
-    after_feed = ap (place_after old) up_to ∙ (place_after-append old (take start piece) (take at (drop start piece) ++ 10 ∷ []) ∙ line_after _ (take at (drop start piece)))
-
-    pub light_to_feed : IsLight old (take (start + (at + 1)) piece)
-    light_to_feed =
-        let shorter : start + (at + 1) - 1 ≡ start + at = omega arith in
-        light_front old piece (start + (at + 1)) (omega (arith, r.within, at_feed.within, length-drop start piece))
-        (ap (λ n. ends_last old (take n piece)) shorter
-        ∙ (ap (ends_last old) (take_on start at piece r.within) ∙ none_behind (take at (drop start piece)) at_feed.none))
-
-    pub ends_at_feed : (line : InLine) → line ≡ line_at place (get_or piece start 0) → ends_last old (take (start + (at + 1)) piece) ≡ is_last line
-    ends_at_feed line is =
+    up_to : (more : List ℕ) → take (start + (at + 1)) piece ++ more ≡ take start piece ++ (take at (drop start piece) ++ 10 ∷ more)
+    up_to more =
         let t = take at (drop start piece) in
-        let first : get_or (t ++ 10 ∷ []) 0 0 ≡ get_or piece start 0 =
-        ap (λ x. get_or x 0 0) (sym at_feed.front) ∙ (get_or-take (at + 1) (drop start piece) 0 0 (omega arith) ∙ first_is) in
-        ap (ends_last old) up_to ∙ (ends_last-append old (take start piece) (t ++ 10 ∷ [])
-        ∙ (rw (r.none, ← r.stands) (line_ends place t at_feed.none ∙ ap (λ c. is_last (line_at place c)) first ∙ ap is_last (sym is))))
+        ap (λ x. x ++ more) (take_on start (at + 1) piece r.within ∙ ap (λ x. take start piece ++ x) at_feed.front)
+        ∙ append_assoc (take start piece) (t ++ 10 ∷ []) more ∙ ap (λ x. take start piece ++ x) (append_assoc t (10 ∷ []) more)
 
-    pub reached : (line : InLine) → line ≡ line_at place (get_or piece start 0) → is_last line ≡ false → Reached old piece (start + (at + 1)) Start
-    reached line is plain = record {
+    -- the line and those behind it
+    ended : (line : LineText) → Fits is_begun line → (more : List ℕ) →
+        others_in (lines_after line (take (start + (at + 1)) piece ++ more)) ≡ others_in (joined (here start line) (take at (drop start piece)) ∷ lines_after (Text []) more)
+    ended line fits more =
+        let t = take at (drop start piece) in
+        ap (λ x. others_in (lines_after line x)) (up_to more) ∙ r.counts line fits (t ++ 10 ∷ more)
+        ∙ ap others_in (lines_line (here start line) t more at_feed.unbroken)
+
+    pub one_to_feed : IsCut is_begun (take (start + (at + 1)) piece)
+    one_to_feed line fits =
+        let all = ap (λ x. others_in (lines_after line x)) (append-nil (take (start + (at + 1)) piece)) in
+        omega (arith, all, ended line fits [], one_other (joined (here start line) (take at (drop start piece))))
+
+    first_is : begins_other (take at (drop start piece)) ≡ not (is_plain (get_or piece start 0))
+    first_is =
+        let same : start + 0 ≡ start = omega arith in
+        begins (drop start piece) at at_feed ∙ ap (λ c. not (is_plain c)) (get_or-drop start piece 0 0 ∙ ap (λ n. get_or piece n 0) same)
+
+    -- It isn't plain, or was begun.
+    pub cut_at_feed : ((is_begun && (start == 0)) || not (is_plain (get_or piece start 0))) ≡ true →
+        (is_begun ≡ true) ⊎ (list_any begins_other (parts (take (start + (at + 1)) piece)) ≡ true)
+    cut_at_feed is_last = by is_begun (start == 0) (not (is_plain (get_or piece start 0))) is_last refl where
+      other : not (is_plain (get_or piece start 0)) ≡ true → list_any begins_other (parts (take (start + (at + 1)) piece)) ≡ true
+      other is =
+          let t = take at (drop start piece) in
+          ap (λ x. list_any begins_other (parts x)) (sym (append-nil (take (start + (at + 1)) piece)) ∙ up_to [])
+          ∙ r.keeps (t ++ 10 ∷ []) (ap (list_any begins_other) (parts_line t [] at_feed.unbroken) ∙ ap (λ b. b || list_any begins_other (parts [])) (first_is ∙ is))
+
+      by : (b s o : Bool) → ((b && s) || o) ≡ true → not (is_plain (get_or piece start 0)) ≡ o → (b ≡ true) ⊎ (list_any begins_other (parts (take (start + (at + 1)) piece)) ≡ true)
+      by true s o is same = inl refl
+      by false s o is same = inr (other (same ∙ is))
+
+    not_begun : (b : Bool) → (b && true) ≡ false → b ≡ false
+    not_begun true is = absurd (cc)
+    not_begun false is = refl
+
+    -- It is plain, and wasn't begun.
+    pub reached : ((is_begun && (start == 0)) || not (is_plain (get_or piece start 0))) ≡ false → Reached is_begun piece (start + (at + 1))
+    reached not_last = record {
       within = omega (arith, at_feed.within, length-drop start piece);
-      stands = sym after_feed;
-      none = ends_at_feed line is ∙ plain;
+      counts = λ line fits more.
+          ended line fits more
+          ∙ plain_line (here start line) (take at (drop start piece)) (lines_after (Text []) more) (none start line fits (first_of (is_begun && (start == 0)) (not (is_plain (get_or piece start 0))) not_last)) (first_is ∙ second_of (is_begun && (start == 0)) (not (is_plain (get_or piece start 0))) not_last)
+          ∙ ap (λ n. others_in (lines_after (here n line) more)) (later start at);
+      keeps = λ more is.
+          ap (λ x. list_any begins_other (parts x)) (up_to more)
+          ∙ r.keeps (take at (drop start piece) ++ 10 ∷ more)
+          (ap (list_any begins_other) (parts_line (take at (drop start piece)) more at_feed.unbroken) ∙ or_true (begins_other (take at (drop start piece))) (list_any begins_other (parts more)) is);
     }
+      where
+        first_of : (a b : Bool) → (a || b) ≡ false → a ≡ false
+        first_of true b is = absurd (cc)
+        first_of false b is = refl
 
--- A piece that is one line.
-module _ (p : InLine) (piece line : List ℕ) (is : piece ≡ line ++ 10 ∷ []) (none : list_any is_feed line ≡ false) where
-  pub after_line : place_after p (take (length piece) piece) ≡ Start
-  after_line = ap (place_after p) (take_all (length piece) piece (omega arith) ∙ is) ∙ line_after p line
+        second_of : (a b : Bool) → (a || b) ≡ false → b ≡ false
+        second_of true b is = absurd (cc)
+        second_of false b is = is
 
-  pub light_line : IsLight p (take (length piece) piece)
-  light_line =
-      let count : length piece - 1 ≡ length line = ap (λ x. length x - 1) is ∙ omega (arith, length-append line (10 ∷ [])) in
-      light_front p piece (length piece) (omega arith)
-      (ap (λ n. ends_last p (take n piece)) count ∙ (ap (λ x. ends_last p (take (length line) x)) is
-      ∙ (ap (ends_last p) (take-append_seam line (10 ∷ [])) ∙ none_ends p line none)))
+        later : (n m : ℕ) → suc (n + m) ≡ n + (m + 1)
+        later n m = omega arith
+
+        none : (n : ℕ) (line : LineText) → Fits is_begun line → (is_begun && (n == 0)) ≡ false → kept_of (here n line) ≡ 0
+        none zero line fits is = fits (not_begun is_begun is)
+        none (suc n) line fits is = refl
+
+-- ---- a piece that is one line
+
+whole_of : (t : List ℕ) → list_any is_feed t ≡ false → Whole t
+whole_of [] none = refl
+whole_of (c ∷ cs) none = by (is_feed c) none (whole_of cs) where
+  by : (b : Bool) → (b || list_any is_feed cs) ≡ false → (list_any is_feed cs ≡ false → Whole cs) → cond b ([] ∷ parts cs) (onto_first c (parts cs)) ≡ (c ∷ cs) ∷ []
+  by true is later = absurd (cc)
+  by false is later = ap (onto_first c) (later is)
+
+pub one_line : (line : LineText) (piece text : List ℕ) → piece ≡ text ++ 10 ∷ [] → list_any is_feed text ≡ false → others_in (lines_after line piece) ≤ 1
+one_line line piece text is none =
+    let lines = ap (lines_after line) is ∙ lines_line line text [] (whole_of text none) in
+    omega (arith, ap others_in lines, one_other (joined line text))

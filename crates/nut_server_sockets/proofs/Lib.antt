@@ -3,6 +3,7 @@ mod HeedLemmas
 mod SeatLemmas
 mod TurnLemmas
 mod LateLemmas
+mod LightPieces
 mod BriefAnswers
 mod MadeRequests
 mod LongLines

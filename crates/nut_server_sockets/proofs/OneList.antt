@@ -5,11 +5,12 @@ use Rattle.std.specs.Prelude.{min, nat_le}
 use Rattle.std.proofs.lemmas.Bool.{cases_Bool, eqb-true, eqb-false, eq-eqb}
 use Rattle.std.proofs.lemmas.Bool.Decides.{nat_tests}
 use Rattle.std.proofs.lemmas.List.{length-map}
+use Rattle.std.proofs.Math.Seq.{drop-append_seam}
 use Rattle.nut_conf.specs.declared.limits.TheConstants.{CONNECTIONS_MAX}
-use Rattle.nut_words.specs.Lines.{LineText, Text, TooLong, joined, lines, rest}
+use Rattle.nut_words.specs.Lines.{LineText, Text, TooLong, joined, lines, lines_after, rest}
 use Rattle.nut_words.specs.declared.limits.TheConstants.{LINE_MAX}
 use Rattle.nut_words.specs.Reader as reader
-use Rattle.nut_words.proofs.StreamGrowth.{rest_at_line_feed, rest_within}
+use Rattle.nut_words.proofs.StreamGrowth.{lines-append, rest_at_line_feed, rest_within}
 use Rattle.nut_proto.specs.declared.request.Request.{Request}
 use Rattle.nut_state.specs.laws.Holds.{EveryTableHolds}
 use Rattle.nut_server_spec.specs.Configuration.{Configuration}
@@ -86,10 +87,6 @@ worth_more (Text bytes) b =
     long : (n : ℕ) → nat_le n LINE_MAX ≡ false → LINE_MAX < n
     long n e = grind (arith, nat_tests)
 worth_more TooLong b = omega arith
-
-pub lists_in-append : (ls more : List LineText) → lists_in (ls ++ more) ≡ lists_in ls + lists_in more
-lists_in-append [] more = omega arith
-lists_in-append (l ∷ ls) more = omega (arith, lists_in-append ls more)
 
 -- The answers to the lines of a piece, other than lists, have no more bytes than its bytes are worth.
 few_bytes : (a piece : List ℕ) → costs (brought a piece) + worth (rest (a ++ piece)) ≤ 126 * length piece + worth (rest a)
@@ -219,9 +216,14 @@ module _ (every : EveryTableHolds) (first : Configuration) where
   newest_cost (Reload k ∷ h) c within accepted = newest_cost h c within.1 accepted.0
   newest_cost (e ∷ h) c within accepted = newest_cost h c within accepted.0
 
+-- what a piece completes
+brought_after : (a piece whole : List ℕ) → whole ≡ a ++ piece → drop (length (lines a)) (lines whole) ≡ lines_after (rest a) piece
+brought_after a piece whole is = ap (λ x. drop (length (lines a)) (lines x)) is ∙ ap (drop (length (lines a))) (lines-append a piece) ∙ drop-append_seam (lines a) (lines_after (rest a) piece)
+
 pub one_list_waits : EveryTableHolds → OneListWaits
-one_list_waits every first h within accepted c k found few =
+one_list_waits every first h within accepted c k found piece is light =
     let newest = waits-for-one-piece first h c k accepted found in
     let old = due c (past first (before_piece c h)) in
     let whole = ap length newest.1 ∙ length-append (old ++ newest.0) k.waits in
-    omega (arith, whole, length-append old newest.0, newest_cost every first h c within accepted, few)
+    let lists = ap lists_in (brought_after (input c (before_piece c h)) piece (input c h) is) in
+    omega (arith, whole, length-append old newest.0, newest_cost every first h c within accepted, lists, light)

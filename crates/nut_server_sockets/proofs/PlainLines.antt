@@ -1,19 +1,17 @@
 -- A line that begins as a plain one asks for no list.
-use Rattle.std.proofs.Common.{◌≡◌, ℕ, ◌+◌, ◌-◌, ◌≤◌, Bool, true, false, eqb, List, [], ◌∷◌, ◌++◌, length, take, drop, refl, sym, subst, ◌∙◌, ap, arith, inl, inr, Option, Some, None, Result, Ok, Err, codes, append_assoc, append-nil}
-use Rattle.std.specs.Prelude.{◌==◌, ◌||◌, if◌then◌else◌, map, nat_le}
+use Rattle.std.proofs.Common.{◌≡◌, ℕ, ◌≤◌, Bool, true, false, List, [], ◌∷◌, refl, sym, subst, ◌∙◌, ap, arith, inl, inr, Option, Some, None, Result, Ok, Err, codes}
+use Rattle.std.specs.Prelude.{◌==◌, if◌then◌else◌, map, not}
 use Rattle.std.specs.List.{AllByRecursion, flat_map, list_any}
 use Rattle.std.specs.Option.{ok_or}
-use Rattle.std.proofs.lemmas.Bool.{cases_Bool, eqb-true, eqb-false}
+use Rattle.std.proofs.lemmas.Bool.{cases_Bool, eqb-true}
 use Rattle.std.proofs.lemmas.Bool.Decides.{nat_tests}
-use Rattle.std.proofs.lemmas.List.{length-drop, take-append-drop}
-use Rattle.nut_words.specs.Lines.{LineText, Text, TooLong, joined, rest}
+use Rattle.nut_words.specs.Lines.{LineText, Text, TooLong}
 use Rattle.nut_words.specs.Reader as reader
 use Rattle.nut_words.specs.Reader.{spelled}
 use Rattle.nut_words.specs.Spelling.{IsLayout, Spells, byte_of, Part, Blank, Bare, Quoted, Equals, Comment, Plain, Escaped, is_bare, part_text, part_words}
-use Rattle.nut_words.specs.declared.limits.TheConstants.{WORDS_MAX, LINE_MAX}
+use Rattle.nut_words.specs.declared.limits.TheConstants.{WORDS_MAX}
 use Rattle.nut_words.specs.declared.words.WordFault.{WordFault}
 use Rattle.nut_words.proofs.Sound.{spells_of_read}
-use Rattle.nut_words.proofs.StreamGrowth.{rest_at_line_feed, rest_within}
 use Rattle.nut_proto.specs.declared.request.Request.{Request}
 use Rattle.nut_proto.specs.declared.request.Request.TheVariants as requests
 use Rattle.nut_proto.specs.declared.refusal.Refusal.TheVariants.{InvalidArgument}
@@ -25,15 +23,9 @@ use Rattle.nut_proto.specs.Forms.{meaning, meaning_by}
 use Rattle.nut_proto.specs.Requests.{get_forms, request_by}
 use Rattle.nut_proto.specs.Rules.{credential_word}
 use Rattle.nut_server_spec.specs.Command.{Asks, asked, command_in, command_of}
-use Rattle.nut_server_spec.specs.Event.{brought}
-use Rattle.nut_server_spec.proofs.LineLaws.{brought_none, brought-append, brought_line_feed, brought_within}
-use Rattle.nut_server_sockets.specs.Batches.{ends_last, is_last, is_plain, line_at, place_after}
-use Rattle.nut_server_sockets.specs.Waits.{asks_for_list, lists_in, LightAsksOnce}
-use Rattle.nut_server_sockets.specs.declared.batches.InLine.{InLine}
-use Rattle.nut_server_sockets.specs.declared.batches.InLine.TheVariants as places
-use Rattle.nut_server_sockets.proofs.BatchLemmas.{first_false, then_false}
+use Rattle.nut_server_sockets.specs.Waits.{asks_for_list, lists_in}
+use Rattle.nut_server_sockets.specs.inside.Light.{begins_other, is_plain, others_in}
 use Rattle.nut_server_sockets.proofs.MadeRequests.{IfMade, Makes, of_about, of_map, of_none, of_one, of_tracking, of_two}
-use Rattle.nut_server_sockets.proofs.OneList.{lists_in-append}
 
 -- ---- what the words behind GET, HELP, NETVER, USERNAME and VER make
 
@@ -191,97 +183,26 @@ among P (d ∷ ds) all c is =
 plain_asks_no_list : (c : ℕ) → is_plain c ≡ true → AsksNoList c
 plain_asks_no_list c is = among AsksNoList (10 ∷ codes "GgHhNnUuVv") (feed_asks_no_list, letters_ask_no_list) c is
 
--- ---- where the next byte stands
+-- ---- lines that aren't plain
 
--- The unfinished line is one that this place tells of.
-abbrev Agrees : LineText → InLine → Type 0
-Agrees (Text []) place = place ≡ places.Start
-Agrees (Text (c ∷ cs)) place = place ≡ line_at places.Start c
-Agrees TooLong place = Unit {0}
+-- Only such a line asks for a list.
+plain_asks : (text : List ℕ) → begins_other text ≡ false → asks_for_list (command_of (Text text)) ≡ false
+plain_asks [] plain = empty_asks_no_list
+plain_asks (c ∷ cs) plain = plain_asks_no_list c (first (is_plain c) plain) cs where
+  first : (b : Bool) → not b ≡ false → b ≡ true
+  first true is = refl
+  first false is = absurd (cc)
 
-agrees_within : (r : LineText) (place : InLine) (b : ℕ) → Agrees r place → Agrees (joined r (b ∷ [])) (line_at place b)
-agrees_within (Text []) place b is = ap (λ p. line_at p b) is
-agrees_within (Text (c ∷ cs)) place b is =
-    elim (cases_Bool (nat_le (length (c ∷ (cs ++ b ∷ []))) LINE_MAX)) [
-      | inl e ↦ rw e (ap (λ p. line_at p b) is ∙ stays (is_plain c))
-      | inr e ↦ rw e tt
-    ]
-  where
-    stays : (plain : Bool) → line_at (if plain then places.Plain else places.Last) b ≡ (if plain then places.Plain else places.Last)
-    stays true = refl
-    stays false = refl
-agrees_within TooLong place b is = tt
-
--- A line that isn't a last one asks for no list.
-light_line : (r : LineText) (place : InLine) → Agrees r place → is_last place ≡ false → asks_for_list (command_of r) ≡ false
-light_line (Text []) place is light = empty_asks_no_list
-light_line (Text (c ∷ cs)) place is light = plain_asks_no_list c (plain (is_plain c) (sym (ap is_last is) ∙ light)) cs where
-  plain : (b : Bool) → is_last (if b then places.Plain else places.Last) ≡ false → b ≡ true
-  plain true not_last = refl
-  plain false not_last = absurd (cc)
-light_line TooLong place is light = refl
-
--- ---- a piece, byte by byte
-
-one_byte : (a : List ℕ) (b : ℕ) → lists_in (brought a (b ∷ [])) ≤ 1
-one_byte a b =
-    elim (cases_Bool (eqb b 10)) [
-      | inl e ↦ omega (arith, ap (λ x. lists_in (brought a (x ∷ []))) (eqb-true b 10 e), ap lists_in (brought_line_feed a), at_most (asks_for_list (command_of (rest a))))
-      | inr e ↦ omega (arith, ap lists_in (brought_within a b e))
+-- Of some lines, at most those ask for a list.
+pub lists_are_others : (lines : List LineText) → lists_in lines ≤ others_in lines
+lists_are_others [] = omega arith
+lists_are_others (Text text ∷ lines) =
+    elim (cases_Bool (begins_other text)) [
+      | inl e ↦ rw e (omega (arith, lists_are_others lines, at_most (asks_for_list (command_of (Text text)))))
+      | inr e ↦ rw (e, plain_asks text e) (omega (arith, lists_are_others lines))
     ]
   where
     at_most : (b : Bool) → (if b then 1 else 0) ≤ 1
     at_most true = omega arith
     at_most false = omega arith
-
--- The place tells of the unfinished line, and no line ends here that asks for a list.
-no_lists : (a text : List ℕ) (place : InLine) → Agrees (rest a) place → ends_last place text ≡ false → lists_in (brought a text) ≡ 0
-no_lists a [] place is light = ap lists_in (brought_none a)
-no_lists a (b ∷ text) place is light =
-    let whole = ap lists_in (brought-append a (b ∷ []) text) ∙ lists_in-append (brought a (b ∷ [])) (brought (a ++ b ∷ []) text) in
-    elim (cases_Bool (eqb b 10)) [
-      | inl e ↦
-          let feed : b ≡ 10 = eqb-true b 10 e in
-          let parts : (is_last place || ends_last places.Start text) ≡ false = rw e at light in
-          let none : asks_for_list (command_of (rest a)) ≡ false = light_line (rest a) place is (first_false (is_last place) (ends_last places.Start text) parts) in
-          let own : lists_in (brought a (b ∷ [])) ≡ 0 =
-          ap (λ x. lists_in (brought a (x ∷ []))) feed ∙ ap lists_in (brought_line_feed a) ∙ ap (λ b. (if b then 1 else 0) + 0) none in
-          let start : Agrees (rest (a ++ b ∷ [])) places.Start =
-          subst (λ r. Agrees r places.Start) (sym (ap (λ x. rest (a ++ x ∷ [])) feed ∙ rest_at_line_feed a)) refl in
-          omega (arith, whole, own, no_lists (a ++ b ∷ []) text places.Start start (then_false (is_last place) (ends_last places.Start text) parts))
-      | inr e ↦
-          let more : ends_last (line_at place b) text ≡ false = rw e at light in
-          let within : Agrees (rest (a ++ b ∷ [])) (line_at place b) =
-          subst (λ r. Agrees r (line_at place b)) (sym (rest_within a b (eqb-false b 10 e))) (agrees_within (rest a) place b is) in
-          omega (arith, whole, ap lists_in (brought_within a b e), no_lists (a ++ b ∷ []) text (line_at place b) within more)
-    ]
-
-stands : (a text : List ℕ) (place : InLine) → Agrees (rest a) place → Agrees (rest (a ++ text)) (place_after place text)
-stands a [] place is = subst (λ x. Agrees (rest x) place) (sym (append-nil a)) is
-stands a (b ∷ text) place is =
-    subst (λ x. Agrees (rest x) (place_after place (b ∷ text))) (append_assoc a (b ∷ []) text)
-    (elim (cases_Bool (eqb b 10)) [
-      | inl e ↦
-          let start : Agrees (rest (a ++ b ∷ [])) places.Start =
-          subst (λ r. Agrees r places.Start) (sym (ap (λ x. rest (a ++ x ∷ [])) (eqb-true b 10 e) ∙ rest_at_line_feed a)) refl in
-          rw e (stands (a ++ b ∷ []) text places.Start start)
-      | inr e ↦
-          let within : Agrees (rest (a ++ b ∷ [])) (line_at place b) =
-          subst (λ r. Agrees r (line_at place b)) (sym (rest_within a b (eqb-false b 10 e))) (agrees_within (rest a) place b is) in
-          rw e (stands (a ++ b ∷ []) text (line_at place b) within)
-    ])
-
-pub light_pieces : LightAsksOnce
-light_pieces before piece light =
-    let n = length piece - 1 in
-    let front = take n piece in
-    let parted = sym (take-append-drop n piece) in
-    let place = place_after places.Start before in
-    let none : lists_in (brought before front) ≡ 0 = no_lists before front place (stands [] before places.Start refl) light in
-    let last : lists_in (brought (before ++ front) (drop n piece)) ≤ 1 = short (before ++ front) (drop n piece) (omega (arith, length-drop n piece)) in
-    omega (arith, ap (λ x. lists_in (brought before x)) parted, ap lists_in (brought-append before front (drop n piece)), lists_in-append (brought before front) (brought (before ++ front) (drop n piece)), none, last)
-  where
-    short : (a text : List ℕ) → length text ≤ 1 → lists_in (brought a text) ≤ 1
-    short a [] le = omega (arith, ap lists_in (brought_none a))
-    short a (b ∷ []) le = one_byte a b
-    short a (b ∷ c ∷ text) le = absurd (omega (arith, le))
+lists_are_others (TooLong ∷ lines) = omega (arith, lists_are_others lines)

@@ -15,9 +15,6 @@ use Rattle.nut_server_sockets.specs.declared.client.Client.{Client}
 use Rattle.nut_server.specs.Seats.{are_right, is_stranger}
 use Rattle.nut_server_spec.specs.Acceptance.{has_login, session_of}
 use Rattle.nut_server_spec.specs.Content.{Content, Session}
-use Rattle.nut_server_loop.specs.declared.types.Next.{Next}
-use Rattle.nut_server_loop.specs.declared.types.Next.TheVariants.{Bytes}
-use Rattle.nut_server_sockets.specs.Places.{IsPieceLight, KeepsPlaces, place_at}
 use Rattle.nut_server_sockets.specs.Seats.{KeepsSeats, is_stranger_at, number_at}
 use Rattle.nut_server_sockets.specs.inside.Keys.{AreNamed, AreApart}
 
@@ -26,25 +23,6 @@ same_seats old new same key = ap (λ sockets. number_at sockets key) same
 
 pub seats_on : (a b c : Slab Client) → KeepsSeats a b → KeepsSeats b c → KeepsSeats a c
 seats_on a b c first then key = then key ∙ first key
-
-pub places_on : (a b c : Slab Client) → KeepsPlaces a b → KeepsPlaces b c → KeepsPlaces a c
-places_on a b c first then key = then key ∙ first key
-
-pub same_places : (old new : Slab Client) → new ≡ old → KeepsPlaces old new
-same_places old new same key = ap (λ sockets. place_at sockets key) same
-
--- Nobody moved, and then this was found.
-pub found_on : (a b c : Slab Client) (n : Next) (piece : List ℕ) → KeepsPlaces a b → KeepsSeats a b → IsPieceLight b n piece c → IsPieceLight a n piece c
-found_on a b c (Bytes number) piece still seats found = record {
-  key = found.key;
-  place = found.place;
-  number = sym (seats found.key) ∙ found.number;
-  stood = sym (still found.key) ∙ found.stood;
-  light = found.light;
-  stands = found.stands;
-  others = λ other differs. found.others other differs ∙ still other;
-}
-found_on a b c n piece still seats found = tt
 
 -- after one more candidate for leaving
 pub one_more : (P : ℕ → Type 0) (n : ℕ) (old new : Option ℕ) → P n → (new ≡ old) ⊎ (new ≡ Some n) → IfSome old P → IfSome new P

@@ -1,7 +1,7 @@
 -- Looks in turn, one after the other.
-use Rattle.std.proofs.Common.{◌≡◌, ℕ, ◌+◌, ◌<◌, true, List, [], ◌∷◌, ◌++◌, refl, sym, ap, subst, ◌∙◌, append_assoc, inl, inr}
+use Rattle.std.proofs.Common.{◌≡◌, ◌≢◌, ℕ, ◌+◌, ◌<◌, true, List, [], ◌∷◌, ◌++◌, refl, sym, ap, subst, ◌∙◌, append_assoc, inl, inr}
 use Rattle.std.proofs.lemmas.List.{append-nil}
-use Rattle.std.specs.Prelude.{Option, Some, None}
+use Rattle.std.specs.Prelude.{Option, Some, None, IfSome}
 use Rattle.nut_poll.specs.Moments.{IsTold}
 use Rattle.mio.specs.declared.token.Token.{Token}
 use Rattle.nut_poll.specs.Queue.{IsTaken, Looks, Queue, begun}
@@ -20,6 +20,7 @@ use Rattle.nut_server_sockets.specs.declared.source.TheConstants.{FIXED_MAX}
 use Rattle.nut_server_sockets.specs.Reloads.{IsGiven, reload_of}
 use Rattle.nut_server_sockets.specs.Seats.{HasBesides, IsSilent, KeepsSeats, number_at}
 use Rattle.nut_server_sockets.specs.Turns.{moment_of, IsGivenBy, IsOfLast, IsUnasked, LeavesOthers, Comes, ComesInTurn, GoesOn}
+use Rattle.nut_server_sockets.specs.Waits.{IsPieceLight}
 use Rattle.nut_server_sockets.specs.inside.Looking.{IsApart, IsLook, KeepsHeeded, KeepsLine, LooksInTurn, OnlyQueues, Stays, WaitsAgain, is_in_line}
 use Rattle.nut_server_sockets.proofs.HeedLemmas.{heeds_still, line_on, line_with}
 use Rattle.nut_server_sockets.proofs.SeatLemmas.{seats_on}
@@ -77,6 +78,17 @@ not_reloaded gave old new sockets s (DriverUp u) token given none = none
 not_reloaded gave old new sockets s (DriverDown u) token given none = none
 not_reloaded gave old new sockets s Again token given none = none
 not_reloaded gave old new sockets s End token given none = none
+
+-- Neither what came of no source nor what another source than a client gave is a piece of a client.
+pub unasked_light : (s : Content) (n : Next) (old : Sockets) (piece : List ℕ) → IsUnasked old s n → IsPieceLight s n piece
+unasked_light s (Bytes c) old piece unasked = absurd unasked
+unasked_light s n old piece unasked = tt
+
+pub other_light : (sockets : Slab Client) (s : Content) (token : ℕ) (found : Option Next) (piece : List ℕ) → ((key : ℕ) → token ≢ FIXED_MAX + key) →
+    IfSome found (λ n. IsGivenBy sockets s token n) → IfSome found (λ n. IsPieceLight s n piece)
+other_light sockets s token (Some (Bytes c)) piece other (key, is, number) = absurd (other key is)
+other_light sockets s token (Some n) piece other given = tt
+other_light sockets s token None piece other given = tt
 
 -- Sources were looked at, and nothing came.
 abbrev pub Nothing : Rounds → Rounds → Type 0

@@ -1,5 +1,3 @@
-pub mod Batches
-pub mod Places
 pub mod Reloads
 pub mod Seats
 pub mod Turns

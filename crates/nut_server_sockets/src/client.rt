@@ -1,12 +1,13 @@
 //! The socket of a client.
 
-ghost use Rattle.std.specs.Prelude.{◌≡◌, ◌+◌, ◌-◌, ◌^◌, ◌<◌, ◌≤◌, ◌==◌, false, true, min, length};
+ghost use Rattle.std.specs.Prelude.{◌≡◌, ◌≢◌, ◌+◌, ◌-◌, ◌^◌, ◌<◌, ◌≤◌, ◌==◌, false, true, min, length};
 ghost use Rattle.nut_io.specs.Writes.{IsWithin};
+ghost use Rattle.nut_poll.specs.declared.link.Heard.TheVariants as heard;
 ghost use Rattle.nut_poll.specs.declared.link.Heard.TheVariants.{Part};
-ghost use Rattle.nut_server_sockets.specs.Batches.{Gives};
 ghost use Rattle.nut_server_sockets.specs.Seats.{allowed_silence, is_due, last_heard};
+ghost use Rattle.nut_server_sockets.specs.inside.Light.{IsHeardLight};
 
-use crate::batches::Batches;
+use crate::batches::{cut, is_one_line};
 use mio::event::Event;
 use mio::net::TcpStream;
 use nut_io::{Piece, Written};
@@ -30,7 +31,6 @@ pub struct Client {
     /// The key of its login, if it has one.
     login: Option<usize>,
     link: Link<TcpStream>,
-    batches: Batches,
     /// The key of what was read from it and the server hasn't been given, if there is any.
     held: Option<usize>,
     /// Whether there is something to read, which isn't read while an answer waits.
@@ -52,7 +52,6 @@ impl Client {
             address,
             login: None,
             link: Link::new(stream),
-            batches: Batches::new(),
             held: None,
             is_parked: false,
             since: second,
@@ -88,19 +87,28 @@ impl Client {
 
     /// Reads up to a piece, and returns as much of it as the server is given at once. The rest is held, and returned
     /// before anything more is read. If there is no room to hold it, that is the end of the connection.
-    pub fn hear(&mut self, piece: &mut Piece, held: &mut Slab<Piece>, second: u64) -> Heard
+    pub fn hear(
+        &mut self,
+        server: &Server,
+        piece: &mut Piece,
+        held: &mut Slab<Piece>,
+        second: u64,
+    ) -> Heard
         ensures number { self.new.number ≡ self.old.number }
         ensures left { is_due self.new ≡ true → result ≡ Part }
-        ensures gives { Gives self.old.batches.place result piece.new.items self.new.batches.place }
+        ensures light { IsHeardLight result server.now self.old.number piece.new.items }
     {
-        let heard = match self.held.take() {
-            Some(key) => take_held(held, key, piece),
-            None => self.link.hear(piece),
-        };
+        let heard = self.next_piece(piece, held);
         if heard == Heard::Nothing || heard == Heard::End {
             return heard;
         }
-        let end = self.batches.cut(piece.as_slice());
+        // most pieces are one line
+        if is_one_line(piece.as_slice()) {
+            self.spoke = second;
+            return heard;
+        }
+        let is_begun = server.kept(self.number) > 0;
+        let end = cut(is_begun, piece.as_slice());
         let (now, later) = piece.as_slice().split_at(end);
         // most end with a line's end, and then take no search
         if matches!(now.last(), Some(b'\n')) || now.contains(&b'\n') {
@@ -118,6 +126,20 @@ impl Client {
         Heard::Part
     }
 
+    /// Returns what is held, or reads up to a piece if nothing is.
+    fn next_piece(&mut self, piece: &mut Piece, held: &mut Slab<Piece>) -> Heard
+        ensures number { self.new.number ≡ self.old.number }
+        ensures left { is_due self.new ≡ true → result ≡ Part }
+        ensures some { result ≢ heard.Nothing → result ≢ heard.End → 0 < length piece.new.items }
+    {
+        if let Some(key) = self.held.take()
+            && take_held(held, key, piece)
+        {
+            return Heard::Part;
+        }
+        self.link.hear(piece)
+    }
+
     /// Returns the key of what was read from it and won't be given to the server, if there is any.
     pub fn end_held(&mut self) -> Option<usize>
         ensures { self.new.number ≡ self.old.number }
@@ -128,7 +150,6 @@ impl Client {
     /// Puts off reading until a write to the client succeeds.
     pub fn park(&mut self)
         ensures number { self.new.number ≡ self.old.number }
-        ensures place { self.new.batches ≡ self.old.batches }
         ensures due { is_due self.new ≡ false }
     {
         self.is_parked = true;
@@ -153,7 +174,6 @@ impl Client {
     /// Notes an event of the socket.
     pub fn note(&mut self, event: &Event)
         ensures number { self.new.number ≡ self.old.number }
-        ensures place { self.new.batches ≡ self.old.batches }
         ensures more { self.new.link.has_more ≡ true }
     {
         self.link.note(event);
@@ -208,14 +228,14 @@ fn hold(held: &mut Slab<Piece>, bytes: &[u8]) -> Option<usize> {
     held.insert(piece).ok()
 }
 
-/// Puts the bytes that are held under this key into the piece. There may be more to read.
+/// Puts the bytes that are held under this key into the piece. Returns whether there are any.
 #[inline(never)]
-fn take_held(held: &mut Slab<Piece>, key: usize, piece: &mut Piece) -> Heard
-    ensures { result ≡ Part }
+fn take_held(held: &mut Slab<Piece>, key: usize, piece: &mut Piece) -> bool
+    ensures { result ≡ true → 0 < length piece.new.items }
 {
     piece.clear();
     if let Some(bytes) = held.try_remove(key) {
         let _ = piece.try_extend_from_slice(bytes.as_slice());
     }
-    Heard::Part
+    !piece.is_empty()
 }

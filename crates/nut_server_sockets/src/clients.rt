@@ -4,9 +4,9 @@ ghost use Rattle.std.specs.Prelude.{◌≡◌, ◌≢◌, ◌⊎◌, ◌<◌, �
 ghost use Rattle.nut_io.specs.Writes.{IsWithin};
 ghost use Rattle.nut_server_spec.specs.Acceptance.{has_login, may_read, session_of};
 ghost use Rattle.nut_server_sockets.specs.Seats.{HasBesides, IsSilent, KeepsSeats, MakesWay, TouchesOnly, is_stranger_at, number_at};
-ghost use Rattle.nut_server_sockets.specs.Places.{Hears, KeepsPlaces};
 ghost use Rattle.nut_server_sockets.specs.inside.Keys.{AreApart, AreNamed};
 ghost use Rattle.nut_server_sockets.specs.inside.Due.{ChangesOnly, HasMore, NoMoreAreDue, is_due_at};
+ghost use Rattle.nut_server_sockets.specs.inside.Light.{IsHeardLight};
 ghost use Rattle.nut_poll.specs.declared.link.Heard.TheVariants.{Part};
 ghost use Rattle.slab.specs.Slab.{get};
 
@@ -149,7 +149,7 @@ impl Clients {
         ensures put_off { result ≡ None → IfSome (number_at self.old.sockets key)
             (λ c. may_read (session_of c server.now.sessions) ≡ false) }
         ensures left { is_due_at self.new.sockets key ≡ true → IsSomeAnd result (λ heard. heard.1 ≡ Part) }
-        ensures places { Hears self.old.sockets key result piece.new.items self.new.sockets }
+        ensures light { IfSome result (λ heard. IsHeardLight heard.1 server.now heard.0 piece.new.items) }
     {
         let client = self.sockets.get_mut(key)?;
         let number = client.number();
@@ -158,7 +158,8 @@ impl Clients {
             return None;
         }
         self.last_heard = key;
-        Some((number, client.hear(piece, &mut self.held, self.second)))
+        let heard = client.hear(server, piece, &mut self.held, self.second);
+        Some((number, heard))
     }
 
     /// Notes an event of a socket.
@@ -166,7 +167,6 @@ impl Clients {
         ensures seats { KeepsSeats self.old.sockets self.new.sockets }
         ensures others { ChangesOnly key self.old.sockets self.new.sockets }
         ensures more { HasMore self.new.sockets key }
-        ensures places { KeepsPlaces self.old.sockets self.new.sockets }
     {
         if let Some(client) = self.sockets.get_mut(key) {
             client.note(event);

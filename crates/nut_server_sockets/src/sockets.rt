@@ -1,6 +1,6 @@
 //! All sockets of a server, watched by one poll.
 
-ghost use Rattle.std.specs.Prelude.{◌≡◌, ◌≢◌, ℕ, [], ◌∷◌, length, IfOk, OnErr};
+ghost use Rattle.std.specs.Prelude.{◌≡◌, ◌≢◌, ℕ, [], ◌∷◌, length, IfOk, IfSome, OnErr};
 ghost use Rattle.std.specs.declared.time.Duration.{Duration};
 ghost use Rattle.mio.specs.Event.{event_token};
 ghost use Rattle.mio.specs.Events.{items};
@@ -11,10 +11,10 @@ ghost use Rattle.nut_poll.specs.Turns.{Heeds};
 ghost use Rattle.nut_server_loop.specs.Record.{MayCome};
 ghost use Rattle.nut_server_loop.specs.declared.types.Next.TheVariants as next;
 ghost use Rattle.nut_server_sockets.specs.declared.source.Source.TheVariants as source;
-ghost use Rattle.nut_server_sockets.specs.Places.{FindsLight, IsPieceLight, KeepsPlaces};
 ghost use Rattle.nut_server_sockets.specs.Reloads.{IsGiven, reload_of};
 ghost use Rattle.nut_server_sockets.specs.Seats.{HasBesides, KeepsSeats, TouchesOnly};
 ghost use Rattle.nut_server_sockets.specs.Turns.{Comes, ComesInTurn, GoesOn, IsHeeded, LeavesOthers, token_of};
+ghost use Rattle.nut_server_sockets.specs.Waits.{IsPieceLight};
 ghost use Rattle.nut_server_sockets.specs.inside.Looking.{HeedsAlso, IsApart, IsLook, IsNoted, KeepsHeeded, LooksInTurn, OnlyQueues, Stays};
 ghost use Rattle.nut_server_spec.specs.Content.{Content};
 
@@ -131,7 +131,7 @@ impl Sockets {
         ensures seats { IfOk result (λ n. LeavesOthers n self.old.clients.sockets self.new.clients.sockets) }
         ensures goes { GoesOn self.old self.new }
         ensures reloads { IfOk result (λ n. IsGiven L.gave services.old.reloader (reload_of n) services.new.reloader) }
-        ensures light { IfOk result (λ n. IsPieceLight self.old.clients.sockets n piece.new.items self.new.clients.sockets) }
+        ensures light { IfOk result (λ n. IsPieceLight server.now n piece.new.items) }
     {
         if let Some(number) = self.unkept.take() {
             return Ok(Next::Close(number));
@@ -287,7 +287,7 @@ impl Sockets {
         reports: &mut Reports<'_>,
     ) -> Option<Next>
         ensures turns { LooksInTurn self.old server.now result self.new }
-        ensures places { FindsLight self.old.clients.sockets result piece.new.items self.new.clients.sockets }
+        ensures light { IfSome result (λ n. IsPieceLight server.now n piece.new.items) }
     {
         if self.rounds.ready.is_round_over() && !self.stall.is_on() {
             return None;
@@ -305,7 +305,7 @@ impl Sockets {
         reports: &mut Reports<'_>,
     ) -> Option<Next>
         ensures turns { LooksInTurn self.old server.now result self.new }
-        ensures places { FindsLight self.old.clients.sockets result piece.new.items self.new.clients.sockets }
+        ensures light { IfSome result (λ n. IsPieceLight server.now n piece.new.items) }
     {
         self.end_stall();
         for _ in 0..SOCKETS_MAX {
@@ -328,7 +328,7 @@ impl Sockets {
     ) -> Option<Next>
         ensures look { IsLook self.old server.now token.0 result self.new }
         ensures heeds { HeedsAlso token.0 self.old self.new }
-        ensures places { FindsLight self.old.clients.sockets result piece.new.items self.new.clients.sockets }
+        ensures light { IfSome result (λ n. IsPieceLight server.now n piece.new.items) }
     {
         match Source::of(token) {
             Source::Listener(i) => self.look_at_listener(server, i, piece, reports),
@@ -348,7 +348,6 @@ impl Sockets {
     ) -> Option<Next>
         ensures look { (s : Content) → IsLook self.old s (token_of (source.Driver u)) result self.new }
         ensures queues { OnlyQueues self.old self.new }
-        ensures places { FindsLight self.old.clients.sockets result piece.new.items self.new.clients.sockets }
     {
         let driver = self.drivers.get_mut(u)?;
         let source = Source::Driver(u);
@@ -386,7 +385,7 @@ impl Sockets {
     ) -> Option<Next>
         ensures look { IsLook self.old server.now (token_of (source.Client key)) result self.new }
         ensures heeds { HeedsAlso (token_of (source.Client key)) self.old self.new }
-        ensures places { FindsLight self.old.clients.sockets result piece.new.items self.new.clients.sockets }
+        ensures light { IfSome result (λ n. IsPieceLight server.now n piece.new.items) }
     {
         let token = Source::Client(key).token();
         if self.stall.hold(token) {
@@ -413,7 +412,6 @@ impl Sockets {
         ensures turns { Heeds [] self.old.rounds self.new.rounds }
         ensures heeds { KeepsHeeded self.old self.new }
         ensures seats { KeepsSeats self.old.clients.sockets self.new.clients.sockets }
-        ensures places { KeepsPlaces self.old.clients.sockets self.new.clients.sockets }
         ensures second { IfOk result (λ moment. IsTold moment self.old.rounds.seconds.full self.new.rounds.seconds.full) }
         ensures begins { IfOk result (λ moment. (passed : Duration) × Begins passed self.old.rounds.seconds.full self.old.rounds.fixed
             moment (all_joined (reported (items self.new.rounds.events)) self.old.rounds.ready) self.new.rounds.ready) }
@@ -435,8 +433,7 @@ impl Sockets {
 
 /// Notes the events of the sockets.
 fn note(events: &Events, clients: &mut Clients, drivers: &mut Drivers)
-    ensures noted { IsNoted (reported (items events.now)) clients.old.sockets clients.new.sockets }
-    ensures places { KeepsPlaces clients.old.sockets clients.new.sockets }
+    ensures { IsNoted (reported (items events.now)) clients.old.sockets clients.new.sockets }
 {
     for event in events.iter() {
         note_one(event, clients, drivers);
@@ -445,8 +442,7 @@ fn note(events: &Events, clients: &mut Clients, drivers: &mut Drivers)
 
 /// Notes an event at the driver or the client whose socket has it.
 fn note_one(event: &Event, clients: &mut Clients, drivers: &mut Drivers)
-    ensures noted { IsNoted ((event_token event.now).0 ∷ []) clients.old.sockets clients.new.sockets }
-    ensures places { KeepsPlaces clients.old.sockets clients.new.sockets }
+    ensures { IsNoted ((event_token event.now).0 ∷ []) clients.old.sockets clients.new.sockets }
 {
     match Source::of(event.token()) {
         Source::Listener(_) => {}

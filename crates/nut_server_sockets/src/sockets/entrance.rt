@@ -1,7 +1,6 @@
 //! Lets clients in.
 
 ghost use Rattle.std.specs.Prelude.{◌≡◌, ℕ, IfSome, None, OnErr};
-ghost use Rattle.nut_server_sockets.specs.Places.{FindsLight};
 ghost use Rattle.nut_server_sockets.specs.Seats.{HasBesides, KeepsSeats};
 ghost use Rattle.nut_server_sockets.specs.Turns.{IsUnasked, moment_of};
 ghost use Rattle.nut_server_sockets.specs.inside.Looking.{IsLook, KeepsHeeded, Stays};
@@ -79,7 +78,6 @@ impl Sockets {
     ) -> Option<Next>
         ensures look { (token : ℕ) → IsLook self.old server.now token result self.new }
         ensures unasked { IfSome result (λ n. (moment_of n ≡ None) × IsUnasked self.old server.now n) }
-        ensures places { FindsLight self.old.clients.sockets result piece.new.items self.new.clients.sockets }
         ensures none { result ≡ None → self.new.clients ≡ self.old.clients }
         ensures turns { Stays self.old self.new }
     {
@@ -100,7 +98,6 @@ impl Sockets {
     ) -> Option<Next>
         ensures look { (token : ℕ) → IsLook self.old server.now token result self.new }
         ensures unasked { IfSome result (λ n. (moment_of n ≡ None) × IsUnasked self.old server.now n) }
-        ensures places { FindsLight self.old.clients.sockets result piece.new.items self.new.clients.sockets }
         ensures none { result ≡ None → self.new.clients ≡ self.old.clients }
         ensures turns { Stays self.old self.new }
     {
@@ -139,7 +136,6 @@ impl Sockets {
     ) -> Option<Next>
         ensures look { (token : ℕ) → IsLook self.old server.now token result self.new }
         ensures heeds { KeepsHeeded self.old self.new }
-        ensures places { FindsLight self.old.clients.sockets result piece.new.items self.new.clients.sockets }
     {
         match self.door.let_in(i) {
             Ok(()) => {

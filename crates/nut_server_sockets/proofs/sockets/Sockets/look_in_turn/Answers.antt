@@ -1,6 +1,6 @@
 use Rattle.std.proofs.Common.{[], ◌∷◌, ◌++◌, ◌∙◌, refl}
 use Rattle.nut_server_sockets.proofs.HeedLemmas.{heeded_on, heeds_still, heeds_taken}
-use Rattle.nut_server_sockets.proofs.SeatLemmas.{found_on, places_on, same_places, same_seats, seats_on}
+use Rattle.nut_server_sockets.proofs.SeatLemmas.{same_seats, seats_on}
 use Rattle.nut_server_sockets.proofs.TurnLemmas.{found_last, found_none, look_more}
 use Rattle.nut_server_sockets.proofs.sockets.Sockets.look_in_turn.Goals as goal
 
@@ -10,7 +10,6 @@ loop-init g c = (
   c.end_stall.ensures.0.1,
   same_seats c.args.self.now.clients.sockets c.end_stall.new.self.clients.sockets c.end_stall.ensures.1,
   heeds_still c.args.self.now c.end_stall.new.self c.end_stall.ensures,
-  same_places c.args.self.now.clients.sockets c.end_stall.new.self.clients.sockets c.end_stall.ensures.1,
 )
 
 pub returns-in-Some-clause-turns : goal.returns-in-Some-clause-turns
@@ -27,11 +26,6 @@ returns-in-Some-clause-turns g c =
     (heeds_taken token c.loop.self c.look_at.new.self taken refl refl c.in_ok-token.ensures.taken c.look_at.ensures.heeds))
     look
 
-pub returns-in-Some-clause-places : goal.returns-in-Some-clause-places
-returns-in-Some-clause-places g c =
-    found_on c.args.self.now.clients.sockets c.loop.self.clients.sockets c.look_at.new.self.clients.sockets c.in-Some.next c.look_at.new.piece.items
-    c.loop.invariant.4 c.loop.invariant.2 c.in-Some.ensures.places
-
 pub loop-preserved : goal.loop-preserved
 loop-preserved g c =
     let before = c.loop.invariant.0 in
@@ -47,7 +41,6 @@ loop-preserved g c =
       seats_on c.args.self.now.clients.sockets c.loop.self.clients.sockets c.look_at.new.self.clients.sockets c.loop.invariant.2 look.seats,
       heeded_on c.args.self.now c.loop.self c.look_at.new.self c.loop.invariant.3
           (heeds_taken token c.loop.self c.look_at.new.self taken refl refl c.in_ok-token.ensures.taken c.look_at.ensures.heeds),
-      places_on c.args.self.now.clients.sockets c.loop.self.clients.sockets c.look_at.new.self.clients.sockets c.loop.invariant.4 c.in_default.ensures.places,
     )
 
 pub returns-clause-turns : goal.returns-clause-turns

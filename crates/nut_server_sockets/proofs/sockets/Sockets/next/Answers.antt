@@ -2,8 +2,8 @@ use Rattle.std.proofs.Common.{◌≡◌, None, [], inl, inr, refl, rules, ap, su
 use Rattle.nut_server_loop.specs.declared.types.Next.TheVariants.{Again, Close, Reload}
 use Rattle.nut_server_sockets.specs.Seats.{IsSilent}
 use Rattle.nut_server_sockets.specs.inside.TurnLaws.{goes_on}
-use Rattle.nut_server_sockets.proofs.SeatLemmas.{found_on, places_on, same_places, same_seats, seats_on}
-use Rattle.nut_server_sockets.proofs.TurnLemmas.{came_of_none, found_in_turn, goes_look, goes_queue, goes_stay, leaves_on, none_told, nothing_found, nothing_more, nothing_yet, queues_apart, second_in_turn, not_reloaded, unasked_still}
+use Rattle.nut_server_sockets.proofs.SeatLemmas.{same_seats, seats_on}
+use Rattle.nut_server_sockets.proofs.TurnLemmas.{came_of_none, found_in_turn, goes_look, goes_queue, goes_stay, leaves_on, none_told, nothing_found, nothing_more, not_reloaded, nothing_yet, queues_apart, second_in_turn, unasked_light, unasked_still}
 use Rattle.nut_server_sockets.proofs.sockets.Sockets.next.Goals as goal
 
 pub returns-in-Some-clause-turns : goal.returns-in-Some-clause-turns
@@ -157,24 +157,8 @@ returns-in_err-moment-clause-goes g c =
     let waited = goes_on c.args.self.now c.look.new.self c.wait.new.self looked (([], c.wait.ensures.turns), c.wait.ensures.heeds) in
     waited
 
-pub returns-in-Some-look-clause-light : goal.returns-in-Some-look-clause-light
-returns-in-Some-look-clause-light g c =
-    let same = ap (λ k. k.sockets) c.reload.ensures.apart.1 ∙ c.in_default-shed.ensures.none refl ∙ ap (λ k. k.sockets) (c.in_default-admit.ensures.none refl) in
-    let old = c.args.self.now.clients.sockets in
-    let reloaded = c.reload.new.self.clients.sockets in
-    found_on old reloaded c.look.new.self.clients.sockets c.in-Some-look.next c.look.new.piece.items (same_places old reloaded same) (same_seats old reloaded same) c.in-Some-look.ensures.places
-
-pub returns-in-Some-look-2-clause-light : goal.returns-in-Some-look-2-clause-light
-returns-in-Some-look-2-clause-light g c =
-    let same = ap (λ k. k.sockets) c.reload.ensures.apart.1 ∙ c.in_default-shed.ensures.none refl ∙ ap (λ k. k.sockets) (c.in_default-admit.ensures.none refl) in
-    let old = c.args.self.now.clients.sockets in
-    let reloaded = c.reload.new.self.clients.sockets in
-    let waited = c.wait.new.self.clients.sockets in
-    let stood = places_on old reloaded waited (same_places old reloaded same)
-    (places_on reloaded c.look.new.self.clients.sockets waited c.in_default-look.ensures.places c.in_ok-moment.ensures.places) in
-    let seated = seats_on old reloaded waited (same_seats old reloaded same)
-    (seats_on reloaded c.look.new.self.clients.sockets waited c.in_default-look.ensures.turns.seats c.in_ok-moment.ensures.seats) in
-    found_on old waited c.look-2.new.self.clients.sockets c.in-Some-look-2.next c.look-2.new.piece.items stood seated c.in-Some-look-2.ensures.places
+pub returns-in-Some-admit-clause-light : goal.returns-in-Some-admit-clause-light
+returns-in-Some-admit-clause-light g c = unasked_light c.args.server.now c.in-Some-admit.next (record c.args.self.now { unkept = c.take.new.self }) c.admit.new.piece.items c.in-Some-admit.ensures.unasked.1
 
 pub returns-in-Some-clause-reloads : goal.returns-in-Some-clause-reloads
 returns-in-Some-clause-reloads g c = inr (refl, refl)

@@ -13,4 +13,4 @@ returns-clause-turns g c =
 pub returns-clause-heeds : goal.returns-clause-heeds
 returns-clause-heeds g c =
     heeds_reported c.args.self.now (record c.args.self.now { rounds = c.turn.new.self; clients = c.note.new.clients; drivers = c.note.new.drivers })
-    (reported (items c.wait.new.self.events)) c.wait.new.self.ready c.note.ensures.noted c.wait.ensures.ready c.wait.ensures.heeds.0 c.turn.ensures.comes refl
+    (reported (items c.wait.new.self.events)) c.wait.new.self.ready c.note.ensures c.wait.ensures.ready c.wait.ensures.heeds.0 c.turn.ensures.comes refl
