@@ -1,12 +1,12 @@
 """Plays the parts that have the program `rehearse` to themselves, and compares them with worked rows: the words of lines, the links
-of a client, and the loop of a server over arrivals in memory.
+of a client, the loop of a server over arrivals in memory, and upsd's folder over files in memory.
 
     python3 -m tests.rehearsals.parts REHEARSE"""
 
 import random
 import sys
 
-from tests.support.harness import ensure, expect, fewer, play, spelled, table
+from tests.support.harness import ensure, expect, fewer, play, sections, spelled, table
 from tests.support.model import words_of
 from tests.support.player import escaped
 from tests.support.request_rows import FORMS, LINK_ROWS, SHORTER_FORMS
@@ -94,6 +94,15 @@ class Tests(StageTests):
         steps = [*FILES, *((f"serve {line[2:]}",) for line in lines if line[0] == ">"), ("serve run",)]
         found = self.stage.play(steps)[len(steps) - 1 :]
         expect([line.decode() for line in found], lines, "what is taken and closed")
+
+    def test_the_folder_of_upsd(self):
+        """What is read of its files, what that means to a server, and what is reported."""
+        for name, lines in sections("folder_runs.txt"):
+            steps = [(it[2:].replace("DIR", self.stage.folder),) for it in lines if it[0] == ">"]
+            status, *written = self.stage.run(steps)
+            answers, errors = (it.decode().splitlines() for it in written)
+            due = [it for it in lines if it[0] not in ">!"], ["rehearse: " + it[2:] for it in lines if it[0] == "!"]
+            expect((status, [it for it in answers if it.split(" ")[0] != "ok"], errors), (0, *due), f"that {name}")
 
 
 if __name__ == "__main__":

@@ -13,6 +13,8 @@ mod stdio;
 mod ups_option;
 mod upsd_fault;
 
+pub use configuration::{Settings, read_folder};
 pub use daemon::run_upsd;
+pub use folder::Folder;
 pub use stdio::run_stdio;
 pub use ups_option::{add_ups_option, read_ups_options};
