@@ -1,5 +1,5 @@
 -- Looks in turn, one after the other.
-use Rattle.std.proofs.Common.{◌≡◌, ◌≢◌, ℕ, ◌+◌, ◌<◌, true, List, [], ◌∷◌, ◌++◌, refl, sym, ap, subst, ◌∙◌, append_assoc, inl, inr}
+use Rattle.std.proofs.Common.{◌≡◌, ◌≢◌, ◌⊎◌, ℕ, ◌+◌, ◌<◌, true, List, [], ◌∷◌, ◌++◌, refl, sym, ap, subst, ◌∙◌, append_assoc, inl, inr}
 use Rattle.std.proofs.lemmas.List.{append-nil}
 use Rattle.std.specs.Prelude.{Option, Some, None, IfSome}
 use Rattle.nut_poll.specs.Moments.{IsTold}
@@ -17,11 +17,11 @@ use Rattle.slab.specs.Slab.{Slab}
 use Rattle.nut_server_sockets.specs.declared.client.Client.{Client}
 use Rattle.nut_server_sockets.specs.declared.sockets.Sockets.{Sockets}
 use Rattle.nut_server_sockets.specs.declared.source.TheConstants.{FIXED_MAX}
-use Rattle.nut_server_sockets.specs.Reloads.{IsGiven, reload_of}
+use Rattle.nut_server_sockets.specs.Reloads.{IsGiven}
 use Rattle.nut_server_sockets.specs.Seats.{HasBesides, IsSilent, KeepsSeats, number_at}
 use Rattle.nut_server_sockets.specs.Turns.{moment_of, IsGivenBy, IsOfLast, IsUnasked, LeavesOthers, Comes, ComesInTurn, GoesOn}
 use Rattle.nut_server_sockets.specs.Waits.{IsPieceLight}
-use Rattle.nut_server_sockets.specs.inside.Looking.{IsApart, IsLook, KeepsHeeded, KeepsLine, LooksInTurn, OnlyQueues, Stays, WaitsAgain, is_in_line}
+use Rattle.nut_server_sockets.specs.inside.Looking.{Asks, IsApart, IsLook, KeepsHeeded, KeepsLine, LooksInTurn, OnlyQueues, Stays, WaitsAgain, is_in_line}
 use Rattle.nut_server_sockets.proofs.HeedLemmas.{heeds_still, line_on, line_with}
 use Rattle.nut_server_sockets.proofs.SeatLemmas.{seats_on}
 
@@ -65,19 +65,29 @@ no_moment sockets s (Reload c) token given = refl
 no_moment sockets s Again token given = refl
 no_moment sockets s End token given = refl
 
+-- what the server gets if the reloader was asked: the configuration, or nothing of it
+pub some_given : {L : Type 0} (gave : L → Option Configuration → L → Type 0) (old new : L) (config : Configuration) → Asks gave old (Some config) new →
+    gave old (Some config) new
+some_given gave old new config (inl given) = given
+some_given gave old new config (inr none) = let bad : Some config ≡ None = none.0 in cc
+
+pub none_given : {L : Type 0} (gave : L → Option Configuration → L → Type 0) (old new : L) → Asks gave old None new → gave old None new ⊎ (new ≡ old)
+none_given gave old new (inl given) = inl given
+none_given gave old new (inr none) = inr none.1
+
 -- what a source gives is no configuration
 pub not_reloaded : {L : Type 0} (gave : L → Option Configuration → L → Type 0) (old new : L) (sockets : Slab Client) (s : Content) (n : Next) (token : ℕ)
-    → IsGivenBy sockets s token n → IsGiven gave old None new → IsGiven gave old (reload_of n) new
+    → IsGivenBy sockets s token n → Asks gave old None new → IsGiven gave old n new
 not_reloaded gave old new sockets s (Reload c) token given none = absurd given
-not_reloaded gave old new sockets s (Moment m) token given none = none
-not_reloaded gave old new sockets s (Bytes c) token given none = none
-not_reloaded gave old new sockets s (DriverBytes u) token given none = none
-not_reloaded gave old new sockets s Open token given none = none
-not_reloaded gave old new sockets s (Close c) token given none = none
-not_reloaded gave old new sockets s (DriverUp u) token given none = none
-not_reloaded gave old new sockets s (DriverDown u) token given none = none
-not_reloaded gave old new sockets s Again token given none = none
-not_reloaded gave old new sockets s End token given none = none
+not_reloaded gave old new sockets s (Moment m) token given none = none_given gave old new none
+not_reloaded gave old new sockets s (Bytes c) token given none = none_given gave old new none
+not_reloaded gave old new sockets s (DriverBytes u) token given none = none_given gave old new none
+not_reloaded gave old new sockets s Open token given none = none_given gave old new none
+not_reloaded gave old new sockets s (Close c) token given none = none_given gave old new none
+not_reloaded gave old new sockets s (DriverUp u) token given none = none_given gave old new none
+not_reloaded gave old new sockets s (DriverDown u) token given none = none_given gave old new none
+not_reloaded gave old new sockets s Again token given none = none_given gave old new none
+not_reloaded gave old new sockets s End token given none = none_given gave old new none
 
 -- Neither what came of no source nor what another source than a client gave is a piece of a client.
 pub unasked_light : (s : Content) (n : Next) (old : Sockets) (piece : List ℕ) → IsUnasked old s n → IsPieceLight s n piece

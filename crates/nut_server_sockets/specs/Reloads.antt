@@ -4,11 +4,7 @@ use Rattle.nut_server_loop.specs.declared.types.Next.{Next}
 use Rattle.nut_server_loop.specs.declared.types.Next.TheVariants.{Reload}
 use Rattle.nut_server_spec.specs.Configuration.{Configuration}
 
--- the new configuration that this has the server take up, if it is one
-abbrev pub reload_of : Next → Option Configuration
-reload_of (Reload config) = Some config.value
-reload_of n = None
-
--- A look at the reloader gave just this. Or there was no look, and nothing is to be taken up.
-abbrev pub IsGiven : {L : Type 0} → (L → Option Configuration → L → Type 0) → L → Option Configuration → L → Type 0
-IsGiven gave old given new = gave old given new ⊎ ((given ≡ None) × (new ≡ old))
+-- A look at the reloader gave the configuration that is to be taken up. If none is, a look gave none, or there was no look.
+abbrev pub IsGiven : {L : Type 0} → (L → Option Configuration → L → Type 0) → L → Next → L → Type 0
+IsGiven gave old (Reload config) new = gave old (Some config.value) new
+IsGiven gave old n new = gave old None new ⊎ (new ≡ old)

@@ -29,8 +29,7 @@ abbrev pub IsSocketOf : Slab client.Client → ℕ → ℕ → Type 0
 IsSocketOf sockets token c = (key : ℕ) × (token ≡ FIXED_MAX + key) × (number_at sockets key ≡ Some c)
 
 -- The source with this token gave this: a piece of a client, or the end of its connection, the socket of this very client; a
--- piece of a driver that of this driver; and none a moment or a configuration. A client that calls may have the connection of
--- another closed.
+-- piece of a driver that of this driver; none a moment or a reload. A client that calls may have the connection of another closed.
 abbrev pub IsGivenBy : Slab client.Client → Content → ℕ → Next → Type 0
 IsGivenBy sockets s token (Bytes c) = IsSocketOf sockets token c
 IsGivenBy sockets s token (Close c) = IsSocketOf sockets token c ⊎ MakesWay s c

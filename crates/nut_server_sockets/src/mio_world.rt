@@ -6,7 +6,7 @@ ghost use Rattle.nut_server_loop.specs.Record.{LeadsTo, MayCome, WasClosed, Step
 ghost use Rattle.nut_server_loop.specs.declared.types.Peer.{Peer};
 ghost use Rattle.nut_server_loop.specs.declared.types.Peer.TheVariants.{Connection, Driver};
 ghost use Rattle.nut_poll.specs.inside.TurnLaws.{turns_self};
-ghost use Rattle.nut_server_sockets.specs.Reloads.{IsGiven, reload_of};
+ghost use Rattle.nut_server_sockets.specs.Reloads.{IsGiven};
 ghost use Rattle.nut_server_sockets.specs.Turns.{ComesInTurn, GoesOn, IsHeeded, LeavesOthers};
 ghost use Rattle.nut_server_sockets.specs.Untold.{untold, is_late};
 ghost use Rattle.nut_server_sockets.specs.Waits.{IsPieceLight};
@@ -135,7 +135,7 @@ impl<'r, 'e, R: Net + Clock + Processes, L: Reloader + Drop> World for MioWorld<
         ensures reached { OnErr result (GoesOn self.old.sockets self.new.sockets) }
         ensures turns { IfOk result (λ n. ComesInTurn self.old.sockets server.now n self.new.sockets) }
         ensures seats { IfOk result (λ n. LeavesOthers n self.old.sockets.clients.sockets self.new.sockets.clients.sockets) }
-        ensures reloads { IfOk result (λ n. IsGiven L.gave self.old.services.reloader (reload_of n) self.new.services.reloader) }
+        ensures reloads { IfOk result (λ n. IsGiven L.gave self.old.services.reloader n self.new.services.reloader) }
         ensures light { IfOk result (λ n. IsPieceLight server.now n piece.new.items) }
     {
         self.late.clear();

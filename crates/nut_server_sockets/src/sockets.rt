@@ -11,7 +11,7 @@ ghost use Rattle.nut_poll.specs.Turns.{Heeds};
 ghost use Rattle.nut_server_loop.specs.Record.{MayCome};
 ghost use Rattle.nut_server_loop.specs.declared.types.Next.TheVariants as next;
 ghost use Rattle.nut_server_sockets.specs.declared.source.Source.TheVariants as source;
-ghost use Rattle.nut_server_sockets.specs.Reloads.{IsGiven, reload_of};
+ghost use Rattle.nut_server_sockets.specs.Reloads.{IsGiven};
 ghost use Rattle.nut_server_sockets.specs.Seats.{HasBesides, KeepsSeats, TouchesOnly};
 ghost use Rattle.nut_server_sockets.specs.Turns.{Comes, ComesInTurn, GoesOn, IsHeeded, LeavesOthers, token_of};
 ghost use Rattle.nut_server_sockets.specs.Waits.{IsPieceLight};
@@ -130,7 +130,7 @@ impl Sockets {
         ensures turns { IfOk result (λ n. ComesInTurn self.old server.now n self.new) }
         ensures seats { IfOk result (λ n. LeavesOthers n self.old.clients.sockets self.new.clients.sockets) }
         ensures goes { GoesOn self.old self.new }
-        ensures reloads { IfOk result (λ n. IsGiven L.gave services.old.reloader (reload_of n) services.new.reloader) }
+        ensures reloads { IfOk result (λ n. IsGiven L.gave services.old.reloader n services.new.reloader) }
         ensures light { IfOk result (λ n. IsPieceLight server.now n piece.new.items) }
     {
         if let Some(number) = self.unkept.take() {

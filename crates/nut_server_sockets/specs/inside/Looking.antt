@@ -1,5 +1,5 @@
 -- For private functions, nothing here has to be believed: what looks at sources find, and what they leave.
-use Rattle.std.specs.Prelude.{◌≡◌, ◌≢◌, ◌⊎◌, ℕ, ◌+◌, ◌<◌, ◌&&◌, ◌||◌, nat_lt, Bool, true, List, Option, IfSome}
+use Rattle.std.specs.Prelude.{◌≡◌, ◌≢◌, ◌⊎◌, ℕ, ◌+◌, ◌<◌, ◌&&◌, ◌||◌, nat_lt, Bool, true, List, Option, None, IfSome}
 use Rattle.std.specs.Option.{unwrap_or}
 use Rattle.nut_conf.specs.declared.limits.TheConstants.{LISTENERS_MAX}
 use Rattle.nut_poll.specs.Queue.{Queue, is_waiting}
@@ -8,6 +8,7 @@ use Rattle.nut_poll.specs.declared.ready.TheConstants.{SOCKETS_MAX}
 use Rattle.nut_server_loop.specs.Record.{MayCome}
 use Rattle.nut_server_loop.specs.declared.types.Next.{Next}
 use Rattle.nut_server_loop.specs.declared.types.Next.TheVariants as next
+use Rattle.nut_server_spec.specs.Configuration.{Configuration}
 use Rattle.nut_server_spec.specs.Content.{Content}
 use Rattle.slab.specs.Slab.{Slab}
 use Rattle.nut_server_sockets.specs.Seats.{KeepsSeats}
@@ -79,3 +80,7 @@ pub record IsNoted (tokens : List ℕ) (old new : Slab Client) : Type 0 where
   pub more : (key : ℕ) → is_waiting (FIXED_MAX + key) tokens ≡ true → HasMore new key
   pub kept : (key : ℕ) → HasMore old key → HasMore new key
   pub due : (key : ℕ) → is_due_at new key ≡ true → (is_due_at old key ≡ true) ⊎ (is_waiting (FIXED_MAX + key) tokens ≡ true)
+
+-- The reloader was asked, and gave just this. Or it wasn't asked, and nothing came.
+abbrev pub Asks : {L : Type 0} → (L → Option Configuration → L → Type 0) → L → Option Configuration → L → Type 0
+Asks gave old given new = gave old given new ⊎ ((given ≡ None) × (new ≡ old))

@@ -2,9 +2,8 @@
 //! changed is reported.
 
 ghost use Rattle.std.specs.Prelude.{◌≡◌, IfSome, None, option_map};
-ghost use Rattle.nut_server_sockets.specs.Reloads.{IsGiven};
 ghost use Rattle.nut_server_sockets.specs.Seats.{HasBesides, IsSilent};
-ghost use Rattle.nut_server_sockets.specs.inside.Looking.{IsApart, OnlyQueues, Stays};
+ghost use Rattle.nut_server_sockets.specs.inside.Looking.{Asks, IsApart, OnlyQueues, Stays};
 
 use crate::driver::Driver;
 use crate::reloader::Reloader;
@@ -50,7 +49,7 @@ impl Sockets {
         reports: &mut Reports<'_>,
     ) -> Option<Box<Config>>
         ensures apart { IsApart self.old self.new }
-        ensures reloads { IsGiven L.gave reloader.old (option_map (λ config. config.value) result) reloader.new }
+        ensures reloads { Asks L.gave reloader.old (option_map (λ config. config.value) result) reloader.new }
     {
         if !self.asks {
             return None;

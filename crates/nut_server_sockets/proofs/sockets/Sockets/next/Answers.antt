@@ -3,7 +3,7 @@ use Rattle.nut_server_loop.specs.declared.types.Next.TheVariants.{Again, Close, 
 use Rattle.nut_server_sockets.specs.Seats.{IsSilent}
 use Rattle.nut_server_sockets.specs.inside.TurnLaws.{goes_on}
 use Rattle.nut_server_sockets.proofs.SeatLemmas.{same_seats, seats_on}
-use Rattle.nut_server_sockets.proofs.TurnLemmas.{came_of_none, found_in_turn, goes_look, goes_queue, goes_stay, leaves_on, none_told, nothing_found, nothing_more, not_reloaded, nothing_yet, queues_apart, second_in_turn, unasked_light, unasked_still}
+use Rattle.nut_server_sockets.proofs.TurnLemmas.{came_of_none, found_in_turn, goes_look, goes_queue, goes_stay, leaves_on, none_told, nothing_found, none_given, nothing_more, not_reloaded, nothing_yet, queues_apart, second_in_turn, some_given, unasked_light, unasked_still}
 use Rattle.nut_server_sockets.proofs.sockets.Sockets.next.Goals as goal
 
 pub returns-in-Some-clause-turns : goal.returns-in-Some-clause-turns
@@ -161,7 +161,7 @@ pub returns-in-Some-admit-clause-light : goal.returns-in-Some-admit-clause-light
 returns-in-Some-admit-clause-light g c = unasked_light c.args.server.now c.in-Some-admit.next (record c.args.self.now { unkept = c.take.new.self }) c.admit.new.piece.items c.in-Some-admit.ensures.unasked.1
 
 pub returns-in-Some-clause-reloads : goal.returns-in-Some-clause-reloads
-returns-in-Some-clause-reloads g c = inr (refl, refl)
+returns-in-Some-clause-reloads g c = inr refl
 
 pub returns-in-Some-admit-clause-reloads : goal.returns-in-Some-admit-clause-reloads
 returns-in-Some-admit-clause-reloads g c =
@@ -169,10 +169,11 @@ returns-in-Some-admit-clause-reloads g c =
     (c.in-Some-admit.ensures.look 0).given (inr (refl, refl))
 
 pub returns-in-Some-shed-clause-reloads : goal.returns-in-Some-shed-clause-reloads
-returns-in-Some-shed-clause-reloads g c = inr (refl, refl)
+returns-in-Some-shed-clause-reloads g c = inr refl
 
 pub returns-in-Some-reload-clause-reloads : goal.returns-in-Some-reload-clause-reloads
-returns-in-Some-reload-clause-reloads g c = c.in-Some-reload.ensures.reloads
+returns-in-Some-reload-clause-reloads g c =
+    some_given g.L.Reloader.gave c.args.services.now.reloader c.reload.new.reloader c.in-Some-reload.config.value c.in-Some-reload.ensures.reloads
 
 pub returns-in-Some-look-clause-reloads : goal.returns-in-Some-look-clause-reloads
 returns-in-Some-look-clause-reloads g c =
@@ -180,7 +181,8 @@ returns-in-Some-look-clause-reloads g c =
     not_reloaded g.L.Reloader.gave c.args.services.now.reloader c.reload.new.reloader c.reload.new.self.clients.sockets c.args.server.now c.in-Some-look.next last.1 last.3 c.in_default-reload.ensures.reloads
 
 pub returns-in-Some-2-clause-reloads : goal.returns-in-Some-2-clause-reloads
-returns-in-Some-2-clause-reloads g c = c.in_default-reload.ensures.reloads
+returns-in-Some-2-clause-reloads g c =
+    none_given g.L.Reloader.gave c.args.services.now.reloader c.reload.new.reloader c.in_default-reload.ensures.reloads
 
 pub returns-in-Some-look-2-clause-reloads : goal.returns-in-Some-look-2-clause-reloads
 returns-in-Some-look-2-clause-reloads g c =
@@ -188,4 +190,5 @@ returns-in-Some-look-2-clause-reloads g c =
     not_reloaded g.L.Reloader.gave c.args.services.now.reloader c.reload.new.reloader c.wait.new.self.clients.sockets c.args.server.now c.in-Some-look-2.next last.1 last.3 c.in_default-reload.ensures.reloads
 
 pub returns-in-None-clause-reloads : goal.returns-in-None-clause-reloads
-returns-in-None-clause-reloads g c = c.in_default-reload.ensures.reloads
+returns-in-None-clause-reloads g c =
+    none_given g.L.Reloader.gave c.args.services.now.reloader c.reload.new.reloader c.in_default-reload.ensures.reloads
