@@ -37,8 +37,6 @@ OnlyShownIsHeard setup schedule = (m i : ℕ) (Words : List (List ℕ) → Bool)
     (world setup schedule).monitor m ≡ newest ++ (world setup middle).monitor m →
     HearsOnly (monitor_of setup m) Words ((world setup middle).monitor m) newest i
 
--- ---- on battery
-
 -- the status has OB
 abbrev pub is_on_battery : List (List ℕ) → Bool
 is_on_battery words = has (codes "OB") words
@@ -67,8 +65,6 @@ abbrev pub CutOffStop : Configuration → Type 0
 CutOffStop configuration = (pace : Pace) (waits : Bool) (cut : ℕ → Bool) (last : ℕ) (first newest later : List Event) →
     IsCutOff configuration waits cut last first newest → IsEven configuration pace first newest →
     StopsBy configuration pace (last + begins_in configuration waits) (suc pace.skip) (newest ++ first) later
-
--- ---- on line power
 
 -- no reason to stop, whatever may come of it
 abbrev pub is_on_line : List (List ℕ) → Bool

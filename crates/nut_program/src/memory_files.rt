@@ -9,14 +9,14 @@ use std::alloc::{AllocError, Global};
 use std::io;
 use std::io::ErrorKind;
 
-/// The mode of a file in memory: everybody may read it.
-const MODE: u32 = 0o444;
+/// The mode of a file in memory: only its owner may read it.
+const MODE: u32 = 0o600;
 
 /// Files in memory, which tell what was read of them.
 #[derive(Drop)]
 pub struct MemoryFiles {
     alloc: Global,
-    /// The path and the bytes of each file.
+    /// The path and the bytes of each file. Of two with the same path the first one counts.
     pub files: Vec<(String, Vec<u8>)>,
     read: Vec<(String, Option<Vec<u8>>)>,
 }
@@ -54,8 +54,12 @@ impl ConfFiles for MemoryFiles {
         }
     }
 
-    fn mode(&self, _path: &str) -> io::Result<u32> {
-        Ok(MODE)
+    fn mode(&self, path: &str) -> io::Result<u32> {
+        if self.files.iter().any(|(known, _)| known.as_str() == path) {
+            Ok(MODE)
+        } else {
+            Err(io::Error::from(ErrorKind::NotFound))
+        }
     }
 }
 

@@ -30,8 +30,6 @@ history m [] = []
 history m (AtServer event ∷ run) = history m run
 history m (AtMonitor n event ∷ run) = if n == m then event ∷ history m run else history m run
 
--- ---- the network
-
 -- A network joins ends: the connection of the server that belongs to the k-th call of link i of monitor m. None if the
 -- server never accepted that call.
 abbrev pub Network : Type 0
@@ -68,8 +66,6 @@ May setup network run (AtMonitor m (events.LinkBytes i piece)) = (c : ℕ) × (n
     × IsNext (monitor.input i (trace (monitor_of setup m) (history m run))) piece (server.sent setup.server c (server_history run))
 May setup network run (AtMonitor m (events.OutOfMemory i piece k)) = ⊥
 May setup network run (AtMonitor m event) = Unit {0}
-
--- ---- the programs
 
 -- Right steps of the server's loop have this history. `serve` promises such steps (`Served`).
 abbrev pub IsServed : ServerConfiguration → List arrivals.Event → Type 0
