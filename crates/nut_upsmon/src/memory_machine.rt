@@ -1,8 +1,8 @@
 //! A machine in memory.
 
-ghost use Rattle.std.specs.Prelude.{◌≡◌, ◌∷◌, [], Some, None, IfSome, IfNone, IfOk, OnOk, OnErr, if◌then◌else◌};
+ghost use Rattle.std.specs.Prelude.{◌≡◌, ◌∷◌, [], Some, None, IfSome, IfNone, IfOk, OnOk, OnErr};
 ghost use Rattle.nut_monitor.specs.Texts.{text_of};
-ghost use Rattle.nut_upsmon.specs.Acts.{Called as CalledWith, IfTold, Printed as PrintedAs, Readied as ReadiedTo, does, halt_of, text_in};
+ghost use Rattle.nut_upsmon.specs.Acts.{IfTold, Readied as ReadiedTo, does, halt_of, text_in};
 ghost use Rattle.nut_upsmon.specs.Reload.{MayReload};
 ghost use Rattle.nut_upsmon.specs.Memory.{act_of, acts_of, noted_text, told_acts};
 
@@ -87,6 +87,15 @@ impl MemoryMachine {
             None
         }
     }
+
+    /// Notes an act, or that the memory for it is lacking.
+    fn keep(&mut self, one: NotedAct)
+        ensures { IfTold self.new (does (act_of one) self.old) }
+    {
+        if add(&mut self.acts, self.is_whole, one).is_err() {
+            self.is_whole = false;
+        }
+    }
 }
 
 impl Actor for MemoryMachine {
@@ -104,25 +113,17 @@ impl Actor for MemoryMachine {
     fn note(&mut self, _monitor: &Monitor, _notice: Notice) {}
 
     fn print(&mut self, monitor: &Monitor, notice: Notice) {
-        keep_notice(
-            self.alloc,
-            &mut self.acts,
-            &mut self.is_whole,
-            monitor,
-            notice,
-            false,
-        );
+        match notice_text(self.alloc, monitor, notice) {
+            Ok(text) => self.keep(NotedAct::Printed(text)),
+            Err(AllocError) => self.is_whole = false,
+        }
     }
 
     fn call(&mut self, monitor: &Monitor, notice: Notice) {
-        keep_notice(
-            self.alloc,
-            &mut self.acts,
-            &mut self.is_whole,
-            monitor,
-            notice,
-            true,
-        );
+        match notice_text(self.alloc, monitor, notice) {
+            Ok(text) => self.keep(NotedAct::Called(notice, text)),
+            Err(AllocError) => self.is_whole = false,
+        }
     }
 
     /// If it lacks the memory to make ready, the configuration isn't taken up.
@@ -135,16 +136,16 @@ impl Actor for MemoryMachine {
     }
 
     fn change(&mut self) {
-        keep(&mut self.acts, &mut self.is_whole, NotedAct::Changed);
+        self.keep(NotedAct::Changed);
     }
 
     fn set_flag(&mut self) -> Result<(), FlagFault> {
-        keep(&mut self.acts, &mut self.is_whole, NotedAct::TriedFlag);
+        self.keep(NotedAct::TriedFlag);
         Ok(())
     }
 
     fn run_shutdown(&mut self) -> Result<(), HaltFault> {
-        keep(&mut self.acts, &mut self.is_whole, NotedAct::RanShutdown);
+        self.keep(NotedAct::RanShutdown);
         Ok(())
     }
 }
@@ -188,39 +189,13 @@ fn add(acts: &mut Vec<NotedAct>, is_whole: bool, one: NotedAct) -> Result<(), Al
     }
 }
 
-/// Notes an act, or that the memory for it is lacking.
-fn keep(acts: &mut Vec<NotedAct>, is_whole: &mut bool, one: NotedAct)
-    ensures { IfTold (told_acts is_whole.new acts.new.items) (does (act_of one) (told_acts is_whole.old acts.old.items)) }
-{
-    if add(acts, *is_whole, one).is_err() {
-        *is_whole = false;
-    }
-}
-
-/// Notes that a notice was printed, or that NOTIFYCMD was run with it if `is_call`, or that the memory for its text is lacking.
-fn keep_notice(
-    alloc: Global,
-    acts: &mut Vec<NotedAct>,
-    is_whole: &mut bool,
-    monitor: &Monitor,
-    notice: Notice,
-    is_call: bool,
-)
-    ensures { let text = text_of monitor.now.config notice in
-        IfTold (told_acts is_whole.new acts.new.items)
-        (does (if is_call then CalledWith notice text else PrintedAs text) (told_acts is_whole.old acts.old.items)) }
+/// Returns the text of a notice of this monitor.
+fn notice_text(alloc: Global, monitor: &Monitor, notice: Notice) -> Result<Vec<u8>, AllocError>
+    ensures { IfOk result (λ text. text.items ≡ text_of monitor.now.config notice) }
 {
     let mut text = Vec::new(alloc);
-    if monitor.notice_text(notice, &mut text).is_err() {
-        *is_whole = false;
-        return;
-    }
-    let act = if is_call {
-        NotedAct::Called(notice, text)
-    } else {
-        NotedAct::Printed(text)
-    };
-    keep(acts, is_whole, act);
+    monitor.notice_text(notice, &mut text)?;
+    Ok(text)
 }
 
 /// Returns what the next watch begins with, if it is time and may take the place of this monitor's.
