@@ -1,6 +1,6 @@
 //! What a watch begins with.
 
-ghost use Rattle.std.specs.Prelude.{◌≡◌, []};
+ghost use Rattle.std.specs.Prelude.{◌≡◌, [], IfOk};
 ghost use Rattle.nut_monitor_spec.specs.Configuration.{configuration_of};
 ghost use Rattle.nut_monitor_spec.specs.Content.{content};
 
@@ -24,7 +24,9 @@ impl Beginning {
     /// # Errors
     ///
     /// [`AllocError`] if memory cannot be allocated.
-    pub fn of(alloc: Global, config: MonConfig) -> Result<Beginning, AllocError> {
+    pub fn of(alloc: Global, config: MonConfig) -> Result<Beginning, AllocError>
+        ensures { IfOk result (λ beginning. beginning.monitor.config ≡ config) }
+    {
         let Ok(monitor) = Monitor::new(alloc, config) else {
             return Err(AllocError);
         };

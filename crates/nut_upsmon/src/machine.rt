@@ -1,6 +1,9 @@
 //! What upsmon does to its machine, by the system.
 
-ghost use Rattle.std.specs.Prelude.{None};
+ghost use Rattle.std.specs.Prelude.{◌≡◌, List, Option, None, IfSome, IfNone};
+ghost use Rattle.nut_upsmon.specs.Acts.{Act, Readied, does, halt_of};
+ghost use Rattle.nut_upsmon.specs.Reading.{WasReadLast};
+ghost use Rattle.nut_upsmon.specs.Reload.{MayReload};
 
 use crate::actor::Actor;
 use crate::beginning::Beginning;
@@ -15,7 +18,7 @@ use linked_list_allocator::LocalHeap;
 use nut_conf::MonConfig;
 use nut_monitor::{Monitor, Notice, Phase};
 use nut_poll::{ErrorLines, LossyLines};
-use nut_program::{FileFault, Streams, tell_not_reloaded};
+use nut_program::{ConfFiles, FileFault, Streams, tell_not_reloaded};
 use std::alloc::{AllocError, Global};
 use std::process::Processes;
 use std::rt::Files;
@@ -28,7 +31,7 @@ use std::time::Clock;
 /// What the next watch begins with is made even before that: once the change is reported, no lack of memory can end
 /// upsmon.
 #[derive(Drop)]
-pub struct Machine<'r, R: Files + Processes> {
+pub struct Machine<'r, R: Files + Processes, F: ConfFiles> {
     rt: &'r R,
     alloc: Global,
     /// Where its halts take their memory from, unless none is available for that.
@@ -41,14 +44,15 @@ pub struct Machine<'r, R: Files + Processes> {
     ready: Option<PreparedHalt<'r, 'r, R>>,
     /// How another process is ordered to halt the machine, if this one isn't to.
     orders: Option<OrderSender>,
-    reloader: &'r mut UpsmonReloader,
+    reloader: UpsmonReloader<'r, F>,
     /// Whether it was told that a shutdown has begun.
     is_ending: bool,
 }
 
-impl<'r, R> Machine<'r, R>
+impl<'r, R, F> Machine<'r, R, F>
 where
     R: Files + Processes + Clock,
+    F: ConfFiles,
 {
     /// Returns the actor, which takes neither memory nor descriptors yet. Its halts take their memory from this heap. If the
     /// number of a process is given, that one halts the machine.
@@ -56,10 +60,10 @@ where
         rt: &'r R,
         alloc: Global,
         heap: &'r Option<LocalHeap>,
-        reloader: &'r mut UpsmonReloader,
+        reloader: UpsmonReloader<'r, F>,
         streams: Streams,
         halter: Option<u32>,
-    ) -> Machine<'r, R> {
+    ) -> Machine<'r, R, F> {
         Machine {
             rt,
             alloc,
@@ -76,7 +80,9 @@ where
 
     /// Readies the halt of another configuration, and gives notices by that configuration from now on. A halt that fails to
     /// get ready is given up.
-    fn ready_next(&mut self, former: &MonConfig, config: &MonConfig) -> Result<(), UnreadyFault> {
+    fn ready_next(&mut self, former: &MonConfig, config: &MonConfig) -> Result<(), UnreadyFault>
+        ensures { self.new.reloader ≡ self.old.reloader }
+    {
         if self.orders.is_some() {
             self.notifier.restart(config)?;
             return Ok(());
@@ -96,7 +102,9 @@ where
     }
 
     /// Reports once that a shutdown has begun, and for which UPSes.
-    fn follow(&mut self, monitor: &Monitor) {
+    fn follow(&mut self, monitor: &Monitor)
+        ensures { self.new.reloader ≡ self.old.reloader }
+    {
         if !self.is_ending && monitor.phase() != Phase::Watching {
             self.is_ending = true;
             tell_beginning(monitor, &mut self.err);
@@ -104,9 +112,10 @@ where
     }
 }
 
-impl<'r, R> Actor for Machine<'r, R>
+impl<'r, R, F> Actor for Machine<'r, R, F>
 where
     R: Files + Processes + Clock,
+    F: ConfFiles,
 {
     ghost log = { λ m. None };
 
@@ -147,7 +156,15 @@ where
         self.notifier.call(monitor, notice, &mut self.err);
     }
 
-    fn second(&mut self, monitor: &Monitor) -> Option<Beginning> {
+    /// What it gives is the configuration that was read last.
+    fn second(&mut self, monitor: &Monitor) -> Option<Beginning>
+        ensures may { IfSome result (λ next. MayReload monitor.now next.monitor.config) }
+        // It tells none of its acts, so these two clauses of `Actor` say nothing here.
+        ensures next { IfSome result (λ next. None ≡ does (Readied (halt_of next.monitor.config)) None) }
+        ensures none { IfNone result (◌≡◌ {A = Option (List Act)} None None) }
+        ensures read { IfSome result (λ next. WasReadLast self.new.reloader next.monitor.config) }
+        ensures folder { self.new.reloader.folder ≡ self.old.reloader.folder }
+    {
         self.follow(monitor);
         self.notifier.second(&mut self.err);
         if let Some(halt) = &mut self.halt {

@@ -173,7 +173,7 @@ fn check_file<R>(
 where
     R: Files + Net + Clock + Processes,
 {
-    let config = read_and_warn(rt, alloc, folder, err)?;
+    let config = read_and_warn(&mut SystemFiles::new(rt), alloc, folder, err)?;
     Stopping::of(&config).tell(&mut out)?;
     check_flag(rt, alloc, &config, err)?;
     let stops = warn_of_hindrances(rt, alloc, &config, &mut LossyLines::new(out), err)?;
@@ -212,10 +212,11 @@ fn guard<R>(
 where
     R: Wait + Files + Net + Clock + Processes,
 {
-    let mut reloader = UpsmonReloader::new(rt, alloc, folder, is_quiet)?;
-    let first = reloader.read_first(rt, err)?;
+    let mut files = SystemFiles::new(rt);
+    let mut reloader = UpsmonReloader::new(rt, &mut files, alloc, folder, is_quiet)?;
+    let first = reloader.read_first(err)?;
     let heap = halt_heap(alloc);
-    let machine = Machine::new(rt, alloc, &heap, &mut reloader, streams, halter);
+    let machine = Machine::new(rt, alloc, &heap, reloader, streams, halter);
     watch_over_sockets(rt, alloc, machine, first, is_quiet, err)??;
     Ok(0)
 }

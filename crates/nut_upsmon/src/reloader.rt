@@ -1,8 +1,9 @@
 //! When a changed upsmon.conf is taken up.
 
-ghost use Rattle.std.specs.Prelude.{◌≡◌, IfSome};
+ghost use Rattle.std.specs.Prelude.{◌≡◌, IfOk, IfSome};
 ghost use Rattle.nut_monitor_spec.specs.Content.{phase_of};
 ghost use Rattle.nut_monitor_spec.specs.declared.Phase.TheVariants.{Watching};
+ghost use Rattle.nut_upsmon.specs.Reading.{WasReadLast};
 ghost use Rattle.nut_upsmon.specs.Reload.{MayReload};
 
 use crate::beginning::Beginning;
@@ -14,9 +15,12 @@ use nut_conf::{MonConfig, UpsdConf};
 use nut_log::{Level, Lines};
 use nut_monitor::{Monitor, Phase};
 use nut_poll::{ErrorLines, Reports, text_of};
-use nut_program::{ConfFile, FileFault, Look, ReloadFile, ReloadReport, Turn, tell_not_reloaded};
+use nut_program::{
+    ConfFile, ConfFiles, FileFault, Look, ReloadFile, ReloadReport, Turn, tell_not_reloaded,
+};
 use std::alloc::{AllocError, Global};
 use std::io::Write;
+use std::marker::Model;
 use std::rt::Files;
 
 /// upsmon answers a request after upsd has, so that the server knows the new users and UPSes when upsmon logs in again. A
@@ -31,8 +35,23 @@ pub struct Reload {
 }
 
 impl Reload {
-    /// Makes what the watch of a configuration begins with, and compares it with the former one.
-    fn of(alloc: Global, former: &MonConfig, config: MonConfig) -> Result<Reload, AllocError> {
+    /// Reads upsmon.conf in this folder, writes what it should set otherwise, makes what its watch begins with, and compares it
+    /// with the former configuration.
+    ///
+    /// # Errors
+    ///
+    /// Why there is none.
+    fn read<F: ConfFiles>(
+        files: &mut F,
+        alloc: Global,
+        folder: &str,
+        former: &MonConfig,
+        err: &mut ErrorLines,
+    ) -> Result<Reload, FileFault<'static>>
+        ensures { IfOk result (λ reload.
+            WasReadLast (record { folder = folder.now; files = F.told files.new }) reload.beginning.monitor.config) }
+    {
+        let config = read_and_warn(files, alloc, folder, err)?;
         let beginning = Beginning::of(alloc, config)?;
         let changes = Changes::between(alloc, former, beginning.config())?;
         Ok(Reload { beginning, changes })
@@ -52,9 +71,11 @@ impl Reload {
 /// a UPS that it continues watching has OB or FSD: if that server then said nothing more, this machine would have to be
 /// halted, and a new monitor wouldn't know.
 #[derive(Drop)]
-pub struct UpsmonReloader {
+pub struct UpsmonReloader<'f, F: ConfFiles> {
+    /// Who reads upsmon.conf.
+    files: &'f mut F,
     alloc: Global,
-    folder: String,
+    folder: &'f str,
     file: ReloadFile,
     is_quiet: bool,
     /// The configuration that waits to be taken up.
@@ -63,7 +84,21 @@ pub struct UpsmonReloader {
     is_wait_told: bool,
 }
 
-impl UpsmonReloader {
+/// It is seen as its folder and what was read. The configuration that waits was read last.
+impl<'f, F: ConfFiles> Model for UpsmonReloader<'f, F> {
+    ghost use Rattle.std.specs.Prelude.{IfSome};
+    ghost use Rattle.nut_upsmon.specs.Reading.{Readings, WasReadLast};
+    ghost use Rattle.nut_upsmon.specs.declared.reloader.Reload.{Reload};
+
+    ghost Value = { Readings };
+
+    ghost view = { λ r. record { folder = r.folder.now; files = F.told r.files.now } };
+
+    ghost invariant = { λ r. IfSome r.waiting (λ (reload : Reload).
+        WasReadLast (record { folder = r.folder.now; files = F.told r.files.now }) reload.beginning.monitor.config) };
+}
+
+impl<'f, F: ConfFiles> UpsmonReloader<'f, F> {
     /// Returns the reloader of the upsmon.conf in this folder. If it is to be quiet, it says only what the file should set
     /// otherwise, and why nothing is reloaded.
     ///
@@ -71,16 +106,19 @@ impl UpsmonReloader {
     ///
     /// [`AllocError`] if memory cannot be allocated.
     pub fn new(
-        files: &impl Files,
+        rt: &impl Files,
+        files: &'f mut F,
         alloc: Global,
-        folder: &str,
+        folder: &'f str,
         is_quiet: bool,
-    ) -> Result<UpsmonReloader, AllocError> {
-        let folder = String::from_str(alloc, folder)?;
+    ) -> Result<Self, AllocError>
+        ensures { IfOk result (λ reloader. reloader.folder ≡ folder.now) }
+    {
         // upsd may have the folder, too, if its file is there
         let beside = UpsdConf::file_name();
-        let file = ReloadFile::new(files, alloc, folder.as_str(), beside, TURN)?;
+        let file = ReloadFile::new(rt, alloc, folder, beside, TURN)?;
         Ok(UpsmonReloader {
+            files,
             alloc,
             folder,
             file,
@@ -95,13 +133,13 @@ impl UpsmonReloader {
     /// # Errors
     ///
     /// Why upsmon.conf gives no configuration.
-    pub fn read_first(
-        &self,
-        files: &impl Files,
-        err: &mut ErrorLines,
-    ) -> Result<Beginning, FileFault<'static>> {
-        let config = read_and_warn(files, self.alloc, self.folder.as_str(), err)?;
-        Beginning::of(self.alloc, config).map_err(|_| FileFault::Memory)
+    pub fn read_first(&mut self, err: &mut ErrorLines) -> Result<Beginning, FileFault<'static>>
+        ensures read { IfOk result (λ first. WasReadLast self.new first.monitor.config) }
+        ensures folder { self.new.folder ≡ self.old.folder }
+    {
+        self.waiting = None;
+        let config = read_and_warn(self.files, self.alloc, self.folder, err)?;
+        Ok(Beginning::of(self.alloc, config)?)
     }
 
     /// Whether it is to be quiet.
@@ -119,13 +157,15 @@ impl UpsmonReloader {
     /// that waits, too.
     pub fn second(
         &mut self,
-        files: &impl Files,
+        rt: &impl Files,
         monitor: &Monitor,
         err: &mut ErrorLines,
     ) -> Option<Reload>
-        ensures { IfSome result (λ reload. MayReload monitor.now reload.beginning.monitor.config) }
+        ensures may { IfSome result (λ reload. MayReload monitor.now reload.beginning.monitor.config) }
+        ensures read { IfSome result (λ reload. WasReadLast self.new reload.beginning.monitor.config) }
+        ensures folder { self.new.folder ≡ self.old.folder }
     {
-        let is_asked = self.is_asked(files, err);
+        let is_asked = self.is_asked(rt, err);
         if monitor.phase() != Phase::Watching {
             if self.waiting.take().is_some() || is_asked {
                 let _ = writeln!(
@@ -136,7 +176,7 @@ impl UpsmonReloader {
             return None;
         }
         if is_asked {
-            self.read(files, monitor.config(), err);
+            self.read(monitor.config(), err);
         }
         self.take_waiting(monitor, err)
     }
@@ -153,8 +193,10 @@ impl UpsmonReloader {
     }
 
     /// Whether a reload was asked for and it is upsmon's turn to make it.
-    fn is_asked(&mut self, files: &impl Files, err: &mut ErrorLines) -> bool {
-        match self.file.look(files) {
+    fn is_asked(&mut self, rt: &impl Files, err: &mut ErrorLines) -> bool
+        ensures { self.new ≡ self.old }
+    {
+        match self.file.look(rt) {
             Look::Nothing => false,
             Look::Asked => true,
             Look::Stuck(error) => {
@@ -167,14 +209,12 @@ impl UpsmonReloader {
 
     /// Reads upsmon.conf, compares it, and makes what its watch begins with. If it can't be read, or nothing in it has changed,
     /// that is reported: the links stay.
-    fn read(&mut self, files: &impl Files, former: &MonConfig, err: &mut ErrorLines) {
+    fn read(&mut self, former: &MonConfig, err: &mut ErrorLines)
+        ensures { self.new.folder ≡ self.old.folder }
+    {
         self.is_wait_told = false;
         self.waiting = None;
-        let read = match read_and_warn(files, self.alloc, self.folder.as_str(), err) {
-            Ok(config) => Reload::of(self.alloc, former, config).map_err(|_| FileFault::Memory),
-            Err(fault) => Err(fault),
-        };
-        match read {
+        match Reload::read(self.files, self.alloc, self.folder, former, err) {
             Ok(reload) if reload.changes.are_none() => {
                 self.reports(err).tell(ReloadReport::Reloaded(""));
             }
@@ -186,7 +226,9 @@ impl UpsmonReloader {
     /// Returns the configuration that waits, unless it has to continue waiting, which is reported once.
     fn take_waiting(&mut self, monitor: &Monitor, err: &mut ErrorLines) -> Option<Reload>
         requires { phase_of monitor.now.content ≡ Watching }
-        ensures { IfSome result (λ reload. MayReload monitor.now reload.beginning.monitor.config) }
+        ensures may { IfSome result (λ reload. MayReload monitor.now reload.beginning.monitor.config) }
+        ensures read { IfSome result (λ reload. WasReadLast self.new reload.beginning.monitor.config) }
+        ensures stays { self.new ≡ self.old }
     {
         let Some(Obstacle { line, why }) = first_obstacle(monitor, self.waiting.as_ref()?.config())
         else {

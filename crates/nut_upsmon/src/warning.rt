@@ -1,15 +1,15 @@
 //! What upsmon can be started with but shouldn't be.
 
-ghost use Rattle.std.specs.Prelude.{◌↔◌, ◌≡◌, ◌<◌, ◌+◌, IsSome, None};
+ghost use Rattle.std.specs.Prelude.{◌↔◌, ◌≡◌, ◌<◌, ◌+◌, IsSome, None, IfOk};
+ghost use Rattle.nut_upsmon.specs.Reading.{WasReadLast};
 
 use crate::stopping::DELAY;
 use nut_conf::MonConfig;
 use nut_poll::ErrorLines;
-use nut_program::{FileFault, SystemFiles, read_conf, readable_file, warn};
+use nut_program::{ConfFiles, FileFault, read_conf, readable_file, warn};
 use std::alloc::{AllocError, Global};
 use std::fmt;
 use std::io::Write;
-use std::rt::Files;
 
 /// What an operator should set otherwise. Times are in seconds.
 #[derive(Clone, Copy)]
@@ -105,15 +105,16 @@ impl Warning {
 /// # Errors
 ///
 /// Why the file gives no configuration.
-pub fn read_and_warn(
-    files: &impl Files,
+pub fn read_and_warn<F: ConfFiles>(
+    files: &mut F,
     alloc: Global,
     folder: &str,
     err: &mut ErrorLines,
-) -> Result<MonConfig, FileFault<'static>> {
-    let mut files = SystemFiles::new(files);
-    let config = read_conf(&mut files, alloc, folder)?;
-    match readable_file::<MonConfig>(&files, alloc, folder) {
+) -> Result<MonConfig, FileFault<'static>>
+    ensures { IfOk result (λ config. WasReadLast (record { folder = folder.now; files = F.told files.new }) config) }
+{
+    let config = read_conf(files, alloc, folder)?;
+    match readable_file::<MonConfig>(files, alloc, folder) {
         Ok(readable) => warn(readable, err),
         Err(AllocError) => return Err(FileFault::Memory),
     }

@@ -5,4 +5,4 @@ use Rattle.nut_upsmon.proofs.machine.MachineActor.second.Goals as goal
 
 pub returns-in-Ok-clause-may : goal.returns-in-Ok-clause-may
 returns-in-Ok-clause-may g c =
-    subst (λ (b : Beginning). MayReload c.args.monitor.now b.monitor.config) (sym c.report.ensures) c.in_ok-reload.ensures
+    subst (λ (b : Beginning). MayReload c.args.monitor.now b.monitor.config) (sym c.report.ensures) c.in_ok-reload.ensures.may
