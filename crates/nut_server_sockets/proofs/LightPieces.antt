@@ -8,17 +8,17 @@ use Rattle.nut_server_spec.specs.Acceptance.{kept, session_of}
 use Rattle.nut_server_spec.specs.Content.{Content, Session}
 use Rattle.nut_words.specs.Cutter.{kept_of}
 use Rattle.nut_words.specs.Lines.{LineText, lines_after}
-use Rattle.nut_server_sockets.specs.Waits.{IsLight}
+use Rattle.nut_server_sockets.specs.Waits.{lists_in}
 use Rattle.nut_server_sockets.specs.inside.Light.{IsHeardLight, others_in}
 use Rattle.nut_server_sockets.proofs.PlainLines.{lists_are_others}
 
 -- The piece is light after the unfinished line of this connection, if it is open.
 abbrev IsLightFor : Content → ℕ → List ℕ → Type 0
-IsLightFor s c piece = IfSome (session_of c s.sessions) (λ k. IsLight k.rest piece)
+IsLightFor s c piece = IfSome (session_of c s.sessions) (λ k. lists_in (lines_after k.rest piece) ≤ 1)
 
 light_for : (s : Content) (c : ℕ) (piece : List ℕ) → ((k : Session) → session_of c s.sessions ≡ Some k → others_in (lines_after k.rest piece) ≤ 1) → IsLightFor s c piece
 light_for s c piece few = by (session_of c s.sessions) refl where
-  by : (o : Option Session) → session_of c s.sessions ≡ o → IfSome o (λ k. IsLight k.rest piece)
+  by : (o : Option Session) → session_of c s.sessions ≡ o → IfSome o (λ k. lists_in (lines_after k.rest piece) ≤ 1)
   by None is = tt
   by (Some k) is = omega (arith, few k is, lists_are_others (lines_after k.rest piece))
 

@@ -22,20 +22,16 @@ abbrev pub lists_in : List LineText → ℕ
 lists_in [] = 0
 lists_in (line ∷ lines) = (if asks_for_list (command_of line) then 1 else 0) + lists_in lines
 
--- Of the lines that this piece completes after an unfinished line, at most one asks for a list.
-abbrev pub IsLight : LineText → List ℕ → Type 0
-IsLight unfinished piece = lists_in (lines_after unfinished piece) ≤ 1
-
--- If this is a piece of a client, it has at least one byte, and is light after the line that the server has begun of that client.
+-- A piece of a client isn't empty. Of the lines that it completes, after what the server has of them, at most one asks for a list.
 abbrev pub IsPieceLight : Content → Next → List ℕ → Type 0
-IsPieceLight s (Bytes c) piece = (0 < length piece) × IfSome (session_of c s.sessions) (λ k. IsLight k.rest piece)
+IsPieceLight s (Bytes c) piece = (0 < length piece) × IfSome (session_of c s.sessions) (λ k. lists_in (lines_after k.rest piece) ≤ 1)
 IsPieceLight s n piece = Unit {0}
 
--- Suppose that the newest piece of a client was light. Then at most 643,682 bytes wait for the client: one list of at most
--- 578,146 bytes, and 64 KiB of other answers.
+-- Suppose that the newest piece of a client completed at most one line that asks for a list. Then at most 643,682 bytes wait for
+-- the client: one list of at most 578,146 bytes, and 64 KiB of other answers.
 abbrev pub OneListWaits : Type 0
 OneListWaits =
     (first : Configuration) (h : List Event) → AreWithin first h → IsAccepted first h →
     (c : ℕ) (k : Session) → session_of c (content first h).sessions ≡ Some k →
     (piece : List ℕ) → input c h ≡ input c (before_piece c h) ++ piece →
-    IsLight (rest (input c (before_piece c h))) piece → length k.waits ≤ 578_146 + 64 * 1024
+    lists_in (lines_after (rest (input c (before_piece c h))) piece) ≤ 1 → length k.waits ≤ 578_146 + 64 * 1024

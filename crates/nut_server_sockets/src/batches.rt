@@ -30,8 +30,8 @@ pub fn is_one_line(piece: &[u8]) -> bool
 }
 
 /// Returns how many bytes of a piece the server is given at once. They end with the first line that may be answered by a list,
-/// or be something that is reported: FSD, INSTCMD, LOGIN, LOGOUT, SET, and what is answered ACCESS-DENIED. A line of which the
-/// server has the beginning may be one, too. So the server is given at most one such line at once, as the last.
+/// or be something that is reported: FSD, INSTCMD, LOGIN, LOGOUT, SET, and what is answered ACCESS-DENIED. A line that was
+/// begun in an earlier piece may be one, too. So the server is given at most one such line at once, as the last.
 ///
 /// A list has at most 578,146 bytes, and every other answer is one line. So the server has to keep, for a client that
 /// takes nothing, at most one list and the answers to the short lines of one piece. The law `one_list_waits` says that

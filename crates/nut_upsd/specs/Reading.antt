@@ -22,5 +22,4 @@ WereRead folder before s after = (a b c : Option (List (List ℕ × Option (List
 
 -- Each file of a folder was read once, and this is the configuration that their bytes mean.
 abbrev pub IsRead : List ℕ → Option (List (List ℕ × Option (List ℕ))) → Configuration → Option (List (List ℕ × Option (List ℕ))) → Type 0
-IsRead folder before configuration after = (s : Settings) × WereRead folder before s after
-    × (configuration ≡ configuration_of s.ups s.users s.upsd s.descriptions)
+IsRead folder before c after = (s : Settings) × WereRead folder before s after × (c ≡ configuration_of s.ups s.users s.upsd s.descriptions)
