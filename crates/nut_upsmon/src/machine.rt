@@ -63,7 +63,9 @@ where
         reloader: UpsmonReloader<'r, F>,
         streams: Streams,
         halter: Option<u32>,
-    ) -> Machine<'r, R, F> {
+    ) -> Machine<'r, R, F>
+        ensures { result.reloader ≡ reloader.entry }
+    {
         Machine {
             rt,
             alloc,
